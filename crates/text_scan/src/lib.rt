@@ -1,0 +1,20 @@
+//! Types that every reader and writer shares: places, names, texts, faults.
+//!
+//! Floor: ground, on nothing.
+#![tactic(auto)]
+
+mod fault;
+mod kind;
+mod memory;
+mod name;
+mod rows;
+mod span;
+mod word;
+
+pub use fault::{Fault, FileKind, ReadFault, Spot};
+pub use kind::Kind;
+pub use memory::NoMemory;
+pub use name::{Name, Text};
+pub use rows::Rows;
+pub use span::{Point, Span};
+pub use word::Word;
