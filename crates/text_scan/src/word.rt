@@ -2,6 +2,7 @@ ghost use Rattle.std.specs.Prelude.{◌≡◌, IfOk, string_bytes};
 
 use crate::memory::NoMemory;
 use std::alloc::Global;
+use std::convert::AsStr;
 use std::marker::Model;
 
 /// A word of the command line, which contracts see as its bytes.
@@ -36,6 +37,14 @@ impl Word {
     pub fn as_str(&self) -> &str
         ensures value { result.now ≡ self.now }
     {
+        self.text.as_str()
+    }
+}
+
+impl AsStr for Word {
+    ghost text = { λ word. word };
+
+    fn as_str(&self) -> &str {
         self.text.as_str()
     }
 }
