@@ -1,0 +1,22 @@
+//! Reads the table of scan cells, a TOML text that says which pins of a cell are its scan paths.
+//!
+//! Floor: readers, on text_scan, `toml` and `indexmap`.
+//! Contract: `read_table` gives what `specs/Cells.antt` says that the text denotes, and refuses exactly where it
+//! denotes nothing. Begin with `paths.rt`.
+#![tactic(auto)]
+
+mod cells;
+mod paths;
+mod pins;
+mod small;
+mod stop;
+mod table;
+mod values;
+
+pub use cells::read_table;
+pub use paths::{OutPin, ScanPath};
+pub use small::small_table;
+pub use table::CellTable;
+
+#[cfg(test)]
+mod tests;

@@ -1,0 +1,12 @@
+use crate::verb::Verb;
+use text_scan::{Rows, Word};
+
+/// What the words of a command say.
+#[derive(Debug, Drop)]
+pub struct Order {
+    pub verb: Verb,
+    /// The values of the command's options, in the order in which the command lists them.
+    pub values: Rows<Word>,
+    /// The further words, in order.
+    pub further: Rows<Word>,
+}
