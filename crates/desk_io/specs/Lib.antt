@@ -1,0 +1,4 @@
+pub mod Causes
+pub mod Desk
+pub mod Number
+pub mod Prefixes

@@ -1,0 +1,16 @@
+//! The outside of a run: slots that are opened, read, written and closed, and the loops over them.
+//!
+//! Floor: ground, on text_scan.
+//! Contract: a call changes only its own slot; what was taken is the front of what the slot held, and what was put is
+//! a prefix of the text; a failure shows in the slot's count of faults. Begin with `desk.rt` and `specs/Desk.antt`.
+#![tactic(auto)]
+
+mod desk;
+mod put;
+mod slot;
+mod take;
+
+pub use desk::{Desk, Failed};
+pub use put::{PutFault, put_all};
+pub use slot::{SLOTS, Slot, Stage};
+pub use take::{TakeFault, take_all};
