@@ -1,5 +1,7 @@
-ghost use Rattle.std.specs.Prelude.{◌≡◌, IfOk, false, map, option_map, codes, drop, true, ◌∷◌};
+ghost use Rattle.std.specs.Prelude.{◌≡◌, ◌↔◌, Some, IfOk, false, map, option_map, codes, drop, true, ◌∷◌};
 ghost use Rattle.clap.specs.Words.{app_of, rule_of};
+ghost use Rattle.scan_words.specs.declared.order.Order.{Order};
+ghost use Rattle.scan_words.specs.Written.{Says};
 ghost use Rattle.scan_words.specs.Command.{bare_option, bare_further, app_for, app_of_verb, program, IsLocal, raw_of};
 ghost use Rattle.scan_words.specs.Form.{only_value, each_value, verb_name, option_names, takes_further, have_parts, are_apart, order_by, verb_order, order_in};
 
@@ -166,7 +168,8 @@ fn parsed(alloc: Global, verb: Verb, words: &[Word]) -> Result<Option<Order>, No
 /// The order that the words say, or None exactly where they are of no written form.
 #[tactic(auto, unfolding(crate::specs::Form::order_in))]
 pub fn read_words(alloc: Global, words: &[Word]) -> Result<Option<Order>, NoMemory>
-    ensures { IfOk result (λ order. order ≡ order_in words.now) }
+    ensures value { IfOk result (λ order. order ≡ order_in words.now) }
+    ensures form { (order : Order) → (Says words.now order ↔ order_in words.now ≡ Some order) }
 {
     let Some((command, behind)) = words.split_first() else {
         return Ok(None);
