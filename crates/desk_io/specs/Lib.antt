@@ -1,4 +1,6 @@
 pub mod Causes
 pub mod Desk
+pub mod Files
+pub mod Memory
 pub mod Number
 pub mod Prefixes

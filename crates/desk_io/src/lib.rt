@@ -6,11 +6,15 @@
 #![tactic(auto)]
 
 mod desk;
+mod files;
+mod memory;
+mod part;
 mod put;
 mod slot;
 mod take;
 
 pub use desk::{Desk, Failed};
+pub use memory::MemoryDesk;
 pub use put::{PutFault, put_all};
-pub use slot::{SLOTS, Slot, Stage};
+pub use slot::{INPUTS, SLOTS, Slot, Stage};
 pub use take::{TakeFault, take_all};
