@@ -85,3 +85,14 @@ desk_kept desk old new at is small found same =
       within = λ slot. let before = is.within slot in let nine = is.nine in grind (arith, common_steps);
       rooms = λ slot output. let before = is.rooms slot output in let nine = is.nine in grind (arith, common_steps);
     }
+
+-- a desk reads the next bytes of a file
+pub next_bytes : (stage : Stage) (written : Option (List ℕ)) (faults taken after : ℕ) (file room : List ℕ) (count portion : ℕ) →
+    0 < portion → 0 < length room → taken ≤ length file → count ≡ min portion (min (length room) (length file - taken)) → take count room ≡ take count (drop taken file) → after ≡ taken + count →
+    HasRead count room (record { stage = stage; unread = Some (drop taken file); written = written; faults = faults }) (record { stage = stage; unread = Some (drop after file); written = written; faults = faults })
+next_bytes stage written faults taken after file room count portion some wide within is moved then = record {
+  fits = omega arith;
+  front = ap Some (parted taken count file ∙ ap (λ (xs : List ℕ). xs ++ drop (taken + count) file) (sym moved) ∙ ap (λ (n : ℕ). take count room ++ drop n file) (sym then));
+  at_end = λ none. none_left after file (omega arith);
+  same = refl;
+}

@@ -4,3 +4,4 @@ pub mod Files
 pub mod Memory
 pub mod Number
 pub mod Prefixes
+pub mod Sure

@@ -11,10 +11,12 @@ mod memory;
 mod part;
 mod put;
 mod slot;
+mod sure;
 mod take;
 
 pub use desk::{Desk, Failed};
 pub use memory::MemoryDesk;
 pub use put::{PutFault, put_all};
 pub use slot::{INPUTS, SLOTS, Slot, Stage};
+pub use sure::SureDesk;
 pub use take::{TakeFault, take_all};
