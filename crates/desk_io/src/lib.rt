@@ -6,6 +6,7 @@
 #![tactic(auto)]
 
 mod desk;
+mod file;
 mod files;
 mod memory;
 mod part;
@@ -15,6 +16,7 @@ mod sure;
 mod take;
 
 pub use desk::{Desk, Failed};
+pub use file::{put_file, take_file};
 pub use memory::MemoryDesk;
 pub use put::{PutFault, put_all};
 pub use slot::{INPUTS, SLOTS, Slot, Stage};
