@@ -3,24 +3,13 @@ use Rattle.std.proofs.Common.{◌≡◌, ◌≢◌, ◌<◌, ◌≤◌, ◌+◌,
 use Rattle.std.proofs.lemmas.Grind.{common_steps}
 use Rattle.std.proofs.lemmas.List.{drop-drop}
 use Rattle.desk_io.specs.declared.slot.Slot.{Slot}
-use Rattle.desk_io.specs.declared.slot.Slot.TheVariants.{Table, Lef, Verilog, Def, Stil, OutVerilog, OutDef, OutStil, Console}
 use Rattle.desk_io.specs.declared.slot.Stage.{Stage}
 use Rattle.desk_io.specs.Number.{number}
 use Rattle.desk_io.specs.Desk.{IsOutput}
 use Rattle.desk_io.specs.Prefixes.{HasRead, HasWritten}
 use Rattle.desk_io.specs.Memory.{PartState, MemoryState, IsMemoryDesk, fresh_part, state_of, part_at}
 use Rattle.desk_io.specs.Files.{bytes_of}
-
-pub number_small : (slot : Slot) → number slot < 9
-number_small Table = omega arith
-number_small Lef = omega arith
-number_small Verilog = omega arith
-number_small Def = omega arith
-number_small Stil = omega arith
-number_small OutVerilog = omega arith
-number_small OutDef = omega arith
-number_small OutStil = omega arith
-number_small Console = omega arith
+use Rattle.desk_io.proofs.Slots.{number_small}
 
 none_left : (n : ℕ) (xs : List ℕ) → length xs ≤ n → drop n xs ≡ []
 none_left n xs h = grind (arith, common_steps)

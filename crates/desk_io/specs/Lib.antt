@@ -1,7 +1,9 @@
 pub mod Causes
 pub mod Desk
 pub mod Files
+pub mod Inputs
 pub mod Memory
+pub mod Names
 pub mod Number
 pub mod Prefixes
 pub mod Sure

@@ -8,7 +8,9 @@
 mod desk;
 mod file;
 mod files;
+mod inputs;
 mod memory;
+mod names;
 mod part;
 mod put;
 mod slot;
@@ -17,7 +19,9 @@ mod take;
 
 pub use desk::{Desk, Failed};
 pub use file::{put_file, take_file};
+pub use inputs::{Inputs, InputsFault, limit_for, take_inputs};
 pub use memory::MemoryDesk;
+pub use names::{Names, name_of};
 pub use put::{PutFault, put_all};
 pub use slot::{INPUTS, SLOTS, Slot, Stage};
 pub use sure::SureDesk;
