@@ -5,5 +5,6 @@ pub mod Inputs
 pub mod Memory
 pub mod Names
 pub mod Number
+pub mod Outputs
 pub mod Prefixes
 pub mod Sure
