@@ -6,11 +6,25 @@
 #![tactic(auto)]
 
 mod desk;
+mod file;
+mod files;
+mod inputs;
+mod memory;
+mod names;
+mod outputs;
+mod part;
 mod put;
 mod slot;
+mod sure;
 mod take;
 
 pub use desk::{Desk, Failed};
+pub use file::{put_file, take_file};
+pub use inputs::{Inputs, InputsFault, limit_for, take_inputs};
+pub use memory::MemoryDesk;
+pub use names::{Names, name_of};
+pub use outputs::{Outputs, put_outputs};
 pub use put::{PutFault, put_all};
-pub use slot::{SLOTS, Slot, Stage};
+pub use slot::{INPUTS, SLOTS, Slot, Stage};
+pub use sure::SureDesk;
 pub use take::{TakeFault, take_all};

@@ -4,6 +4,9 @@ ghost use Rattle.desk_io.specs.Number.{number};
 /// How many slots there are.
 pub const SLOTS: usize = 9;
 
+/// How many of them are inputs: the first ones.
+pub const INPUTS: usize = 5;
+
 /// A place that a run reads or writes.
 #[derive(Clone, Copy, Debug, PartialEq, Eq)]
 pub enum Slot {
