@@ -1,0 +1,6 @@
+//! Stand-in.
+#![tactic(auto)]
+
+mod rewire;
+
+pub use rewire::{Rewire, Rewired, rewire_text};

@@ -1,0 +1,5 @@
+pub mod Commands
+pub mod FirstFault
+pub mod Texts
+pub mod TopCall
+pub mod Ended

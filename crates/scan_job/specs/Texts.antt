@@ -1,0 +1,29 @@
+-- The texts of a command's outputs.
+use Rattle.std.specs.Prelude.{◌≡◌, ℕ, List, [], ◌∷◌, ◌++◌, codes, None}
+use Rattle.std.specs.Fmt.{decimal}
+use Rattle.desk_io.specs.declared.slot.Slot.{Slot}
+use Rattle.desk_io.specs.declared.slot.Slot.TheVariants.{Verilog}
+use Rattle.desk_io.specs.declared.outputs.Outputs.{Outputs}
+use Rattle.scan_words.specs.declared.order.Order.{Order}
+use Rattle.scan_words.specs.declared.verb.Verb.{Verb}
+use Rattle.scan_words.specs.declared.verb.Verb.TheVariants as verbs
+use Rattle.scan_job.specs.Commands.{rewire_of}
+use Rattle.scan_job.specs.FirstFault.{first_fault}
+use Rattle.narrow_rewire.specs.Faults.{written_verilog, moved_count}
+
+-- what `rewire` says: how many in pins and ports it edited
+abbrev pub rewire_text : ℕ → List ℕ
+rewire_text moved = codes "moved " ++ decimal moved ++ 10 ∷ []
+
+-- the outputs are those of the command: each text that it writes
+pub record AreRewired (order : Order) (files : Slot → List ℕ) (outputs : Outputs) : Type 0 where
+  pub verilog : outputs.verilog ≡ written_verilog (files Verilog) (rewire_of order)
+  pub console : outputs.console ≡ rewire_text (moved_count (files Verilog) (rewire_of order))
+
+abbrev pub AreTexts : Verb → Order → (Slot → List ℕ) → Outputs → Type 0
+AreTexts verbs.Rewire order files outputs = AreRewired order files outputs
+
+-- the files have no fault, and the outputs are those of the command
+pub record AreOutputsOf (order : Order) (files : Slot → List ℕ) (outputs : Outputs) : Type 0 where
+  pub no_fault : first_fault order files ≡ None
+  pub texts : AreTexts order.verb order files outputs

@@ -1,0 +1,44 @@
+ghost use Rattle.std.specs.Prelude.{◌≡◌, ◌<◌, ◌^◌, None, length, IfOk};
+ghost use Rattle.desk_io.specs.declared.slot.Slot.TheVariants.{Verilog};
+ghost use Rattle.desk_io.specs.Inputs.{input_at};
+ghost use Rattle.scan_job.specs.FirstFault.{command_fault, Refuses};
+ghost use Rattle.scan_job.specs.Texts.{AreTexts, AreRewired};
+ghost use Rattle.scan_job.specs.Commands.{rewire_of};
+ghost use Rattle.narrow_rewire.specs.Faults.{first_fault};
+
+use crate::line::rewire_line;
+use crate::names::rewire_of;
+use desk_io::{Inputs, Outputs, Slot};
+use narrow_rewire::rewire_text;
+use scan_words::{Order, Verb};
+use std::alloc::Global;
+use text_scan::{ReadFault, Text};
+
+/// The texts of `rewire`, or the first fault of its file.
+fn judge_rewire(alloc: Global, order: &Order, inputs: &Inputs) -> Result<Outputs, ReadFault>
+    requires small { length (input_at inputs.now Verilog) < 2 ^ 32 }
+    ensures no_fault { IfOk result (λ outputs. first_fault (input_at inputs.now Verilog) (rewire_of order.now) ≡ None) }
+    ensures texts { IfOk result (AreRewired order.now (input_at inputs.now)) }
+    ensures refused { Refuses result (first_fault (input_at inputs.now Verilog) (rewire_of order.now)) }
+{
+    let rewire = rewire_of(alloc, order)?;
+    let done = rewire_text(alloc, inputs.text(Slot::Verilog), &rewire)?;
+    Ok(Outputs {
+        verilog: done.verilog,
+        def: Text::of(Vec::new(alloc)),
+        stil: Text::of(Vec::new(alloc)),
+        console: rewire_line(alloc, done.moved)?,
+    })
+}
+
+/// The texts of the command, or the first fault that it finds in its files.
+pub(crate) fn judge(alloc: Global, order: &Order, inputs: &Inputs) -> Result<Outputs, ReadFault>
+    requires small { length (input_at inputs.now Verilog) < 2 ^ 32 }
+    ensures no_fault { IfOk result (λ outputs. command_fault order.now.verb order.now (input_at inputs.now) ≡ None) }
+    ensures texts { IfOk result (AreTexts order.now.verb order.now (input_at inputs.now)) }
+    ensures refused { Refuses result (command_fault order.now.verb order.now (input_at inputs.now)) }
+{
+    match order.verb {
+        Verb::Rewire => judge_rewire(alloc, order, inputs),
+    }
+}
