@@ -3,3 +3,4 @@ pub mod FirstFault
 pub mod Texts
 pub mod TopCall
 pub mod Ended
+pub mod Phases

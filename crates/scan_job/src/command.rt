@@ -1,16 +1,19 @@
-ghost use Rattle.std.specs.Prelude.{◌≡◌, ◌<◌, Some};
-ghost use Rattle.desk_io.specs.declared.slot.Slot.{Slot};
+ghost use Rattle.std.specs.Prelude.{◌≡◌, ◌<◌, ◌^◌, length};
+ghost use Rattle.desk_io.specs.declared.slot.Slot.TheVariants.{Console, Verilog};
 ghost use Rattle.desk_io.specs.Desk.{AllUnopened, IsUnopened};
 ghost use Rattle.desk_io.specs.Names.{AllowsNames};
-ghost use Rattle.desk_io.specs.declared.slot.Slot.TheVariants.{Console};
+ghost use Rattle.desk_io.specs.Inputs.{input_at};
+ghost use Rattle.desk_io.specs.Outputs.{OutputsUnopened};
 ghost use Rattle.scan_job.specs.Commands.{names_of};
+ghost use Rattle.scan_job.specs.FirstFault.{file_of, size_fault};
+ghost use Rattle.scan_job.specs.Phases.{HasSaid, HasFinished};
 ghost use Rattle.scan_job.specs.Ended.{HasEnded};
 
 use crate::judge::judge;
 use crate::line::fault_line;
 use crate::names::names_of;
 use crate::stop::Stop;
-use desk_io::{Desk, InputsFault, Names, Slot, put_file, put_outputs, take_inputs};
+use desk_io::{Desk, Inputs, InputsFault, Names, Slot, put_file, put_outputs, take_inputs};
 use scan_words::Order;
 use std::alloc::Global;
 use text_scan::{Fault, FileKind, Kind, ReadFault, Spot};
@@ -29,6 +32,17 @@ fn file_of(slot: Slot) -> FileKind
     }
 }
 
+/// The file of the slot has too many bytes.
+fn size_fault(slot: Slot) -> Fault
+    ensures value { result ≡ size_fault slot }
+{
+    Fault {
+        kind: Kind::FileSize,
+        file: file_of(slot),
+        spot: Spot::Line(0),
+    }
+}
+
 /// Says a fault on the console.
 fn refuse<D: Desk>(alloc: Global, names: &Names, fault: &Fault, desk: &mut D) -> Result<(), Stop>
     requires unopened { IsUnopened (D.state desk.old Console) }
@@ -36,6 +50,59 @@ fn refuse<D: Desk>(alloc: Global, names: &Names, fault: &Fault, desk: &mut D) ->
     ensures ended { HasSaid names.now fault.now (D.state desk.old) (D.state desk.new) result }
 {
     let line = fault_line(alloc, names, fault).map_err(|_| Stop::NoMemory)?;
-    put_file(desk, Slot::Console, "", line.bytes()).map_err(|_| Stop::OutputFailed)?;
-    Err(Stop::Refused)
+    match put_file(desk, Slot::Console, "", line.bytes()) {
+        Ok(()) => Err(Stop::Refused),
+        Err(_) => Err(Stop::OutputFailed),
+    }
+}
+
+/// Judges the inputs, and puts the outputs or says the fault.
+fn finish<D: Desk>(
+    alloc: Global,
+    order: &Order,
+    names: &Names,
+    inputs: &Inputs,
+    desk: &mut D,
+) -> Result<(), Stop>
+    requires named { names.now ≡ names_of order.now }
+    requires small { length (input_at inputs.now Verilog) < 2 ^ 32 }
+    requires unopened { OutputsUnopened (D.state desk.old) }
+    requires allowed { AllowsNames (names_of order.now) (D.allows desk.old) }
+    ensures ended { HasFinished order.now inputs.now (D.state desk.old) (D.state desk.new) result }
+{
+    match judge(alloc, order, inputs) {
+        Ok(outputs) => match put_outputs(names, &outputs, desk) {
+            Ok(()) => Ok(()),
+            Err(_) => Err(Stop::OutputFailed),
+        },
+        Err(ReadFault::Fault(fault)) => refuse(alloc, names, &fault, desk),
+        Err(ReadFault::NoMemory) => Err(Stop::NoMemory),
+    }
+}
+
+/// Takes the inputs, judges them, and puts the outputs or says the fault.
+fn run_named<D: Desk>(alloc: Global, order: &Order, names: &Names, desk: &mut D) -> Result<(), Stop>
+    requires named { names.now ≡ names_of order.now }
+    requires unopened { AllUnopened (D.state desk.old) }
+    requires allowed { AllowsNames (names_of order.now) (D.allows desk.old) }
+    ensures ended { HasEnded order.now (D.state desk.old) (D.state desk.new) result }
+{
+    match take_inputs(alloc, names, desk) {
+        Ok(inputs) => finish(alloc, order, names, &inputs, desk),
+        Err(InputsFault::TooLarge(slot)) => refuse(alloc, names, &size_fault(slot), desk),
+        Err(InputsFault::Read) => Err(Stop::InputFailed),
+        Err(InputsFault::NoMemory) => Err(Stop::NoMemory),
+    }
+}
+
+/// Does what an order asks for.
+pub(crate) fn run_order<D: Desk>(alloc: Global, order: &Order, desk: &mut D) -> Result<(), Stop>
+    requires unopened { AllUnopened (D.state desk.old) }
+    requires allowed { AllowsNames (names_of order.now) (D.allows desk.old) }
+    ensures ended { HasEnded order.now (D.state desk.old) (D.state desk.new) result }
+{
+    match names_of(alloc, order) {
+        Ok(names) => run_named(alloc, order, &names, desk),
+        Err(_) => Err(Stop::NoMemory),
+    }
 }

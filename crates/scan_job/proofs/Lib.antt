@@ -1,0 +1,2 @@
+pub mod TopClauses
+pub mod Phases

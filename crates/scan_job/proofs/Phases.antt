@@ -1,0 +1,540 @@
+-- What a run leaves, from what its phases leave.
+use Rattle.std.proofs.Common.{◌≡◌, ◌≢◌, ◌<◌, ◌≤◌, ◌⊎◌, ℕ, zero, suc, Bool, true, false, ◌&&◌, cond, List, [], ◌∷◌, ◌++◌, length, Option, Some, None, option_map, is_some, IfSome, IsSome, Result, Ok, Err, nat_lt, refl, sym, ◌∙◌, ap, ap₂, subst, append-nil, length-append, arith, inl, inr}
+use Rattle.std.proofs.lemmas.Bool.Decides.{nat_tests}
+use Rattle.text_scan.specs.declared.fault.Fault.{Fault}
+use Rattle.desk_io.specs.declared.slot.Slot.{Slot}
+use Rattle.desk_io.specs.declared.slot.Slot.TheVariants.{Table, Lef, Verilog, Def, Stil, OutVerilog, OutDef, OutStil, Console}
+use Rattle.desk_io.specs.declared.names.Names.{Names}
+use Rattle.desk_io.specs.declared.outputs.Outputs.{Outputs}
+use Rattle.desk_io.specs.Number.{number}
+use Rattle.desk_io.specs.Desk.{SlotState, SameElsewhere, IsInput, IsOutput, IsUnopened, IsOpen, IsClosed, AllUnopened}
+use Rattle.desk_io.specs.Causes.{HasRisen}
+use Rattle.desk_io.specs.Prefixes.{IsFront, IsAtEnd, IsAppended, HasTakenFile, IsTooLarge, HasFailedToTake, HasRunOut, HasPutFile, HoldsPrefix}
+use Rattle.desk_io.specs.Names.{name_at, IsNamed}
+use Rattle.desk_io.specs.Inputs.{limit_of, input_at, HasTakenInputs, HasStoppedAt}
+use Rattle.desk_io.specs.Outputs.{output_at, turn, HasPutOutputs, HasStoppedPutting}
+use Rattle.scan_words.specs.declared.order.Order.{Order}
+use Rattle.scan_words.specs.declared.verb.Verb.{Verb}
+use Rattle.scan_words.specs.declared.verb.Verb.TheVariants as verbs
+use Rattle.scan_job.specs.declared.stop.Stop.{Stop}
+use Rattle.scan_job.specs.declared.stop.Stop.TheVariants.{NoForm, Refused, InputFailed, OutputFailed, NoMemory}
+use Rattle.narrow_rewire.specs.Faults.{first_fault as rewire_fault, written_verilog, moved_count}
+use Rattle.scan_job.specs.Commands.{names_by, names_of, rewire_of}
+use Rattle.scan_job.specs.FirstFault.{size_fault, is_too_large, first_too_large, input_slots, command_fault, or_else, first_fault, fault_text}
+use Rattle.scan_job.specs.Texts.{rewire_text, AreTexts, AreRewired, AreOutputsOf}
+use Rattle.scan_job.specs.TopCall.{Slots, IsUsed, IsFile, SameEverywhere, SameUnused, SameCounts, SomeRose, HoldsFiles, SameFiles, SameOutputs, HasRefused, HasDone, HasBegun, HasBegunRefusing, HoldsPrefixes}
+use Rattle.scan_job.specs.Ended.{IsDone, IsRefused, IsInputFailed, IsOutputFailed, IsOutOfMemory, HasEnded}
+use Rattle.scan_job.specs.Phases.{HasPutLine, HasFailedAtLine, HasSaid, AreJudged, HasPutAll, HasPutSome, HasFound, HasFinished}
+
+-- what was taken to the end is the whole file
+text_is : (u v : Option (List ℕ)) (text file : List ℕ) → u ≡ Some file → u ≡ option_map (λ rest. text ++ rest) v → IfSome v (λ rest. rest ≡ []) → text ≡ file
+text_is u None text file holds front at_end = cc
+text_is u (Some rest) text file holds front at_end =
+    let whole : text ++ rest ≡ file = cc in
+    sym (append-nil text) ∙ ap (λ r. text ++ r) (sym at_end) ∙ whole
+
+over_limit : (u v : Option (List ℕ)) (taken file : List ℕ) (limit : ℕ) → u ≡ Some file → u ≡ option_map (λ rest. taken ++ rest) v → limit < length taken → limit < length file
+over_limit u None taken file limit holds front over = cc
+over_limit u (Some rest) taken file limit holds front over =
+    let whole : taken ++ rest ≡ file = cc in
+    omega (arith, ap length whole, length-append taken rest)
+
+-- a slot is read or written, and never both
+pub input_or_output : (slot : Slot) → IsInput slot ⊎ IsOutput slot
+input_or_output Table = inl tt
+input_or_output Lef = inl tt
+input_or_output Verilog = inl tt
+input_or_output Def = inl tt
+input_or_output Stil = inl tt
+input_or_output OutVerilog = inr tt
+input_or_output OutDef = inr tt
+input_or_output OutStil = inr tt
+input_or_output Console = inr tt
+
+pub not_both : (slot : Slot) → IsInput slot → IsOutput slot → ⊥
+not_both Table input output = output
+not_both Lef input output = output
+not_both Verilog input output = output
+not_both Def input output = output
+not_both Stil input output = output
+not_both OutVerilog input output = input
+not_both OutDef input output = input
+not_both OutStil input output = input
+not_both Console input output = input
+
+pub low_number : (slot : Slot) → IsInput slot → number slot < 5
+low_number Table input = omega arith
+low_number Lef input = omega arith
+low_number Verilog input = omega arith
+low_number Def input = omega arith
+low_number Stil input = omega arith
+low_number OutVerilog input = absurd input
+low_number OutDef input = absurd input
+low_number OutStil input = absurd input
+low_number Console input = absurd input
+
+pub early_turn : (slot : Slot) → IsOutput slot → turn slot < 4
+early_turn OutVerilog output = omega arith
+early_turn OutDef output = omega arith
+early_turn OutStil output = omega arith
+early_turn Console output = omega arith
+early_turn Table output = absurd output
+early_turn Lef output = absurd output
+early_turn Verilog output = absurd output
+early_turn Def output = absurd output
+early_turn Stil output = absurd output
+
+pub file_is_output : (slot : Slot) → IsFile slot → IsOutput slot
+file_is_output OutVerilog file = tt
+file_is_output OutDef file = tt
+file_is_output OutStil file = tt
+file_is_output Table file = absurd file
+file_is_output Lef file = absurd file
+file_is_output Verilog file = absurd file
+file_is_output Def file = absurd file
+file_is_output Stil file = absurd file
+file_is_output Console file = absurd file
+
+pub file_isnt_console : (slot : Slot) → IsFile slot → slot ≢ Console
+file_isnt_console OutVerilog file = λ e. cc
+file_isnt_console OutDef file = λ e. cc
+file_isnt_console OutStil file = λ e. cc
+file_isnt_console Table file = absurd file
+file_isnt_console Lef file = absurd file
+file_isnt_console Verilog file = absurd file
+file_isnt_console Def file = absurd file
+file_isnt_console Stil file = absurd file
+file_isnt_console Console file = absurd file
+
+-- one number is below another or not
+below_cases : (X : Type 0) (m n : ℕ) → (m < n → X) → ((m < n → ⊥) → X) → X
+below_cases X m n lower otherwise = cases (nat_lt m n) refl
+  where
+    cases : (t : Bool) → nat_lt m n ≡ t → X
+    cases true e = lower (grind (arith, nat_tests))
+    cases false e = otherwise (λ lt. let h : nat_lt m n ≡ true = grind (arith, nat_tests) in absurd cc)
+
+-- two slots are one or not, by their numbers
+slot_of : ℕ → Slot
+slot_of zero = Table
+slot_of (suc zero) = Lef
+slot_of (suc (suc zero)) = Verilog
+slot_of (suc (suc (suc zero))) = Def
+slot_of (suc (suc (suc (suc zero)))) = Stil
+slot_of (suc (suc (suc (suc (suc zero))))) = OutVerilog
+slot_of (suc (suc (suc (suc (suc (suc zero)))))) = OutDef
+slot_of (suc (suc (suc (suc (suc (suc (suc zero))))))) = OutStil
+slot_of (suc (suc (suc (suc (suc (suc (suc (suc n)))))))) = Console
+
+slot_of-number : (slot : Slot) → slot_of (number slot) ≡ slot
+unfolding slot_of
+slot_of-number Table = refl
+slot_of-number Lef = refl
+slot_of-number Verilog = refl
+slot_of-number Def = refl
+slot_of-number Stil = refl
+slot_of-number OutVerilog = refl
+slot_of-number OutDef = refl
+slot_of-number OutStil = refl
+slot_of-number Console = refl
+
+number_cases : (one other : Slot) → (one ≡ other) ⊎ (one ≢ other)
+number_cases one other =
+    below_cases ((one ≡ other) ⊎ (one ≢ other)) (number one) (number other)
+    (λ lt. inr (λ e. let same = ap number e in absurd (omega (arith, lt, same))))
+    (λ low. below_cases ((one ≡ other) ⊎ (one ≢ other)) (number other) (number one)
+    (λ lt. inr (λ e. let same = ap number e in absurd (omega (arith, lt, same))))
+    (λ high. let same : number one ≡ number other = between_same (number one) (number other) low high in inl (sym (slot_of-number one) ∙ ap slot_of same ∙ slot_of-number other)))
+  where
+    between_same : (m n : ℕ) → (m < n → ⊥) → (n < m → ⊥) → m ≡ n
+    between_same m n low high = grind arith
+
+-- a slot is used or not
+used_or_not : (order : Order) (slot : Slot) → IsUsed order slot ⊎ (IsUsed order slot → ⊥)
+used_or_not order slot = cases (name_at (names_of order) slot)
+  where
+    cases : (o : Option (List ℕ)) → IsSome o ⊎ (IsSome o → ⊥)
+    cases None = inr (λ h. absurd cc)
+    cases (Some name) = inl refl
+
+console_or_not : (slot : Slot) → (slot ≡ Console) ⊎ (slot ≢ Console)
+console_or_not Console = inl refl
+console_or_not Table = inr (λ e. cc)
+console_or_not Lef = inr (λ e. cc)
+console_or_not Verilog = inr (λ e. cc)
+console_or_not Def = inr (λ e. cc)
+console_or_not Stil = inr (λ e. cc)
+console_or_not OutVerilog = inr (λ e. cc)
+console_or_not OutDef = inr (λ e. cc)
+console_or_not OutStil = inr (λ e. cc)
+
+at_slot : (P : Slot → Type 0) (one other : Slot) → one ≡ other → P one → P other
+at_slot P one other e held = subst P e held
+
+-- an input is no output
+apart : (input output : Slot) → IsInput input → IsOutput output → input ≢ output
+apart input output reads writes e = not_both output (at_slot IsInput input output e reads) writes
+
+-- a slot that isn't used is another than one that is
+unused_apart : (order : Order) (slot here : Slot) → (IsUsed order slot → ⊥) → IsUsed order here → slot ≢ here
+unused_apart order slot here unused used e = unused (at_slot (IsUsed order) here slot (sym e) used)
+
+state_same : (P : SlotState → Type 0) (one other : SlotState) → one ≡ other → P other → P one
+state_same P one other e held = subst P (sym e) held
+
+appended_none : (o : Option (List ℕ)) → o ≡ option_map (λ w. w ++ []) o
+appended_none None = refl
+appended_none (Some w) = ap Some (sym (append-nil w))
+
+nothing_held : (bytes : List ℕ) (old new : SlotState) → new ≡ old → HoldsPrefix bytes old new
+nothing_held bytes old new same = record { front = []; rest = bytes; prefix = refl; appended = ap (λ (s : SlotState). s.written) same ∙ appended_none old.written }
+
+all_held : (bytes : List ℕ) (old new : SlotState) → IsAppended bytes old new → HoldsPrefix bytes old new
+all_held bytes old new appended = record { front = bytes; rest = []; prefix = sym (append-nil bytes); appended = appended }
+
+prefix_since : (bytes : List ℕ) (a b c : SlotState) → b ≡ a → HoldsPrefix bytes b c → HoldsPrefix bytes a c
+prefix_since bytes a b c e held = subst (λ (s : SlotState). HoldsPrefix bytes s c) e held
+
+appended_since : (bytes : List ℕ) (a b c : SlotState) → b ≡ a → IsAppended bytes b c → IsAppended bytes a c
+appended_since bytes a b c e held = subst (λ (s : SlotState). IsAppended bytes s c) e held
+
+risen_since : (now : ℕ) (a b : SlotState) → b ≡ a → HasRisen b.faults now → HasRisen a.faults now
+risen_since now a b e risen = subst (λ (s : SlotState). HasRisen s.faults now) e risen
+
+-- files that are too large
+
+not_large : (o : Option (List ℕ)) (limit len : ℕ) → (IsSome o → len ≤ limit) → (is_some o && nat_lt limit len) ≡ false
+not_large None limit len small = refl
+not_large (Some name) limit len small = let le = small refl in grind (arith, nat_tests)
+
+too_large : (o : Option (List ℕ)) (limit len : ℕ) → IsSome o → limit < len → (is_some o && nat_lt limit len) ≡ true
+too_large None limit len some over = absurd cc
+too_large (Some name) limit len some over = grind (arith, nat_tests)
+
+module _ (names : Names) (files : Slot → List ℕ) where
+  abbrev IsSmall : Slot → Type 0
+  IsSmall slot = IsNamed names slot → length (files slot) ≤ limit_of slot
+
+  fits : (slot : Slot) → IsSmall slot → is_too_large names files slot ≡ false
+  fits slot small = not_large (name_at names slot) (limit_of slot) (length (files slot)) small
+
+  pub none_too_large : ((slot : Slot) → IsInput slot → IsSmall slot) → first_too_large names files input_slots ≡ None
+  none_too_large small =
+      rw (fits Table (small Table tt), fits Lef (small Lef tt), fits Verilog (small Verilog tt), fits Def (small Def tt), fits Stil (small Stil tt)) refl
+
+  pub first_large : (slot : Slot) → IsInput slot → IsNamed names slot → limit_of slot < length (files slot)
+      → ((other : Slot) → IsInput other → number other < number slot → IsSmall other) → first_too_large names files input_slots ≡ Some (size_fault slot)
+  first_large Table input named over small = rw (too_large _ _ _ named over) refl
+  first_large Lef input named over small = rw (fits Table (small Table tt (omega arith)), too_large _ _ _ named over) refl
+  first_large Verilog input named over small = rw (fits Table (small Table tt (omega arith)), fits Lef (small Lef tt (omega arith)), too_large _ _ _ named over) refl
+  first_large Def input named over small =
+      rw (fits Table (small Table tt (omega arith)), fits Lef (small Lef tt (omega arith)), fits Verilog (small Verilog tt (omega arith)), too_large _ _ _ named over) refl
+  first_large Stil input named over small =
+      rw (fits Table (small Table tt (omega arith)), fits Lef (small Lef tt (omega arith)), fits Verilog (small Verilog tt (omega arith)), fits Def (small Def tt (omega arith)), too_large _ _ _ named over) refl
+  first_large OutVerilog input named over small = absurd input
+  first_large OutDef input named over small = absurd input
+  first_large OutStil input named over small = absurd input
+  first_large Console input named over small = absurd input
+
+-- a command looks at its inputs alone
+
+rewire_uses : (order : Order) → order.verb ≡ verbs.Rewire → IsUsed order Verilog
+rewire_uses order e = subst (λ (v : Verb). IsNamed (names_by v order) Verilog) (sym e) refl
+
+abbrev AgreeAt : Verb → Order → (Slot → List ℕ) → (Slot → List ℕ) → Type 0
+AgreeAt verb order one other = (slot : Slot) → IsInput slot → IsUsed order slot → one slot ≡ other slot
+
+command_same : (verb : Verb) (order : Order) (one other : Slot → List ℕ) → order.verb ≡ verb → AgreeAt verb order one other → command_fault verb order one ≡ command_fault verb order other
+command_same verbs.Rewire order one other e agree = ap (λ (text : List ℕ). rewire_fault text (rewire_of order)) (agree Verilog tt (rewire_uses order e))
+
+texts_same : (verb : Verb) (order : Order) (one other : Slot → List ℕ) (outputs : Outputs) → order.verb ≡ verb → AgreeAt verb order one other → AreTexts verb order one outputs → AreTexts verb order other outputs
+texts_same verbs.Rewire order one other outputs e agree are =
+    let same = agree Verilog tt (rewire_uses order e) in
+    record {
+      verilog = are.verilog ∙ ap (λ (text : List ℕ). written_verilog text (rewire_of order)) same;
+      console = are.console ∙ ap (λ (text : List ℕ). rewire_text (moved_count text (rewire_of order))) same;
+    }
+
+-- the inputs of an order were taken
+
+module _ (order : Order) (texts : List (Option (List ℕ))) (a b : Slots) (taken : HasTakenInputs (names_of order) 5 texts a b) where
+  taken_here : (slot : Slot) → IsInput slot → IsUsed order slot → HasTakenFile (input_at texts slot) (a slot) (b slot)
+  taken_here slot input used = taken.taken slot input used (low_number slot input)
+
+  output_kept : (slot : Slot) → IsOutput slot → b slot ≡ a slot
+  output_kept slot output = taken.others slot (λ input used lt. not_both slot input output)
+
+  unused_kept : (slot : Slot) → (IsUsed order slot → ⊥) → b slot ≡ a slot
+  unused_kept slot unused = taken.others slot (λ input used lt. unused used)
+
+  counts_kept : (slot : Slot) → (b slot).faults ≡ (a slot).faults
+  counts_kept slot = elim (input_or_output slot) [
+    | inl input ↦ elim (used_or_not order slot) [
+      | inl used ↦ (taken_here slot input used).faults
+      | inr unused ↦ ap (λ (s : SlotState). s.faults) (unused_kept slot unused)
+    ]
+    | inr output ↦ ap (λ (s : SlotState). s.faults) (output_kept slot output)
+  ]
+
+  module _ (files : Slot → List ℕ) (holds : HoldsFiles order files a) where
+    file_is : (slot : Slot) → IsInput slot → IsUsed order slot → input_at texts slot ≡ files slot
+    file_is slot input used =
+        let t = taken_here slot input used in
+        text_is _ _ (input_at texts slot) (files slot) (holds slot input used) t.front t.at_end
+
+    is_small : (slot : Slot) → IsInput slot → IsUsed order slot → length (files slot) ≤ limit_of slot
+    is_small slot input used =
+        let small = taken.small slot input used (low_number slot input) in
+        let same = ap length (file_is slot input used) in
+        omega (arith, small, same)
+
+    none_large : first_too_large (names_of order) files input_slots ≡ None
+    none_large = none_too_large (names_of order) files is_small
+
+    command_is : command_fault order.verb order (input_at texts) ≡ command_fault order.verb order files
+    command_is = command_same order.verb order (input_at texts) files refl file_is
+
+    found_first : (fault : Fault) → command_fault order.verb order (input_at texts) ≡ Some fault → first_fault order files ≡ Some fault
+    found_first fault found = rw none_large (sym command_is ∙ found)
+
+    judged_outputs : (outputs : Outputs) → AreJudged order texts outputs → AreOutputsOf order files outputs
+    judged_outputs outputs judged = record {
+      no_fault = rw none_large (sym command_is ∙ judged.no_fault);
+      texts = texts_same order.verb order (input_at texts) files outputs refl file_is judged.are;
+    }
+
+-- a fault was found before any output was touched
+
+pub record Found (order : Order) (fault : Fault) (a b : Slots) : Type 0 where
+  pub unused : SameUnused order a b
+  pub outputs : SameOutputs a b
+  pub counts : SameCounts a b
+  pub none_open : (slot : Slot) → IsOpen (b slot) → ⊥
+  pub first : (files : Slot → List ℕ) → HoldsFiles order files a → first_fault order files ≡ Some fault
+
+not_open_closed : (s : SlotState) → IsClosed s → IsOpen s → ⊥
+not_open_closed s shut open_now = cc
+
+not_open_unopened : (s : SlotState) → IsUnopened s → IsOpen s → ⊥
+not_open_unopened s never open_now = cc
+
+module _ (order : Order) (fault : Fault) (a b c : Slots) (f : Found order fault a b) where
+  module _ (second : SameElsewhere Console b c) where
+    unused_since : SameUnused order a c
+    unused_since slot unused = second slot (unused_apart order slot Console unused refl) ∙ f.unused slot unused
+
+    files_since : SameFiles a c
+    files_since slot file = second slot (file_isnt_console slot file) ∙ f.outputs slot (file_is_output slot file)
+
+  put_line : HasPutLine (names_of order) fault b c → IsRefused order a c
+  put_line put = record {
+    unused = unused_since put.elsewhere;
+    none_open = λ slot open_now. elim (console_or_not slot) [
+      | inl e ↦ not_open_closed (c Console) put.line.closed (at_slot (λ s. IsOpen (c s)) slot Console e open_now)
+      | inr ne ↦ f.none_open slot (state_same IsOpen (b slot) (c slot) (sym (put.elsewhere slot ne)) open_now)
+    ];
+    counts = λ slot. elim (console_or_not slot) [
+      | inl e ↦ at_slot (λ s. (c s).faults ≡ (a s).faults) Console slot (sym e) (put.line.faults ∙ f.counts Console)
+      | inr ne ↦ ap (λ (s : SlotState). s.faults) (put.elsewhere slot ne) ∙ f.counts slot
+    ];
+    refused = λ files holds. record {
+      fault = fault;
+      first = f.first files holds;
+      untouched = files_since put.elsewhere;
+      line = appended_since _ (a Console) (b Console) (c Console) (f.outputs Console tt) put.line.appended;
+    };
+  }
+
+  failed_at_line : HasFailedAtLine (names_of order) fault b c → IsOutputFailed order a c
+  failed_at_line failed = record {
+    unused = unused_since failed.elsewhere;
+    rose = (Console, tt, risen_since _ (a Console) (b Console) (f.outputs Console tt) failed.risen);
+    inputs = λ slot input. ap (λ (s : SlotState). s.faults) (failed.elsewhere slot (apart slot Console input tt)) ∙ f.counts slot;
+    prefixes = λ files holds. inr (inr (record {
+      fault = fault;
+      first = f.first files holds;
+      untouched = files_since failed.elsewhere;
+      prefix = prefix_since _ (a Console) (b Console) (c Console) (f.outputs Console tt) failed.prefix;
+    }));
+  }
+
+  ran_out : SameEverywhere b c → IsOutOfMemory order a c
+  ran_out same = record {
+    unused = λ slot unused. same slot ∙ f.unused slot unused;
+    counts = λ slot. ap (λ (s : SlotState). s.faults) (same slot) ∙ f.counts slot;
+    outputs = λ slot output. same slot ∙ f.outputs slot output;
+  }
+
+  pub said_ended : (ended : Result (Unit {0}) Stop) → HasSaid (names_of order) fault b c ended → HasEnded order a c ended
+  said_ended (Ok done) said = absurd said
+  said_ended (Err NoForm) said = absurd said
+  said_ended (Err Refused) said = put_line said
+  said_ended (Err InputFailed) said = absurd said
+  said_ended (Err OutputFailed) said = failed_at_line said
+  said_ended (Err NoMemory) said = ran_out said
+
+-- an input was too large
+
+module _ (order : Order) (slot : Slot) (a b : Slots) (unopened : AllUnopened a) (stopped : HasStoppedAt (names_of order) slot a b (IsTooLarge (limit_of slot))) where
+  here_kept : stopped.between slot ≡ a slot
+  here_kept = stopped.before.others slot (λ input used lt. absurd (omega (arith, lt)))
+
+  slot_or_not : (other : Slot) → (other ≡ slot) ⊎ (other ≢ slot)
+  slot_or_not other = number_cases other slot
+
+  other_small : (files : Slot → List ℕ) → HoldsFiles order files a → (other : Slot) → IsInput other → number other < number slot → IsUsed order other → length (files other) ≤ limit_of other
+  other_small files holds other input lt used =
+      let t = stopped.before.taken other input used lt in
+      let same = ap length (text_is _ _ (input_at stopped.texts other) (files other) (holds other input used) t.front t.at_end) in
+      let small = stopped.before.small other input used lt in
+      omega (arith, small, same)
+
+  over : (files : Slot → List ℕ) → HoldsFiles order files a → limit_of slot < length (files slot)
+  over files holds =
+      over_limit _ _ stopped.here.taken (files slot) (limit_of slot)
+      (ap (λ (s : SlotState). s.unread) here_kept ∙ holds slot stopped.input stopped.named) stopped.here.front stopped.here.over
+
+  at_or_before : (other : Slot) → other ≢ slot → ((IsInput other → IsUsed order other → number other < number slot → ⊥) → b other ≡ a other)
+  at_or_before other ne none = stopped.elsewhere other ne ∙ stopped.before.others other none
+
+  output_as_was : (other : Slot) → IsOutput other → b other ≡ a other
+  output_as_was other output = at_or_before other (λ e. apart slot other stopped.input output (sym e)) (λ input used lt. not_both other input output)
+
+  pub found_large : Found order (size_fault slot) a b
+  found_large = record {
+    unused = λ other unused. at_or_before other (unused_apart order other slot unused stopped.named) (λ input used lt. unused used);
+    outputs = output_as_was;
+    counts = λ other. elim (slot_or_not other) [
+      | inl e ↦ at_slot (λ s. (b s).faults ≡ (a s).faults) slot other (sym e) (stopped.here.faults ∙ ap (λ (s : SlotState). s.faults) here_kept)
+      | inr ne ↦ ap (λ (s : SlotState). s.faults) (stopped.elsewhere other ne) ∙ count_before other
+    ];
+    none_open = λ other open_now. elim (slot_or_not other) [
+      | inl e ↦ not_open_closed (b slot) stopped.here.closed (at_slot (λ s. IsOpen (b s)) other slot e open_now)
+      | inr ne ↦ not_open_before other (state_same IsOpen (stopped.between other) (b other) (sym (stopped.elsewhere other ne)) open_now)
+    ];
+    first = λ files holds. rw (first_large (names_of order) files slot stopped.input stopped.named (over files holds) (other_small files holds)) refl;
+  }
+    where
+      early : (other : Slot) → ((IsInput other × IsUsed order other × (number other < number slot))) ⊎ (IsInput other → IsUsed order other → number other < number slot → ⊥)
+      early other = elim (input_or_output other) [
+        | inr output ↦ inr (λ input used lt. not_both other input output)
+        | inl input ↦ elim (used_or_not order other) [
+          | inr unused ↦ inr (λ reads used lt. unused used)
+          | inl used ↦ below_cases ((IsInput other × IsUsed order other × (number other < number slot)) ⊎ (IsInput other → IsUsed order other → number other < number slot → ⊥)) (number other) (number slot) (λ lt. inl (input, used, lt)) (λ nlt. inr (λ reads uses lt. nlt lt))
+        ]
+      ]
+
+      count_before : (other : Slot) → (stopped.between other).faults ≡ (a other).faults
+      count_before other = elim (early other) [
+        | inl t ↦ (stopped.before.taken other t.0 t.1 t.2).faults
+        | inr none ↦ ap (λ (s : SlotState). s.faults) (stopped.before.others other none)
+      ]
+
+      not_open_before : (other : Slot) → IsOpen (stopped.between other) → ⊥
+      not_open_before other open_now = elim (early other) [
+        | inl t ↦ not_open_closed (stopped.between other) (stopped.before.taken other t.0 t.1 t.2).closed open_now
+        | inr none ↦ not_open_unopened (a other) (unopened other) (state_same IsOpen (a other) (stopped.between other) (sym (stopped.before.others other none)) open_now)
+      ]
+
+-- all inputs were taken, and then the command finished
+
+module _ (order : Order) (texts : List (Option (List ℕ))) (a b c : Slots) (unopened : AllUnopened a) (taken : HasTakenInputs (names_of order) 5 texts a b) where
+  abbrev kept : (slot : Slot) → IsOutput slot → b slot ≡ a slot
+  kept slot output = output_kept order texts a b taken slot output
+
+  not_open : (slot : Slot) → IsOpen (b slot) → ⊥
+  not_open slot open_now = elim (input_or_output slot) [
+    | inl input ↦ elim (used_or_not order slot) [
+      | inl used ↦ not_open_closed (b slot) (taken_here order texts a b taken slot input used).closed open_now
+      | inr unused ↦ not_open_unopened (a slot) (unopened slot) (state_same IsOpen (a slot) (b slot) (sym (unused_kept order texts a b taken slot unused)) open_now)
+    ]
+    | inr output ↦ not_open_unopened (a slot) (unopened slot) (state_same IsOpen (a slot) (b slot) (sym (kept slot output)) open_now)
+  ]
+
+  found_own : (fault : Fault) → command_fault order.verb order (input_at texts) ≡ Some fault → Found order fault a b
+  found_own fault found = record {
+    unused = unused_kept order texts a b taken;
+    outputs = kept;
+    counts = counts_kept order texts a b taken;
+    none_open = not_open;
+    first = λ files holds. found_first order texts a b taken files holds fault found;
+  }
+
+  put_all : HasPutAll order texts b c → IsDone order a c
+  put_all p = record {
+    unused = λ slot unused. p.put.others slot (λ output used lt. unused used) ∙ unused_kept order texts a b taken slot unused;
+    none_open = λ slot open_now. elim (put_or_not slot) [
+      | inl t ↦ not_open_closed (c slot) (p.put.put slot t.0 t.1 (early_turn slot t.0)).closed open_now
+      | inr none ↦ not_open slot (state_same IsOpen (b slot) (c slot) (sym (p.put.others slot none)) open_now)
+    ];
+    closed = λ slot used. elim (input_or_output slot) [
+      | inl input ↦ state_same IsClosed (c slot) (b slot) (p.put.others slot (λ output uses lt. not_both slot input output)) (taken_here order texts a b taken slot input used).closed
+      | inr output ↦ (p.put.put slot output used (early_turn slot output)).closed
+    ];
+    read = λ slot input used. state_same IsAtEnd (c slot) (b slot) (p.put.others slot (λ output uses lt. not_both slot input output)) (taken_here order texts a b taken slot input used).at_end;
+    counts = λ slot. elim (put_or_not slot) [
+      | inl t ↦ (p.put.put slot t.0 t.1 (early_turn slot t.0)).faults ∙ counts_kept order texts a b taken slot
+      | inr none ↦ ap (λ (s : SlotState). s.faults) (p.put.others slot none) ∙ counts_kept order texts a b taken slot
+    ];
+    done = λ files holds. record {
+      outputs = p.outputs;
+      are = judged_outputs order texts a b taken files holds p.outputs p.judged;
+      texts = λ slot output used. appended_since _ (a slot) (b slot) (c slot) (kept slot output) (p.put.put slot output used (early_turn slot output)).appended;
+    };
+  }
+    where
+      put_or_not : (slot : Slot) → (IsOutput slot × IsUsed order slot) ⊎ (IsOutput slot → IsUsed order slot → turn slot < 4 → ⊥)
+      put_or_not slot = elim (input_or_output slot) [
+        | inl input ↦ inr (λ output used lt. not_both slot input output)
+        | inr output ↦ elim (used_or_not order slot) [
+          | inl used ↦ inl (output, used)
+          | inr unused ↦ inr (λ writes used lt. unused used)
+        ]
+      ]
+
+  put_some : HasPutSome order texts b c → IsOutputFailed order a c
+  put_some p =
+      let s = p.stopped in
+      let at : Slot = s.slot in
+      let here : s.between at ≡ b at = s.before.others at (λ output used lt. absurd (omega (arith, lt))) in
+      record {
+        unused = λ slot unused.
+            s.elsewhere slot (unused_apart order slot at unused s.named)
+            ∙ s.before.others slot (λ output used lt. unused used) ∙ unused_kept order texts a b taken slot unused;
+        rose = (at, s.output, risen_since _ (a at) (s.between at) (here ∙ kept at s.output) s.risen);
+        inputs = λ slot input.
+            ap (λ (state : SlotState). state.faults) (s.elsewhere slot (apart slot at input s.output) ∙ s.before.others slot (λ output used lt. not_both slot input output))
+            ∙ counts_kept order texts a b taken slot;
+        prefixes = λ files holds. inr (inl (record {
+          outputs = p.outputs;
+          are = judged_outputs order texts a b taken files holds p.outputs p.judged;
+          prefixes = λ slot output used. elim (number_cases slot at) [
+            | inl e ↦ at_slot (λ t. HoldsPrefix (output_at p.outputs t) (a t) (c t)) at slot (sym e)
+                (prefix_since _ (a at) (s.between at) (c at) (here ∙ kept at s.output) s.prefix)
+            | inr ne ↦ below_cases (HoldsPrefix (output_at p.outputs slot) (a slot) (c slot)) (turn slot) (turn at)
+                (λ lt. all_held _ _ _ (subst (λ (state : SlotState). IsAppended (output_at p.outputs slot) (a slot) state) (sym (s.elsewhere slot ne))
+                (appended_since _ (a slot) (b slot) (s.between slot) (kept slot output) (s.before.put slot output used lt).appended)))
+                (λ nlt. nothing_held _ _ _ (s.elsewhere slot ne ∙ s.before.others slot (λ writes uses lt. nlt lt) ∙ kept slot output))
+          ];
+        }));
+      }
+
+  pub finished : (ended : Result (Unit {0}) Stop) → HasFinished order texts b c ended → HasEnded order a c ended
+  finished (Ok done) f = put_all f
+  finished (Err NoForm) f = absurd f
+  finished (Err Refused) f = put_line order f.fault a b c (found_own f.fault f.first) f.then_did
+  finished (Err InputFailed) f = absurd f
+  finished (Err OutputFailed) (inl p) = put_some p
+  finished (Err OutputFailed) (inr f) = failed_at_line order f.fault a b c (found_own f.fault f.first) f.then_did
+  finished (Err NoMemory) same = record {
+    unused = λ slot unused. same slot ∙ unused_kept order texts a b taken slot unused;
+    counts = λ slot. ap (λ (s : SlotState). s.faults) (same slot) ∙ counts_kept order texts a b taken slot;
+    outputs = λ slot output. same slot ∙ kept slot output;
+  }
+
+-- the file of a named input has fewer than 2 ^ 32 bytes, and one that isn't named none
+pub small_input : (order : Order) (texts : List (Option (List ℕ))) (a b : Slots) → HasTakenInputs (names_of order) 5 texts a b → (slot : Slot) → IsInput slot → length (input_at texts slot) ≤ limit_of slot
+small_input order texts a b taken slot input = elim (used_or_not order slot) [
+  | inl used ↦ taken.small slot input used (low_number slot input)
+  | inr unused ↦ let none = ap length (taken.no_text slot (λ reads used lt. unused used)) in omega (arith, none)
+]

@@ -1,0 +1,38 @@
+use Rattle.std.proofs.Common.{◌≡◌, Err, subst, arith}
+use Rattle.text_scan.specs.declared.fault.Fault.{Fault}
+use Rattle.desk_io.specs.declared.slot.Slot.TheVariants.{Verilog}
+use Rattle.desk_io.specs.declared.names.Names.{Names}
+use Rattle.desk_io.specs.Prefixes.{IsTooLarge}
+use Rattle.desk_io.specs.declared.inputs.InputsFault.{InputsFault}
+use Rattle.desk_io.specs.Inputs.{limit_of, HasTakenInputs, HasStoppedAt, HasStopped}
+use Rattle.scan_job.specs.Commands.{names_of}
+use Rattle.scan_job.specs.FirstFault.{size_fault}
+use Rattle.scan_job.specs.Phases.{HasSaid}
+use Rattle.scan_job.proofs.Phases.{small_input, finished, found_large, said_ended}
+use Rattle.scan_job.proofs.command.run_named.Goals as goal
+
+pub finish-requires-clause-small : goal.finish-requires-clause-small
+finish-requires-clause-small g c =
+    let a = g.D.Desk.state c.args.desk.now in
+    let b = g.D.Desk.state c.take_inputs.new.desk in
+    let taken = subst (λ (names : Names). HasTakenInputs names 5 c.in-Ok.inputs a b) c.requires.named c.in-Ok.ensures.ok in
+    let small = small_input c.args.order.now c.in-Ok.inputs a b taken Verilog tt in
+    omega (arith, small)
+
+pub returns-in-Ok : goal.returns-in-Ok
+returns-in-Ok g c =
+    let a = g.D.Desk.state c.args.desk.now in
+    let b = g.D.Desk.state c.take_inputs.new.desk in
+    let taken = subst (λ (names : Names). HasTakenInputs names 5 c.in-Ok.inputs a b) c.requires.named c.in-Ok.ensures.ok in
+    record { ended = finished c.args.order.now c.in-Ok.inputs a b (g.D.Desk.state c.finish.new.desk) c.requires.unopened taken c.finish.result c.finish.ensures.ended }
+
+pub returns-in-Err-TooLarge : goal.returns-in-Err-TooLarge
+returns-in-Err-TooLarge g c =
+    let a = g.D.Desk.state c.args.desk.now in
+    let b = g.D.Desk.state c.take_inputs.new.desk in
+    let after = g.D.Desk.state c.refuse.new.desk in
+    let slot = c.in-Err-TooLarge.slot in
+    let stopped = subst (λ (names : Names). HasStoppedAt names slot a b (IsTooLarge (limit_of slot))) c.requires.named (subst (λ (fault : InputsFault). HasStopped c.args.names.now a b (Err fault)) c.in-Err-TooLarge.field-0-is c.in-Err-TooLarge.ensures.stopped) in
+    let said = subst (λ (names : Names). HasSaid names c.size_fault.result b after c.refuse.result) c.requires.named c.refuse.ensures.ended in
+    let said_it = subst (λ (fault : Fault). HasSaid (names_of c.args.order.now) fault b after c.refuse.result) c.size_fault.ensures.value said in
+    record { ended = said_ended c.args.order.now (size_fault slot) a b after (found_large c.args.order.now slot a b c.requires.unopened stopped) c.refuse.result said_it }

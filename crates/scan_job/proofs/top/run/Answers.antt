@@ -1,0 +1,23 @@
+use Rattle.scan_job.proofs.TopClauses as top
+use Rattle.scan_job.proofs.top.run.Goals as goal
+
+pub returns-clause-no_form : goal.returns-clause-no_form
+returns-clause-no_form g c = top.no_form _ _ _ _ _ c.status_of.ensures.value c.run_words.ensures.ended
+
+pub returns-clause-unopened : goal.returns-clause-unopened
+returns-clause-unopened g c = top.unopened _ _ _ _ c.run_words.ensures.ended
+
+pub returns-clause-refusal : goal.returns-clause-refusal
+returns-clause-refusal g c two order files says holds = top.refusal _ _ _ order says files holds _ _ c.status_of.ensures.value c.run_words.ensures.ended two
+
+pub returns-clause-refuses : goal.returns-clause-refuses
+returns-clause-refuses g c order files says holds = top.refuses _ _ _ order says files holds _ _ c.status_of.ensures.value c.run_words.ensures.ended
+
+pub returns-clause-prefixes : goal.returns-clause-prefixes
+returns-clause-prefixes g c order files says holds = top.prefixes _ _ _ order says files holds _ c.run_words.ensures.ended
+
+pub returns-clause-complete : goal.returns-clause-complete
+returns-clause-complete g c order files says holds = top.complete _ _ _ order says files holds _ _ c.status_of.ensures.value c.run_words.ensures.ended
+
+pub returns-clause-done : goal.returns-clause-done
+returns-clause-done g c zero order files says holds = top.all_done _ _ _ order says files holds _ _ c.status_of.ensures.value c.run_words.ensures.ended zero
