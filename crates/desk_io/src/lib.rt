@@ -20,7 +20,7 @@ mod take;
 
 pub use desk::{Desk, Failed};
 pub use file::{put_file, take_file};
-pub use inputs::{Inputs, InputsFault, limit_for, take_inputs};
+pub use inputs::{Inputs, InputsFault, limit_of, take_inputs};
 pub use memory::MemoryDesk;
 pub use names::{Names, name_of};
 pub use outputs::{Outputs, put_outputs};
