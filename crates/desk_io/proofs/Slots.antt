@@ -1,9 +1,8 @@
 -- The slots and their numbers.
-use Rattle.std.proofs.Common.{◌≡◌, ◌<◌, ℕ, refl, arith}
+use Rattle.std.proofs.Common.{◌≡◌, ◌<◌, refl, arith}
 use Rattle.desk_io.specs.declared.slot.Slot.{Slot}
 use Rattle.desk_io.specs.declared.slot.Slot.TheVariants.{Table, Lef, Verilog, Def, Stil, OutVerilog, OutDef, OutStil, Console}
 use Rattle.desk_io.specs.Number.{number}
-use Rattle.desk_io.specs.Desk.{IsInput}
 
 pub number_small : (slot : Slot) → number slot < 9
 number_small Table = omega arith
@@ -15,18 +14,6 @@ number_small OutVerilog = omega arith
 number_small OutDef = omega arith
 number_small OutStil = omega arith
 number_small Console = omega arith
-
--- an input's number is below their count
-pub input_small : (slot : Slot) → IsInput slot → number slot < 5
-input_small Table input = omega arith
-input_small Lef input = omega arith
-input_small Verilog input = omega arith
-input_small Def input = omega arith
-input_small Stil input = omega arith
-input_small OutVerilog input = absurd input
-input_small OutDef input = absurd input
-input_small OutStil input = absurd input
-input_small Console input = absurd input
 
 -- no two slots have one number
 pub number_once : (one other : Slot) → number one ≡ number other → one ≡ other

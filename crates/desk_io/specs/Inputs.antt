@@ -57,3 +57,18 @@ HasStopped names old new (Ok texts) = Unit {0}
 HasStopped names old new (Err (TooLarge slot)) = HasStoppedAt names slot old new (IsTooLarge (limit_of slot))
 HasStopped names old new (Err Read) = (slot : Slot) × HasStoppedAt names slot old new HasFailedToTake
 HasStopped names old new (Err NoMemory) = (slot : Slot) × HasStoppedAt names slot old new HasRunOut
+
+-- the named inputs hold these files, and the desk tells it
+abbrev pub HoldsFiles : Names → (Slot → List ℕ) → (Slot → SlotState) → Type 0
+HoldsFiles names files slots = (slot : Slot) → IsInput slot → IsNamed names slot → (slots slot).unread ≡ Some (files slot)
+
+-- the texts are those of the files
+abbrev pub AreTextsOf : Names → (Slot → List ℕ) → List (Option (List ℕ)) → Type 0
+AreTextsOf names files texts = (slot : Slot) → IsInput slot → IsNamed names slot → input_at texts slot ≡ files slot
+
+-- the file of the slot is the first, in the order of the inputs, that has more bytes than its limit
+pub record IsFirstTooLarge (names : Names) (files : Slot → List ℕ) (slot : Slot) : Type 0 where
+  pub input : IsInput slot
+  pub named : IsNamed names slot
+  pub over : limit_of slot < length (files slot)
+  pub first : (other : Slot) → IsInput other → IsNamed names other → number other < number slot → length (files other) ≤ limit_of other

@@ -3,6 +3,7 @@ use Rattle.std.specs.Prelude.{◌≡◌, ℕ, Bool, List, [], Option, Some, IsSo
 use Rattle.desk_io.specs.declared.slot.Slot.{Slot}
 use Rattle.desk_io.specs.declared.slot.Slot.TheVariants.{Table, Lef, Verilog, Def, Stil, OutVerilog, OutDef, OutStil, Console}
 use Rattle.desk_io.specs.declared.names.Names.{Names}
+use Rattle.desk_io.specs.Desk.{SlotState}
 
 -- the name of a slot, where it has one: the value of its option, and the empty name of the console
 abbrev pub name_at : Names → Slot → Option (List ℕ)
@@ -22,3 +23,7 @@ IsNamed names slot = IsSome (name_at names slot)
 -- each slot may be opened under its name
 abbrev pub AllowsNames : Names → (Slot → List ℕ → Bool) → Type 0
 AllowsNames names allows = (slot : Slot) (name : List ℕ) → name_at names slot ≡ Some name → IsTrue (allows slot name)
+
+-- no slot changed but those that are named and of this kind
+abbrev pub OnlyNamed : Names → (Slot → Type 0) → (Slot → SlotState) → (Slot → SlotState) → Type 0
+OnlyNamed names P old new = (slot : Slot) → (P slot → IsNamed names slot → ⊥) → new slot ≡ old slot

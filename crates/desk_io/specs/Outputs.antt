@@ -53,3 +53,7 @@ pub record HasStoppedPutting (names : Names) (outputs : Outputs) (old new : Slot
   pub prefix : HoldsPrefix (output_at outputs slot) (between slot) (new slot)
   pub risen : HasRisen (between slot).faults (new slot).faults
   pub unread : (new slot).unread ≡ (between slot).unread
+
+-- each output holds, behind what stood there, a prefix of its text
+abbrev pub HoldsPrefixes : Outputs → (Slot → SlotState) → (Slot → SlotState) → Type 0
+HoldsPrefixes outputs old new = (slot : Slot) → IsOutput slot → HoldsPrefix (output_at outputs slot) (old slot) (new slot)

@@ -1,8 +1,10 @@
-ghost use Rattle.std.specs.Prelude.{◌≡◌, ◌<◌, IfOk};
+ghost use Rattle.std.specs.Prelude.{◌≡◌, ◌<◌, ℕ, List, IfOk, IsErrOf};
+ghost use Rattle.desk_io.specs.declared.slot.Slot.{Slot};
 ghost use Rattle.desk_io.specs.Number.{number};
 ghost use Rattle.desk_io.specs.Desk.{IsInput, SameNames};
-ghost use Rattle.desk_io.specs.Names.{AllowsNames};
-ghost use Rattle.desk_io.specs.Inputs.{limit_of, input_at, InputsUnopened, HasTakenInputs, HasStopped};
+ghost use Rattle.desk_io.specs.Causes.{SomeRose, SameCounts};
+ghost use Rattle.desk_io.specs.Names.{AllowsNames, OnlyNamed};
+ghost use Rattle.desk_io.specs.Inputs.{limit_of, input_at, InputsUnopened, HasTakenInputs, HasStopped, HoldsFiles, AreTextsOf, IsFirstTooLarge};
 
 use crate::desk::Desk;
 use crate::file::take_file;
@@ -62,7 +64,7 @@ impl Inputs {
 }
 
 /// The most bytes that the file of an input slot may have.
-pub fn limit_for(slot: Slot) -> u64
+pub fn limit_of(slot: Slot) -> u64
     ensures value { result ≡ limit_of slot }
 {
     match slot {
@@ -96,15 +98,28 @@ pub fn take_inputs<D: Desk>(
 ) -> Result<Inputs, InputsFault>
     requires unopened { InputsUnopened (D.state desk.old) }
     requires allowed { AllowsNames names.now (D.allows desk.old) }
+
     ensures ok { IfOk result (λ texts. HasTakenInputs names.now INPUTS texts (D.state desk.old) (D.state desk.new)) }
     ensures stopped { HasStopped names.now (D.state desk.old) (D.state desk.new) result }
+
+    // Over a desk that tells its bytes: the texts are the files, or the file is the first that is too large.
+    ensures texts { (files : Slot → List ℕ) → HoldsFiles names.now files (D.state desk.old) →
+        IfOk result (λ texts. AreTextsOf names.now files texts) }
+    ensures too_large { (files : Slot → List ℕ) → HoldsFiles names.now files (D.state desk.old) →
+        (slot : Slot) → IsErrOf result (InputsFault.TooLarge slot) → IsFirstTooLarge names.now files slot }
+
+    // A count rises only where `Read` is answered, and that of an input then.
+    ensures read { IsErrOf result InputsFault.Read → SomeRose IsInput (D.state desk.old) (D.state desk.new) }
+    ensures counts { (IsErrOf result InputsFault.Read → ⊥) → SameCounts (D.state desk.old) (D.state desk.new) }
+
+    ensures elsewhere { OnlyNamed names.now IsInput (D.state desk.old) (D.state desk.new) }
     ensures names { SameNames (D.allows desk.old) (D.allows desk.new) }
 {
     let mut texts = [None, None, None, None, None];
     for at in 0..INPUTS {
         let slot = input_slot(at);
         if let Some(name) = name_of(names, slot) {
-            match take_file(alloc, desk, slot, name, limit_for(slot)) {
+            match take_file(alloc, desk, slot, name, limit_of(slot)) {
                 Ok(text) => texts[at] = Some(text),
                 Err(TakeFault::TooLarge) => return Err(InputsFault::TooLarge(slot)),
                 Err(TakeFault::Read) => return Err(InputsFault::Read),

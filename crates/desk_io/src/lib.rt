@@ -20,7 +20,7 @@ mod take;
 
 pub use desk::{Desk, Failed};
 pub use file::{put_file, take_file};
-pub use inputs::{Inputs, InputsFault, limit_for, take_inputs};
+pub use inputs::{Inputs, InputsFault, limit_of, take_inputs};
 pub use memory::MemoryDesk;
 pub use names::{Names, name_of};
 pub use outputs::{Outputs, put_outputs};
@@ -28,3 +28,6 @@ pub use put::{PutFault, put_all};
 pub use slot::{INPUTS, SLOTS, Slot, Stage};
 pub use sure::SureDesk;
 pub use take::{TakeFault, take_all};
+
+#[cfg(test)]
+mod tests;

@@ -1,7 +1,8 @@
 ghost use Rattle.std.specs.Prelude.{◌≡◌, ◌<◌, OnOk, OnErr};
 ghost use Rattle.desk_io.specs.Desk.{IsOutput, SameNames};
-ghost use Rattle.desk_io.specs.Names.{AllowsNames};
-ghost use Rattle.desk_io.specs.Outputs.{output_at, turn, OutputsUnopened, HasPutOutputs, HasStoppedPutting};
+ghost use Rattle.desk_io.specs.Causes.{SomeRose, SameCounts};
+ghost use Rattle.desk_io.specs.Names.{AllowsNames, OnlyNamed};
+ghost use Rattle.desk_io.specs.Outputs.{output_at, turn, OutputsUnopened, HasPutOutputs, HasStoppedPutting, HoldsPrefixes};
 
 use crate::desk::Desk;
 use crate::file::put_file;
@@ -55,8 +56,18 @@ fn output_slot(at: usize) -> Slot
 pub fn put_outputs<D: Desk>(names: &Names, outputs: &Outputs, desk: &mut D) -> Result<(), PutFault>
     requires unopened { OutputsUnopened (D.state desk.old) }
     requires allowed { AllowsNames names.now (D.allows desk.old) }
+
     ensures ok { OnOk result (HasPutOutputs names.now outputs.now OUTPUTS (D.state desk.old) (D.state desk.new)) }
     ensures failed { OnErr result (HasStoppedPutting names.now outputs.now (D.state desk.old) (D.state desk.new)) }
+
+    // Each output holds a prefix of its text, whatever is answered.
+    ensures prefixes { HoldsPrefixes outputs.now (D.state desk.old) (D.state desk.new) }
+
+    // A count rises only where a fault is answered, and that of an output then.
+    ensures write { OnErr result (SomeRose IsOutput (D.state desk.old) (D.state desk.new)) }
+    ensures counts { OnOk result (SameCounts (D.state desk.old) (D.state desk.new)) }
+
+    ensures elsewhere { OnlyNamed names.now IsOutput (D.state desk.old) (D.state desk.new) }
     ensures names { SameNames (D.allows desk.old) (D.allows desk.new) }
 {
     for at in 0..OUTPUTS {
