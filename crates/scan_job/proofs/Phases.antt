@@ -373,14 +373,51 @@ module _ (order : Order) (fault : Fault) (a b c : Slots) (f : Found order fault 
   said_ended (Err OutputFailed) said = failed_at_line said
   said_ended (Err NoMemory) said = ran_out said
 
--- an input was too large
+-- the taking of the inputs stopped at one of them
 
-module _ (order : Order) (slot : Slot) (a b : Slots) (unopened : AllUnopened a) (stopped : HasStoppedAt (names_of order) slot a b (IsTooLarge (limit_of slot))) where
+module _ (order : Order) (slot : Slot) (a b : Slots) (did : SlotState → SlotState → Type 0) (stopped : HasStoppedAt (names_of order) slot a b did) where
   here_kept : stopped.between slot ≡ a slot
   here_kept = stopped.before.others slot (λ input used lt. absurd (omega (arith, lt)))
 
   slot_or_not : (other : Slot) → (other ≡ slot) ⊎ (other ≢ slot)
   slot_or_not other = number_cases other slot
+
+  other_kept : (other : Slot) → other ≢ slot → ((IsInput other → IsUsed order other → number other < number slot → ⊥) → b other ≡ a other)
+  other_kept other ne none = stopped.elsewhere other ne ∙ stopped.before.others other none
+
+  output_as_was : (other : Slot) → IsOutput other → b other ≡ a other
+  output_as_was other output = other_kept other (λ e. apart slot other stopped.input output (sym e)) (λ input used lt. not_both other input output)
+
+  unused_as_was : (other : Slot) → (IsUsed order other → ⊥) → b other ≡ a other
+  unused_as_was other unused = other_kept other (unused_apart order other slot unused stopped.named) (λ input used lt. unused used)
+
+  early : (other : Slot) → ((IsInput other × IsUsed order other × (number other < number slot))) ⊎ (IsInput other → IsUsed order other → number other < number slot → ⊥)
+  early other = elim (input_or_output other) [
+    | inr output ↦ inr (λ input used lt. not_both other input output)
+    | inl input ↦ elim (used_or_not order other) [
+      | inr unused ↦ inr (λ reads used lt. unused used)
+      | inl used ↦ below_cases ((IsInput other × IsUsed order other × (number other < number slot)) ⊎ (IsInput other → IsUsed order other → number other < number slot → ⊥)) (number other) (number slot)
+          (λ lt. inl (input, used, lt)) (λ nlt. inr (λ reads uses lt. nlt lt))
+    ]
+  ]
+
+  count_before : (other : Slot) → (stopped.between other).faults ≡ (a other).faults
+  count_before other = elim (early other) [
+    | inl t ↦ (stopped.before.taken other t.0 t.1 t.2).faults
+    | inr none ↦ ap (λ (s : SlotState). s.faults) (stopped.before.others other none)
+  ]
+
+  count_as_was : (b slot).faults ≡ (stopped.between slot).faults → (other : Slot) → (b other).faults ≡ (a other).faults
+  count_as_was here other = elim (slot_or_not other) [
+    | inl e ↦ at_slot (λ s. (b s).faults ≡ (a s).faults) slot other (sym e) (here ∙ ap (λ (s : SlotState). s.faults) here_kept)
+    | inr ne ↦ ap (λ (s : SlotState). s.faults) (stopped.elsewhere other ne) ∙ count_before other
+  ]
+
+-- an input was too large
+
+module _ (order : Order) (slot : Slot) (a b : Slots) (unopened : AllUnopened a) (stopped : HasStoppedAt (names_of order) slot a b (IsTooLarge (limit_of slot))) where
+  abbrev large : SlotState → SlotState → Type 0
+  large = IsTooLarge (limit_of slot)
 
   other_small : (files : Slot → List ℕ) → HoldsFiles order files a → (other : Slot) → IsInput other → number other < number slot → IsUsed order other → length (files other) ≤ limit_of other
   other_small files holds other input lt used =
@@ -392,49 +429,41 @@ module _ (order : Order) (slot : Slot) (a b : Slots) (unopened : AllUnopened a) 
   over : (files : Slot → List ℕ) → HoldsFiles order files a → limit_of slot < length (files slot)
   over files holds =
       over_limit _ _ stopped.here.taken (files slot) (limit_of slot)
-      (ap (λ (s : SlotState). s.unread) here_kept ∙ holds slot stopped.input stopped.named) stopped.here.front stopped.here.over
-
-  at_or_before : (other : Slot) → other ≢ slot → ((IsInput other → IsUsed order other → number other < number slot → ⊥) → b other ≡ a other)
-  at_or_before other ne none = stopped.elsewhere other ne ∙ stopped.before.others other none
-
-  output_as_was : (other : Slot) → IsOutput other → b other ≡ a other
-  output_as_was other output = at_or_before other (λ e. apart slot other stopped.input output (sym e)) (λ input used lt. not_both other input output)
+      (ap (λ (s : SlotState). s.unread) (here_kept order slot a b large stopped) ∙ holds slot stopped.input stopped.named) stopped.here.front stopped.here.over
 
   pub found_large : Found order (size_fault slot) a b
   found_large = record {
-    unused = λ other unused. at_or_before other (unused_apart order other slot unused stopped.named) (λ input used lt. unused used);
-    outputs = output_as_was;
-    counts = λ other. elim (slot_or_not other) [
-      | inl e ↦ at_slot (λ s. (b s).faults ≡ (a s).faults) slot other (sym e) (stopped.here.faults ∙ ap (λ (s : SlotState). s.faults) here_kept)
-      | inr ne ↦ ap (λ (s : SlotState). s.faults) (stopped.elsewhere other ne) ∙ count_before other
-    ];
-    none_open = λ other open_now. elim (slot_or_not other) [
+    unused = unused_as_was order slot a b large stopped;
+    outputs = output_as_was order slot a b large stopped;
+    counts = count_as_was order slot a b large stopped stopped.here.faults;
+    none_open = λ other open_now. elim (slot_or_not order slot a b large stopped other) [
       | inl e ↦ not_open_closed (b slot) stopped.here.closed (at_slot (λ s. IsOpen (b s)) other slot e open_now)
       | inr ne ↦ not_open_before other (state_same IsOpen (stopped.between other) (b other) (sym (stopped.elsewhere other ne)) open_now)
     ];
     first = λ files holds. rw (first_large (names_of order) files slot stopped.input stopped.named (over files holds) (other_small files holds)) refl;
   }
     where
-      early : (other : Slot) → ((IsInput other × IsUsed order other × (number other < number slot))) ⊎ (IsInput other → IsUsed order other → number other < number slot → ⊥)
-      early other = elim (input_or_output other) [
-        | inr output ↦ inr (λ input used lt. not_both other input output)
-        | inl input ↦ elim (used_or_not order other) [
-          | inr unused ↦ inr (λ reads used lt. unused used)
-          | inl used ↦ below_cases ((IsInput other × IsUsed order other × (number other < number slot)) ⊎ (IsInput other → IsUsed order other → number other < number slot → ⊥)) (number other) (number slot) (λ lt. inl (input, used, lt)) (λ nlt. inr (λ reads uses lt. nlt lt))
-        ]
-      ]
-
-      count_before : (other : Slot) → (stopped.between other).faults ≡ (a other).faults
-      count_before other = elim (early other) [
-        | inl t ↦ (stopped.before.taken other t.0 t.1 t.2).faults
-        | inr none ↦ ap (λ (s : SlotState). s.faults) (stopped.before.others other none)
-      ]
-
       not_open_before : (other : Slot) → IsOpen (stopped.between other) → ⊥
-      not_open_before other open_now = elim (early other) [
+      not_open_before other open_now = elim (early order slot a b large stopped other) [
         | inl t ↦ not_open_closed (stopped.between other) (stopped.before.taken other t.0 t.1 t.2).closed open_now
         | inr none ↦ not_open_unopened (a other) (unopened other) (state_same IsOpen (a other) (stopped.between other) (sym (stopped.before.others other none)) open_now)
       ]
+
+-- an input failed, or memory ran out
+
+pub input_failed : (order : Order) (slot : Slot) (a b : Slots) → HasStoppedAt (names_of order) slot a b HasFailedToTake → IsInputFailed order a b
+input_failed order slot a b stopped = record {
+  unused = unused_as_was order slot a b HasFailedToTake stopped;
+  rose = (slot, stopped.input, risen_since _ (a slot) (stopped.between slot) (here_kept order slot a b HasFailedToTake stopped) stopped.here.risen);
+  outputs = output_as_was order slot a b HasFailedToTake stopped;
+}
+
+pub inputs_ran_out : (order : Order) (slot : Slot) (a b : Slots) → HasStoppedAt (names_of order) slot a b HasRunOut → IsOutOfMemory order a b
+inputs_ran_out order slot a b stopped = record {
+  unused = unused_as_was order slot a b HasRunOut stopped;
+  counts = count_as_was order slot a b HasRunOut stopped stopped.here.faults;
+  outputs = output_as_was order slot a b HasRunOut stopped;
+}
 
 -- all inputs were taken, and then the command finished
 

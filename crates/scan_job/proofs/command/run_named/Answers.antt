@@ -2,13 +2,13 @@ use Rattle.std.proofs.Common.{◌≡◌, Err, subst, arith}
 use Rattle.text_scan.specs.declared.fault.Fault.{Fault}
 use Rattle.desk_io.specs.declared.slot.Slot.TheVariants.{Verilog}
 use Rattle.desk_io.specs.declared.names.Names.{Names}
-use Rattle.desk_io.specs.Prefixes.{IsTooLarge}
+use Rattle.desk_io.specs.Prefixes.{IsTooLarge, HasFailedToTake, HasRunOut}
 use Rattle.desk_io.specs.declared.inputs.InputsFault.{InputsFault}
 use Rattle.desk_io.specs.Inputs.{limit_of, HasTakenInputs, HasStoppedAt, HasStopped}
 use Rattle.scan_job.specs.Commands.{names_of}
 use Rattle.scan_job.specs.FirstFault.{size_fault}
 use Rattle.scan_job.specs.Phases.{HasSaid}
-use Rattle.scan_job.proofs.Phases.{small_input, finished, found_large, said_ended}
+use Rattle.scan_job.proofs.Phases.{small_input, finished, input_failed, inputs_ran_out, found_large, said_ended}
 use Rattle.scan_job.proofs.command.run_named.Goals as goal
 
 pub finish-requires-clause-small : goal.finish-requires-clause-small
@@ -36,3 +36,19 @@ returns-in-Err-TooLarge g c =
     let said = subst (λ (names : Names). HasSaid names c.size_fault.result b after c.refuse.result) c.requires.named c.refuse.ensures.ended in
     let said_it = subst (λ (fault : Fault). HasSaid (names_of c.args.order.now) fault b after c.refuse.result) c.size_fault.ensures.value said in
     record { ended = said_ended c.args.order.now (size_fault slot) a b after (found_large c.args.order.now slot a b c.requires.unopened stopped) c.refuse.result said_it }
+
+pub returns-in-Err-Read : goal.returns-in-Err-Read
+returns-in-Err-Read g c =
+    let a = g.D.Desk.state c.args.desk.now in
+    let b = g.D.Desk.state c.take_inputs.new.desk in
+    let at = subst (λ (fault : InputsFault). HasStopped c.args.names.now a b (Err fault)) c.in-Err-Read.field-0-is c.in-Err-Read.ensures.stopped in
+    let stopped = subst (λ (names : Names). HasStoppedAt names at.0 a b HasFailedToTake) c.requires.named at.1 in
+    record { ended = input_failed c.args.order.now at.0 a b stopped }
+
+pub returns-in-Err-NoMemory : goal.returns-in-Err-NoMemory
+returns-in-Err-NoMemory g c =
+    let a = g.D.Desk.state c.args.desk.now in
+    let b = g.D.Desk.state c.take_inputs.new.desk in
+    let at = subst (λ (fault : InputsFault). HasStopped c.args.names.now a b (Err fault)) c.in-Err-NoMemory.field-0-is c.in-Err-NoMemory.ensures.stopped in
+    let stopped = subst (λ (names : Names). HasStoppedAt names at.0 a b HasRunOut) c.requires.named at.1 in
+    record { ended = inputs_ran_out c.args.order.now at.0 a b stopped }

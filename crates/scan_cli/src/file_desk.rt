@@ -1,0 +1,103 @@
+// The desk over real files and standard output.
+ghost use Rattle.std.specs.Prelude.{◌≡◌, None, true, slice_index, slice_index_or};
+ghost use Rattle.desk_io.specs.declared.slot.Slot.{Slot};
+ghost use Rattle.desk_io.specs.declared.slot.Stage.TheVariants.{Unopened};
+ghost use Rattle.desk_io.specs.Number.{number};
+
+use desk_io::{Desk, Failed, Slot, Stage};
+use std::fs;
+use std::fs::File;
+use std::io::{Read, Write};
+
+/// Real files, opened by their names, and standard output as the console.
+#[derive(Drop)]
+pub struct FileDesk {
+    rt: HostRuntime,
+    files: [Option<File>; 9],
+    stages: [Stage; 9],
+    faults: [u64; 9],
+}
+
+impl FileDesk {
+    pub fn new(rt: HostRuntime) -> FileDesk
+        ensures unopened { (slot : Slot) → slice_index_or result.stages (number slot) Unopened ≡ Unopened }
+        ensures faults { (slot : Slot) → slice_index result.faults (number slot) ≡ 0 }
+    {
+        FileDesk {
+            rt,
+            files: [None, None, None, None, None, None, None, None, None],
+            stages: [Stage::Unopened; 9],
+            faults: [0; 9],
+        }
+    }
+}
+
+impl Desk for FileDesk {
+    ghost state = { λ desk slot. record {
+      stage = slice_index_or desk.stages (number slot) Unopened;
+      unread = None;
+      written = None;
+      faults = slice_index desk.faults (number slot);
+    } };
+
+    ghost allows = { λ desk slot name. true };
+
+    fn open(&mut self, slot: Slot, name: &str) -> Result<(), Failed> {
+        let at = slot.number();
+        let opened = match slot {
+            Slot::Table | Slot::Lef | Slot::Verilog | Slot::Def | Slot::Stil => fs::open(
+                &self.rt, name,
+            ).map(Some),
+            Slot::OutVerilog | Slot::OutDef | Slot::OutStil => fs::create(&self.rt, name).map(Some),
+            Slot::Console => Ok(None),
+        };
+        match opened {
+            Ok(file) => {
+                self.files[at] = file;
+                self.stages[at] = Stage::Open;
+                Ok(())
+            }
+            Err(_) => {
+                self.faults[at] = self.faults[at].saturating_add(1);
+                Err(Failed)
+            }
+        }
+    }
+
+    fn read(&mut self, slot: Slot, room: &mut [u8]) -> Result<usize, Failed> {
+        let at = slot.number();
+        if let Some(file) = &mut self.files[at] {
+            if let Ok(count) = file.read(room) {
+                return Ok(count);
+            }
+        }
+        self.faults[at] = self.faults[at].saturating_add(1);
+        Err(Failed)
+    }
+
+    fn write(&mut self, slot: Slot, piece: &[u8]) -> Result<usize, Failed> {
+        let at = slot.number();
+        let written = match &mut self.files[at] {
+            Some(file) => file.write(piece),
+            None => self.rt.stdout().write(piece),
+        };
+        match written {
+            Ok(0) => {
+                self.faults[at] = self.faults[at].saturating_add(1);
+                Ok(0)
+            }
+            Ok(count) => Ok(count),
+            Err(_) => {
+                self.faults[at] = self.faults[at].saturating_add(1);
+                Err(Failed)
+            }
+        }
+    }
+
+    fn close(&mut self, slot: Slot) -> Result<(), Failed> {
+        let at = slot.number();
+        self.files[at] = None;
+        self.stages[at] = Stage::Closed;
+        Ok(())
+    }
+}

@@ -1,0 +1,41 @@
+//! The command line program over real files.
+//!
+//! Floor: top, on scan_job.
+#![tactic(auto)]
+
+mod file_desk;
+
+use file_desk::FileDesk;
+use scan_job::run;
+use std::alloc::Global;
+use std::io::ErrorKind;
+use std::process::ExitCode;
+use std::{env, io};
+use text_scan::Word;
+
+/// The status of words that are of no written form.
+const NO_FORM: u8 = 1;
+
+/// The status of want of memory.
+const NO_MEMORY: u8 = 5;
+
+/// The words behind the program's name.
+fn words_of(rt: &HostRuntime, alloc: Global) -> io::Result<Vec<Word>> {
+    let mut words = Vec::new(alloc);
+    for word in env::args(rt)?.skip(1) {
+        words.push(Word::of(word))?;
+    }
+    Ok(words)
+}
+
+fn main(rt: HostRuntime) -> ExitCode {
+    let alloc = rt.alloc();
+    match words_of(&rt, alloc) {
+        Ok(words) => {
+            let mut desk = FileDesk::new(rt);
+            ExitCode::from(run(alloc, &words, &mut desk))
+        }
+        Err(error) if error.kind() == ErrorKind::OutOfMemory => ExitCode::from(NO_MEMORY),
+        Err(_) => ExitCode::from(NO_FORM),
+    }
+}
