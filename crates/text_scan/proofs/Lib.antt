@@ -1,0 +1,4 @@
+pub mod Cuts
+pub mod LineLemmas
+pub mod StatementLemmas
+pub mod VerilogPieces
