@@ -4,7 +4,7 @@ use Rattle.std.proofs.Common.{◌≡◌, ℕ, zero, suc, ◌+◌, ◌-◌, ◌<�
 use Rattle.std.proofs.lemmas.List.{drop-drop, drop_more, drop_all, append-nil}
 use Rattle.text_scan.specs.declared.span.Span.{Span}
 use Rattle.text_scan.specs.declared.piece.Piece.{Piece}
-use Rattle.text_scan.specs.declared.piece.Piece.TheVariants.{Blank, Token}
+use Rattle.text_scan.specs.declared.piece.Piece.TheVariants.{Blank}
 use Rattle.text_scan.specs.Pieces.{piece_len, span_of, tokens_from}
 
 -- a piece of a text of n bytes that isn't empty

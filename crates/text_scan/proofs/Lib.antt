@@ -1,4 +1,5 @@
 pub mod Cuts
 pub mod LineLemmas
+pub mod Lists
 pub mod StatementLemmas
 pub mod VerilogPieces

@@ -1,5 +1,5 @@
 -- Each piece of a Verilog text has a byte at least, and lies in the text.
-use Rattle.std.proofs.Common.{◌≡◌, ℕ, zero, suc, ◌+◌, ◌-◌, ◌<◌, ◌≤◌, Bool, true, false, cond, min, List, [], ◌∷◌, length, take, drop, get_or, eqb, not, refl, sym, ap, ◌∙◌, arith, length-drop, ◌&&◌}
+use Rattle.std.proofs.Common.{◌≡◌, ℕ, ◌+◌, ◌<◌, ◌≤◌, Bool, true, false, cond, min, List, [], ◌∷◌, length, drop, get_or, eqb, not, refl, ap, ◌∙◌, arith, length-drop, ◌&&◌}
 use Rattle.std.specs.Prelude.{nat_lt}
 use Rattle.std.specs.List.{prefix_len}
 use Rattle.std.proofs.lemmas.List.{drop_more}
@@ -7,8 +7,7 @@ use Rattle.std.proofs.lemmas.List.Sums.{prefix_len-le-length}
 use Rattle.std.proofs.lemmas.Bool.Decides.{nat_tests}
 use Rattle.text_scan.specs.declared.piece.Piece.{Piece}
 use Rattle.text_scan.specs.declared.piece.Piece.TheVariants.{Blank, Token}
-use Rattle.text_scan.specs.Pieces.{piece_len}
-use Rattle.text_scan.specs.VerilogTokens.{is_blank, is_digit, is_digit_of, is_word, is_directive, digits_len, based_len, number_len, closed_len, line_len, slash_piece, open_piece, tick_piece, escaped_piece, piece_at}
+use Rattle.text_scan.specs.VerilogTokens.{is_blank, is_digit, is_digit_of, is_word, digits_len, based_len, number_len, closed_len, line_len, slash_piece, open_piece, tick_piece, escaped_piece, piece_at}
 use Rattle.text_scan.proofs.Cuts.{IsWithin, IsCut}
 
 cond_within : (b : Bool) (p q : Piece) (n : ℕ) → IsWithin p n → IsWithin q n → IsWithin (cond b p q) n

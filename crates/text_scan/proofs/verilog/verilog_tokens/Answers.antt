@@ -3,7 +3,7 @@ use Rattle.std.proofs.lemmas.List.{take_rest}
 use Rattle.std.proofs.lemmas.List.Elements.{All-push}
 use Rattle.text_scan.specs.declared.piece.Piece.TheVariants.{Blank, Token}
 use Rattle.text_scan.specs.Tokens.{IsSpanOf}
-use Rattle.text_scan.specs.VerilogTokens.{piece_at, verilog_tokens}
+use Rattle.text_scan.specs.VerilogTokens.{piece_at}
 use Rattle.text_scan.proofs.Cuts.{goes_on, ends}
 use Rattle.text_scan.proofs.VerilogPieces.{verilog_cut}
 use Rattle.text_scan.proofs.verilog.verilog_tokens.Goals as goal
