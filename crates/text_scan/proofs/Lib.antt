@@ -1,5 +1,10 @@
 pub mod Cuts
 pub mod LineLemmas
 pub mod Lists
+pub mod SplitLaw
 pub mod StatementLemmas
+pub mod VerilogBlanks
+pub mod VerilogLongest
+pub mod VerilogNumbers
 pub mod VerilogPieces
+pub mod VerilogSplitLaw

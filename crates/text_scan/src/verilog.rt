@@ -2,6 +2,7 @@ ghost use Rattle.std.specs.Prelude.{◌≡◌, ◌+◌, ◌<◌, ◌≤◌, ◌^
 ghost use Rattle.std.specs.List.{prefix_len};
 ghost use Rattle.text_scan.specs.Pieces.{piece_len};
 ghost use Rattle.text_scan.specs.Tokens.{AreSpansOf};
+ghost use Rattle.text_scan.specs.VerilogSplit.{IsTokenSplit};
 ghost use Rattle.text_scan.specs.VerilogTokens.{is_blank, is_digit, is_word_start, is_word, closed_len, line_len, is_directive, number_len, slash_piece, open_piece, tick_piece, escaped_piece, piece_at, verilog_tokens};
 
 use crate::memory::NoMemory;
@@ -168,6 +169,8 @@ fn push_span(spans: &mut Vec<Span>, span: Span) -> Result<(), NoMemory>
 /// directives stand between them (IEEE 1364-2005, section 3). A token takes nine bytes of memory.
 pub fn verilog_tokens(alloc: Global, bytes: &[u8]) -> Result<Vec<Span>, NoMemory>
     requires { length bytes.now < 2 ^ 32 }
+    // Each span is the longest token at its place, and only blanks stand around the spans.
+    ensures split { IfOk result (λ spans. IsTokenSplit bytes.now spans.items) }
     ensures value { IfOk result (λ spans. spans.items ≡ verilog_tokens bytes.now) }
     ensures within { IfOk result (λ spans. AreSpansOf bytes.now spans.items) }
 {

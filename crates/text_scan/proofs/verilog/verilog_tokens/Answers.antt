@@ -1,4 +1,4 @@
-use Rattle.std.proofs.Common.{sym, append-nil, ◌∙◌, arith, ap}
+use Rattle.std.proofs.Common.{subst, sym, append-nil, ◌∙◌, arith, ap}
 use Rattle.std.proofs.lemmas.List.{take_rest}
 use Rattle.std.proofs.lemmas.List.Elements.{All-push}
 use Rattle.text_scan.specs.declared.piece.Piece.TheVariants.{Blank, Token}
@@ -6,6 +6,8 @@ use Rattle.text_scan.specs.Tokens.{IsSpanOf}
 use Rattle.text_scan.specs.VerilogTokens.{piece_at}
 use Rattle.text_scan.proofs.Cuts.{goes_on, ends}
 use Rattle.text_scan.proofs.VerilogPieces.{verilog_cut}
+use Rattle.text_scan.specs.VerilogSplit.{IsTokenSplit}
+use Rattle.text_scan.proofs.VerilogSplitLaw.{verilog_split}
 use Rattle.text_scan.proofs.verilog.verilog_tokens.Goals as goal
 
 pub loop-at-preserved-in-Blank : goal.loop-at-preserved-in-Blank
@@ -26,3 +28,8 @@ loop-at-preserved c =
 
 pub returns-clause-value : goal.returns-clause-value
 returns-clause-value c = ends piece_at _ c.loop-at.at c.loop-at.spans.items _ c.loop-at-test.false c.loop-at.invariant.same
+
+pub returns-clause-split : goal.returns-clause-split
+returns-clause-split c =
+    let same = ends piece_at c.args.bytes.now c.loop-at.at c.loop-at.spans.items _ c.loop-at-test.false c.loop-at.invariant.same in
+    subst (IsTokenSplit c.args.bytes.now) (sym same) (verilog_split c.args.bytes.now)
