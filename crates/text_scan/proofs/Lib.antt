@@ -1,10 +1,13 @@
 pub mod Cuts
+pub mod Fronts
 pub mod LineLemmas
 pub mod Lists
+pub mod Reaches
 pub mod SplitLaw
 pub mod StatementLemmas
 pub mod VerilogBlanks
 pub mod VerilogLongest
 pub mod VerilogNumbers
 pub mod VerilogPieces
+pub mod VerilogSeams
 pub mod VerilogSplitLaw

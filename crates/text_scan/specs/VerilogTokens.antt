@@ -117,5 +117,5 @@ abbrev pub verilog_tokens : List ℕ → List Span
 verilog_tokens text = tokens_from piece_at 0 0 text
 
 -- their bytes alone
-unfoldable pub texts : List ℕ → List (List ℕ)
+abbrev pub texts : List ℕ → List (List ℕ)
 texts text = texts_from piece_at 0 text
