@@ -2,11 +2,14 @@ pub mod Cuts
 pub mod Fronts
 pub mod LineLemmas
 pub mod Lists
+pub mod NameTokens
 pub mod Reaches
 pub mod SplitLaw
 pub mod StatementLemmas
 pub mod VerilogBlanks
+pub mod VerilogLaws
 pub mod VerilogLongest
+pub mod VerilogMarks
 pub mod VerilogNumbers
 pub mod VerilogPieces
 pub mod VerilogSeams

@@ -1,11 +1,11 @@
 -- From one place of a text to another, token by token, for any form of tokens.
-use Rattle.std.proofs.Common.{◌≡◌, ℕ, zero, suc, ◌+◌, ◌-◌, ◌<◌, ◌≤◌, List, [], ◌∷◌, ◌++◌, length, take, drop, map, refl, sym, ap, ◌∙◌, subst, inl, inr, arith, length-append, length-drop, append_assoc}
+use Rattle.std.proofs.Common.{◌≡◌, ℕ, zero, suc, ◌+◌, ◌-◌, ◌<◌, ◌≤◌, List, [], ◌∷◌, ◌++◌, length, take, drop, refl, sym, ap, ◌∙◌, subst, inl, inr, arith, length-drop}
 use Rattle.std.proofs.lemmas.List.{drop-drop, drop_all, length-take, take-take, take-append-drop}
 use Rattle.std.proofs.lemmas.Bool.{cases_lt}
 use Rattle.text_scan.specs.declared.span.Span.{Span}
 use Rattle.text_scan.specs.declared.piece.Piece.{Piece}
 use Rattle.text_scan.specs.declared.piece.Piece.TheVariants.{Blank, Token}
-use Rattle.text_scan.specs.Pieces.{piece_len, span_of, tokens_from, text_of, texts_from}
+use Rattle.text_scan.specs.Pieces.{piece_len, tokens_from, texts_from}
 use Rattle.text_scan.specs.Seams.{bytes_of, texts_of, end_of, IsRun}
 use Rattle.text_scan.proofs.Cuts.{IsCut, Steps, steps}
 use Rattle.text_scan.proofs.Fronts.{IsSeamForm, IsMark, Front, front_nil, front_blank, front_token, front_mark, part, part-append, part-drop, part-length, texts-step}

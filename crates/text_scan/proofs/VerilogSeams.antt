@@ -1,20 +1,19 @@
 -- Verilog's tokens at a seam: what stands behind a piece's end does not change the piece, where a mark stands between a
 -- number or a backtick and the seam, and the new text begins with neither a blank nor a star.
-use Rattle.std.proofs.Common.{◌≡◌, ℕ, zero, suc, ◌+◌, ◌-◌, ◌<◌, ◌≤◌, Bool, true, false, cond, not, ◌&&◌, ◌||◌, eqb, min, List, [], ◌∷◌, ◌++◌, length, take, drop, refl, sym, ap, ◌∙◌, subst, inl, inr, arith, length-append, length-drop}
-use Rattle.std.specs.Prelude.{nat_lt, nat_le}
+use Rattle.std.proofs.Common.{◌≡◌, ℕ, suc, ◌+◌, ◌<◌, ◌≤◌, Bool, true, false, cond, not, ◌&&◌, ◌||◌, eqb, min, List, [], ◌∷◌, ◌++◌, length, take, drop, refl, sym, ap, ◌∙◌, inl, inr, arith, length-append, length-drop}
+use Rattle.std.specs.Prelude.{nat_le}
 use Rattle.std.specs.List.{prefix_len, list_all}
 use Rattle.std.proofs.lemmas.List.{drop-append-le, take-append-le}
 use Rattle.std.proofs.lemmas.List.Sums.{prefix_len-le-length}
-use Rattle.std.proofs.lemmas.Bool.{eqb-true, and_left, and_right, cases_lt, cases_Bool}
+use Rattle.std.proofs.lemmas.Bool.{eqb-true, and_left, and_right, cases_Bool}
 use Rattle.std.proofs.lemmas.Bool.Decides.{nat_tests}
 use Rattle.text_scan.specs.declared.piece.Piece.{Piece}
 use Rattle.text_scan.specs.declared.piece.Piece.TheVariants.{Blank, Token}
-use Rattle.text_scan.specs.Pieces.{piece_len}
 use Rattle.text_scan.specs.VerilogTokens.{is_blank, is_digit, is_word_start, is_word, is_unknown, is_hex_digit, is_digit_of, is_directive, digits_len, based_len, number_len, closed_len, line_len, slash_piece, open_piece, tick_piece, escaped_piece, piece_at}
 use Rattle.text_scan.specs.Seams.{Starts}
 use Rattle.text_scan.proofs.VerilogPieces.{verilog_cut}
-use Rattle.text_scan.proofs.VerilogLongest.{choose, not_byte}
-use Rattle.text_scan.proofs.Fronts.{IsSeamForm, IsMark}
+use Rattle.text_scan.proofs.VerilogLongest.{choose}
+use Rattle.text_scan.proofs.Fronts.{IsSeamForm}
 
 -- a text that begins with a byte that is no blank
 record Black (z : List ℕ) : Type 0 where
@@ -201,12 +200,12 @@ based_hard (q ∷ base ∷ c ∷ cs) z hard =
     elim (cases_Bool (is_inner q)) [
       | inr e ↦ never (and_left (eqb q 39) (is_digit_of base c) (quote_only q e))
       | inl e ↦ elim (cases_Bool (is_inner base)) [
-          | inr f ↦ never (and_right (eqb q 39) (is_digit_of base c) (base_none base c f))
-          | inl f ↦ elim (cases_Bool (is_inner c)) [
-              | inr g ↦ never (and_right (eqb q 39) (is_digit_of base c) (digit_none base c g))
-              | inl g ↦ let hard' : Hard cs = rw (e, f, g) at hard in ap (λ (k : ℕ). cond (eqb q 39 && is_digit_of base c) (3 + k) 0) (digits_hard base cs z hard')
-            ]
+        | inr f ↦ never (and_right (eqb q 39) (is_digit_of base c) (base_none base c f))
+        | inl f ↦ elim (cases_Bool (is_inner c)) [
+          | inr g ↦ never (and_right (eqb q 39) (is_digit_of base c) (digit_none base c g))
+          | inl g ↦ let hard' : Hard cs = rw (e, f, g) at hard in ap (λ (k : ℕ). cond (eqb q 39 && is_digit_of base c) (3 + k) 0) (digits_hard base cs z hard')
         ]
+      ]
     ]
 
 number_hard : (bs z : List ℕ) → Hard bs → number_len (bs ++ z) ≡ number_len bs
@@ -292,8 +291,8 @@ module _ (y z : List ℕ) (n : ℕ) (b : Black y) (none : prefix_len is_blank z 
       cond_keeps (Blank n) (eqb c 47) _ _ _ _
       (λ t e. let k = blank_is _ n e in ap (λ (m : ℕ). Blank (2 + m)) (line_same cs y z b (omega arith)) ∙ e)
       (λ t. cond_keeps (Blank n) (eqb c 42) _ _ _ _
-          (λ t e. let k = blank_is _ n e in ap (λ (m : ℕ). Blank (2 + m)) (closed_here 47 cs y z b (omega arith)) ∙ e)
-          (λ t e. e))
+      (λ t e. let k = blank_is _ n e in ap (λ (m : ℕ). Blank (2 + m)) (closed_here 47 cs y z b (omega arith)) ∙ e)
+      (λ t e. e))
 
   open_keeps : (bs : List ℕ) → n ≤ suc (length bs) → Keeps (Blank n) (open_piece (bs ++ y)) (open_piece (bs ++ z))
   unfolding Keeps open_piece
@@ -395,7 +394,7 @@ module _ (y z : List ℕ) (n : ℕ) where
       let ty = take-append-le w bs y le in
       let tz = take-append-le w bs z le in
       let none : is_directive (take w bs) ≡ false = tick_none (is_directive (take w bs)) w (line_len (drop w (bs ++ y)))
-          (ap (λ (x : List ℕ). tick_shape (is_directive x) w (line_len (drop w (bs ++ y)))) (sym ty) ∙ ap (λ (k : ℕ). tick_shape (is_directive (take k (bs ++ y))) k (line_len (drop k (bs ++ y)))) (sym ry) ∙ e)
+      (ap (λ (x : List ℕ). tick_shape (is_directive x) w (line_len (drop w (bs ++ y)))) (sym ty) ∙ ap (λ (k : ℕ). tick_shape (is_directive (take k (bs ++ y))) k (line_len (drop k (bs ++ y)))) (sym ry) ∙ e)
       in
       let one : 1 ≡ n = tick_one _ _ _ e in
       ap (λ (k : ℕ). tick_shape (is_directive (take k (bs ++ z))) k (line_len (drop k (bs ++ z)))) rz
@@ -406,6 +405,7 @@ module _ (y z : List ℕ) (n : ℕ) where
       tick_none : (d : Bool) (w m : ℕ) → tick_shape d w m ≡ Token n → d ≡ false
       tick_none true w m e = absurd cc
       tick_none false w m e = refl
+
       tick_one : (d : Bool) (w m : ℕ) → tick_shape d w m ≡ Token n → 1 ≡ n
       tick_one true w m e = absurd cc
       tick_one false w m e = token_is 1 n e
@@ -416,7 +416,7 @@ module _ (y z : List ℕ) (n : ℕ) where
       cond_keeps (Token n) (is_blank a) _ _ _ _ (λ t. no_blank _ n _)
       (λ t. cond_keeps (Token n) (is_word_start a) _ _ _ _ (λ t. same_token n _ _ (λ i. run is_word bs y z (omega arith)))
       (λ t. cond_keeps (Token n) (is_digit a) _ _ _ _
-          (λ t. same_token n _ _ (λ i. let hard' = hard_behind a bs (digit_is_inner a t) hard in number_hard bs z hard' ∙ sym (number_hard bs y hard')))
+      (λ t. same_token n _ _ (λ i. let hard' = hard_behind a bs (digit_is_inner a t) hard in number_hard bs z hard' ∙ sym (number_hard bs y hard')))
       (λ t. cond_keeps (Token n) (eqb a 92) _ _ _ _ (λ t. escaped_keeps bs lt)
       (λ t. cond_keeps (Token n) (eqb a 47) _ _ _ _ (λ t. slash_token bs lt)
       (λ t. cond_keeps (Token n) (eqb a 40) _ _ _ _ (λ t. open_token bs lt)
