@@ -34,3 +34,6 @@ pub use stop::Stop;
 pub use tokens::{Lexeme, Tokens};
 pub use verilog::verilog_tokens;
 pub use word::Word;
+
+#[cfg(test)]
+mod tests;
