@@ -5,6 +5,7 @@ pub mod Lists
 pub mod NameTokens
 pub mod Reaches
 pub mod SplitLaw
+pub mod SplitUnique
 pub mod StatementLemmas
 pub mod VerilogBlanks
 pub mod VerilogLaws
@@ -14,3 +15,4 @@ pub mod VerilogNumbers
 pub mod VerilogPieces
 pub mod VerilogSeams
 pub mod VerilogSplitLaw
+pub mod VerilogUnique

@@ -37,7 +37,7 @@ module _ (closing : ℕ) where
         in cases (eqb b 42 && eqb c closing) refl
 
 -- behind a run of bytes that end no line, the line goes on
-run_in_line : (p : ℕ → Bool) (bs : List ℕ) → p 10 ≡ false → line_len bs ≡ prefix_len p bs + line_len (drop (prefix_len p bs) bs)
+pub run_in_line : (p : ℕ → Bool) (bs : List ℕ) → p 10 ≡ false → line_len bs ≡ prefix_len p bs + line_len (drop (prefix_len p bs) bs)
 run_in_line p [] fails = refl
 run_in_line p (b ∷ bs) fails =
     let more = run_in_line p bs fails in
@@ -82,7 +82,7 @@ at_byte : (b c : ℕ) (bs : List ℕ) (n : ℕ) → eqb b c ≡ true → IsBlank
 at_byte b c bs n e part = let same = eqb-true b c e in rw same part
 
 -- a blank piece that begins with no blank
-part_is : (b : ℕ) (bs : List ℕ) (n : ℕ) → is_blank b ≡ false → piece_at (b ∷ bs) ≡ Blank n → IsBlankPart (b ∷ bs) n
+pub part_is : (b : ℕ) (bs : List ℕ) (n : ℕ) → is_blank b ≡ false → piece_at (b ∷ bs) ≡ Blank n → IsBlankPart (b ∷ bs) n
 unfolding piece_at
 part_is b bs n black h =
     choose (is_blank b) _ _ _ h (λ e k. absurd cc)

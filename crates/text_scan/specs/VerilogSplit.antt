@@ -3,7 +3,7 @@ use Rattle.std.specs.Prelude.{◌≡◌, ℕ, suc, ◌+◌, ◌<◌, ◌≤◌, 
 use Rattle.std.specs.List.{list_all, prefix_len}
 use Rattle.text_scan.specs.declared.span.Span.{Span}
 use Rattle.text_scan.specs.Splits.{SplitFrom}
-use Rattle.text_scan.specs.VerilogTokens.{is_blank, is_digit, is_word_start, is_word, is_digit_of, is_directive, line_len}
+use Rattle.text_scan.specs.VerilogTokens.{is_blank, is_digit, is_word_start, is_word, is_digit_of, is_directive, line_len, verilog_tokens}
 
 -- digits of this base, with _ before any but the first
 abbrev pub are_digits_of : ℕ → List ℕ → Bool
@@ -77,3 +77,7 @@ pub data IsBlankPart (text : List ℕ) (n : ℕ) : Type 0 where
 -- the spans are the tokens of the text
 abbrev pub IsTokenSplit : List ℕ → List Span → Type 0
 IsTokenSplit text spans = SplitFrom IsBlankPart IsLongestToken text 0 spans
+
+-- no other spans are
+abbrev pub OnlyLaw : Type 0
+OnlyLaw = (text : List ℕ) (spans : List Span) → IsTokenSplit text spans → spans ≡ verilog_tokens text

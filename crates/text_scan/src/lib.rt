@@ -23,7 +23,7 @@ mod word;
 pub use escapes::plain_name;
 pub use fault::{Fault, FileKind, ReadFault, Spot};
 pub use kind::Kind;
-pub use laws::{name_law, seam_law};
+pub use laws::{name_law, seam_law, split_law};
 pub use lines::{Lines, line_of};
 pub use memory::NoMemory;
 pub use name::{Name, Text};
