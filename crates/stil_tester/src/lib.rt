@@ -1,0 +1,15 @@
+//! Shifts scan chains and plays patterns, cell by cell.
+//!
+//! Floor: patterns, on text_scan and stil_reader.
+//! Contract: `shift_step`, `scan_call` and `play` do what `specs/Shifting.antt` and
+//! `specs/Runs.antt` say, and `device_law` says that no device tells patterns of the same
+//! meaning apart. Begin with `specs/Symbols.antt`.
+#![tactic(auto)]
+
+mod chains;
+mod results;
+mod symbol;
+
+pub use chains::{ChainBits, Chains};
+pub use results::{PlayLog, ScanResult};
+pub use symbol::{Expect, Symbol};
