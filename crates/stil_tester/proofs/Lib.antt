@@ -1,1 +1,4 @@
+mod DeviceLaws
+pub mod Shifts
 mod Examples
+pub mod Lengths

@@ -7,9 +7,11 @@
 #![tactic(auto)]
 
 mod chains;
+mod device;
 mod results;
 mod symbol;
 
 pub use chains::{ChainBits, Chains};
+pub use device::{Device, Hold, Mix, Told};
 pub use results::{PlayLog, ScanResult};
 pub use symbol::{Expect, Symbol};
