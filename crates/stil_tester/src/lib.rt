@@ -9,9 +9,11 @@
 mod chains;
 mod device;
 mod results;
+mod shift;
 mod symbol;
 
 pub use chains::{ChainBits, Chains};
 pub use device::{Device, Hold, Mix, Told};
 pub use results::{PlayLog, ScanResult};
+pub use shift::shift_step;
 pub use symbol::{Expect, Symbol};
