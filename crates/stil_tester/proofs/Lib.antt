@@ -1,3 +1,4 @@
+pub mod Strings
 pub mod WellFormed
 mod DeviceLaws
 pub mod Shifts

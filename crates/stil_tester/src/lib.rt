@@ -9,11 +9,13 @@
 mod chains;
 mod device;
 mod results;
+mod scan;
 mod shift;
 mod symbol;
 
 pub use chains::{ChainBits, Chains};
 pub use device::{Device, Hold, Mix, Told};
 pub use results::{PlayLog, ScanResult};
+pub use scan::scan_call;
 pub use shift::shift_step;
 pub use symbol::{Expect, Symbol};

@@ -1,9 +1,8 @@
-ghost use Rattle.std.specs.Prelude.{◌≡◌, ℕ, ◌+◌, ◌-◌, ◌<◌, ◌≤◌, IfOk, OnErr, length, map, nat_eq, count_by, All, slice_index_or};
-ghost use Rattle.stil_tester.specs.Shifting.{AreChains, HasCells, IsCallFor, IsChain, all_moved_on, held_by, moved_on, numbers_of, output_of, scan_call as scan_call_of, shift_step as shift_step_of, with_symbols};
-ghost use Rattle.stil_tester.specs.Symbols.{padded_compare, padded_load};
+ghost use Rattle.std.specs.Prelude.{◌≡◌, ℕ, ◌<◌, ◌≤◌, All, count_by, length, map, nat_eq};
+ghost use Rattle.stil_tester.specs.Shifting.{AreChains, HasCells, IsChain, all_moved_on, held_by, moved_on, numbers_of, output_of, shift_step as shift_step_of, with_symbols};
 
 use crate::chains::{ChainBits, Chains};
-use crate::symbol::{Expect, Symbol};
+use crate::symbol::Symbol;
 
 /// One shift: all chains move on by one bit at once. Takes no memory.
 ///
