@@ -1,6 +1,7 @@
 pub mod Strings
 pub mod WellFormed
-mod DeviceLaws
+pub mod DeviceLaws
+pub mod Plays
 pub mod Shifts
 mod Examples
 pub mod Lengths

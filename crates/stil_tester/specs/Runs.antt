@@ -1,5 +1,5 @@
 -- A run of patterns over a list of answers (IEEE 1450-1999, Pattern statements), and the run that a device makes.
-use Rattle.std.specs.Prelude.{◌≡◌, ℕ, ◌+◌, ⊤, Bool, List, [], ◌∷◌, length, All}
+use Rattle.std.specs.Prelude.{◌≡◌, ℕ, ◌+◌, ◌≤◌, ⊤, Bool, List, [], ◌∷◌, length, take, All}
 use Rattle.std.specs.List.{flat_map}
 use Rattle.stil_reader.specs.declared.statement.ScanCall.{ScanCall}
 use Rattle.stil_reader.specs.declared.statement.PatternStatement.{PatternStatement}
@@ -20,9 +20,13 @@ pub data Event : Type 0 where
   Tells : (telling : Telling) → Event
   Shifts : (call : ScanCall) → Event
 
+-- what happens at a scan call: the device answers before the shifts and after them
+abbrev pub scan_events : ScanCall → List Event
+scan_events call = Tells Begins ∷ Shifts call ∷ Tells Ends ∷ []
+
 -- what happens at a statement
 abbrev pub events_of : PatternStatement → List Event
-events_of (Scan pattern text call line) = Tells Begins ∷ Shifts call ∷ Tells Ends ∷ []
+events_of (Scan pattern text call line) = scan_events call
 events_of (Other pattern text) = Tells (Reads text) ∷ []
 
 -- what happens at all statements, in order
@@ -104,11 +108,20 @@ pub record Play (S : Type 0) : Type 0 where
   pub results : Results
   pub device : S
 
-abbrev pub play_of : {S : Type 0} → Behaviour S → Chains → List PatternStatement → S → List Symbol → Play S
-play_of device chains statements state cells =
-    let answers = answers_along device chains (all_events statements) state cells in
+abbrev pub play_events : {S : Type 0} → Behaviour S → Chains → List Event → S → List Symbol → Play S
+play_events device chains events state cells =
+    let answers = answers_along device chains events state cells in
     record {
       answers = answers;
-      results = run_patterns chains statements cells answers;
-      device = device_after device chains (all_events statements) state cells;
+      results = run_events chains events cells answers;
+      device = device_after device chains events state cells;
     }
+
+-- a device plays statements: their run over the answers that it gives
+abbrev pub play_of : {S : Type 0} → Behaviour S → Chains → List PatternStatement → S → List Symbol → Play S
+play_of device chains statements state cells = play_events device chains (all_events statements) state cells
+
+-- the device and the cells are those after some statements from the front
+abbrev pub AreAfterSome : {S : Type 0} → Behaviour S → Chains → List PatternStatement → S → List Symbol → S → List Symbol → Type 0
+AreAfterSome device chains statements state cells state' cells' =
+    (n : ℕ) × (n ≤ length statements) × (state' ≡ (play_of device chains (take n statements) state cells).device) × (cells' ≡ (play_of device chains (take n statements) state cells).results.cells)

@@ -8,6 +8,8 @@
 
 mod chains;
 mod device;
+mod laws;
+mod playing;
 mod results;
 mod scan;
 mod shift;
@@ -15,6 +17,8 @@ mod symbol;
 
 pub use chains::{ChainBits, Chains};
 pub use device::{Device, Hold, Mix, Told};
+pub use laws::device_law;
+pub use playing::play;
 pub use results::{PlayLog, ScanResult};
 pub use scan::scan_call;
 pub use shift::shift_step;
