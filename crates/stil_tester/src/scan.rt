@@ -1,5 +1,5 @@
-ghost use Rattle.std.specs.Prelude.{◌≡◌, ℕ, ◌<◌, ◌≤◌, IfOk, OnErr, OnOk, length, slice_index_or};
-ghost use Rattle.stil_tester.specs.Shifting.{AreChains, HasCells, IsCallFor, all_met, expects_at, inputs_at, longest_string, scan_call as scan_call_of, string_length};
+ghost use Rattle.std.specs.Prelude.{◌≡◌, ℕ, ◌<◌, ◌≤◌, ◌↔◌, IfOk, IsTrue, OnErr, OnOk, length, slice_index_or};
+ghost use Rattle.stil_tester.specs.Shifting.{AllMet, AreChains, HasCells, IsCallFor, all_met, expects_at, inputs_at, longest_string, scan_call as scan_call_of, string_length};
 ghost use Rattle.stil_tester.specs.Symbols.{padded_compare, padded_load};
 
 use crate::chains::Chains;
@@ -24,6 +24,7 @@ pub fn scan_call(
     requires call { IsCallFor chains.now call.now }
     ensures cells { OnOk result (cells.new ≡ (scan_call_of chains.now cells.old call.now).loaded) }
     ensures verdict { IfOk result (λ passed. passed ≡ (scan_call_of chains.now cells.old call.now).passed) }
+    ensures met { IfOk result (λ passed. IsTrue passed ↔ AllMet chains.now cells.old call.now) }
     ensures unchanged { OnErr result (cells.new ≡ cells.old) }
 {
     let mut ins = ports(alloc, chains)?;
