@@ -1,7 +1,8 @@
 -- What well-formed chains give: each number below the count of cells, and no number twice.
-use Rattle.std.proofs.Common.{◌≡◌, ℕ, ◌+◌, ◌<◌, ◌≤◌, zero, suc, List, [], ◌∷◌, ◌++◌, length, get_or, take, drop, cond, refl, sym, ap, ◌∙◌, inl, inr, arith}
+use Rattle.std.proofs.Common.{Bool, ◌≡◌, ℕ, ◌+◌, ◌<◌, ◌≤◌, zero, suc, List, [], ◌∷◌, ◌++◌, length, get_or, take, drop, cond, refl, sym, ap, subst, ◌∙◌, inl, inr, arith}
 use Rattle.std.specs.Prelude.{All}
 use Rattle.std.proofs.Math.Seq.{drop-append_seam, take-append_seam}
+use Rattle.std.proofs.lemmas.List.{append-nil}
 use Rattle.std.proofs.lemmas.Bool.{cases_lt, ne_eqb}
 use Rattle.std.proofs.lemmas.List.Elements.{All-nil, All-cons, All-head, All-tail, All-take, All-drop, All-same, All-weaker}
 use Rattle.stil_tester.specs.declared.chains.ChainBits.{ChainBits}
@@ -49,3 +50,14 @@ below_of chains n h l = All-numbers_of (λ cell. cell < n) chains.chains (All-we
 pub parities_of : (chains : List ChainBits) → All IsChain chains → HaveParities chains
 parities_of [] h = tt
 parities_of (chain ∷ chains) h = ((All-head IsChain chain chains h).parities, parities_of chains (All-tail IsChain chain chains h))
+
+-- one chain with all cells
+pub one_chain : (cells : List ℕ) (parity : List Bool) (out_parity : Bool) (n : ℕ) → 0 < length cells → length parity ≡ length cells → ((cell : ℕ) → cell < n → count_of cell cells ≡ 1) → All (λ cell. cell < n) cells
+    → AreChains (record { chains = record { cells = cells; parity = parity; out_parity = out_parity } ∷ []; cells = n })
+one_chain cells parity out_parity n some e once below =
+    let chain : ChainBits = record { cells = cells; parity = parity; out_parity = out_parity } in
+    record {
+      each = All-cons IsChain chain [] (record { some = some; parities = e }) (All-nil IsChain);
+      once = λ cell l. subst (λ ns. count_of cell ns ≡ 1) (sym (append-nil cells)) (once cell l);
+      others = subst (λ ns. All (λ cell. cell < n) ns) (sym (append-nil cells)) below;
+    }
