@@ -1,0 +1,58 @@
+//! The same calls one element at a time, under the same contracts: what the lanes are held against.
+ghost use Rattle.std.specs.Prelude.{◌≡◌, ℕ, ℤ, pos, ◌+◌, ◌^◌, ◌<◌, ◌≤◌, ◌<ℤ◌, ◌≤ℤ◌, ◌==◌, length, count_by, unsigned_abs, IfSome, IfNone, slice_index, true, false};
+ghost use Rattle.std.specs.Simd.Lanes.{zip2};
+ghost use Rattle.lane_kernels.specs.Kernels.{flipped_where, is_allowed};
+
+/// How many of the bytes are `b`.
+pub fn count_byte(bytes: &[u8], b: u8) -> usize
+    ensures value { result ≡ count_by (λ x. x == b) bytes.now }
+{
+    let mut total = 0;
+    for x in bytes {
+        if *x == b {
+            total += 1;
+        }
+    }
+    total
+}
+
+/// What becomes of one symbol: with a mask of 0 it stays, else `0` and `1`, and `L` and `H`, are exchanged.
+pub fn flipped_byte(symbol: u8, mask: u8) -> u8
+    ensures value { result ≡ flipped_where symbol mask }
+{
+    if mask == 0 {
+        return symbol;
+    }
+    match symbol {
+        b'0' => b'1',
+        b'1' => b'0',
+        b'L' => b'H',
+        b'H' => b'L',
+        other => other,
+    }
+}
+
+/// Exchanges `0` and `1`, and `L` and `H`, where the mask is not 0; all else stays.
+pub fn flip_where(symbols: &mut [u8], mask: &[u8])
+    requires lengths { length symbols.old ≡ length mask.now }
+    ensures value { symbols.new ≡ zip2 flipped_where symbols.old mask.now }
+{
+    for at in 0..mask.len() {
+        symbols[at] = flipped_byte(symbols[at], mask[at]);
+    }
+}
+
+/// The least index of a byte that is not one of `allowed`, or None where each byte is.
+pub fn any_byte_outside(bytes: &[u8], allowed: &[u8]) -> Option<usize>
+    ensures within { IfSome result (λ k. k < length bytes.now) }
+    ensures found { IfSome result (λ k. is_allowed allowed.now (slice_index bytes.now k) ≡ false) }
+    ensures least { IfSome result (λ k. (j : ℕ) → j < k → is_allowed allowed.now (slice_index bytes.now j) ≡ true) }
+    ensures none { IfNone result ((j : ℕ) → j < length bytes.now → is_allowed allowed.now (slice_index bytes.now j) ≡ true) }
+{
+    for at in 0..bytes.len() {
+        if !allowed.contains(&bytes[at]) {
+            return Some(at);
+        }
+    }
+    None
+}
