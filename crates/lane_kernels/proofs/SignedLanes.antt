@@ -1,221 +1,171 @@
--- Signed lanes, whose bits a proof sees.
-use Rattle.std.proofs.Common.{◌≡◌, ℕ, ℤ, pos, negsuc, ◌+◌, ◌-◌, ◌*◌, ◌<◌, ◌≤◌, ◌^◌, ◌+ℤ◌, ◌-ℤ◌, List, [], ◌∷◌, length, get_or, refl, sym, ap, ◌∙◌, arith, map, w64, suc, to_z, of_z, unsigned_abs, cond, Bool, true, false, replicate, subst, eqb, not, ◌%◌, ◌≤ℤ◌, ◌<ℤ◌}
-use Rattle.std.specs.Simd.Lanes.{zip2, sel_l, Each1, Each2, top, chunk, mask_l}
+-- Vectors of signed lanes: what each lane holds, and how large it can be.
+use Rattle.std.proofs.Common.{◌≡◌, ℕ, ℤ, pos, ◌+◌, ◌-◌, ◌%◌, ◌^◌, ◌<◌, ◌≤◌, ◌+ℤ◌, ◌-ℤ◌, ◌≤ℤ◌, ◌<ℤ◌, List, [], ◌∷◌, Bool, true, false, not, cond, eqb, map, length, take, drop, get_or, replicate, refl, sym, ap, subst, ◌∙◌, arith, w64, to_z, of_z, unsigned_abs}
+use Rattle.std.specs.List.{prefix_len, range_with_len}
+use Rattle.std.specs.Simd.Lanes.{zip2, sel_l, Each2, top, mask_l}
 use Rattle.std.proofs.lemmas.Int.{ints, to_z-of_z}
-use Rattle.std.proofs.lemmas.List.{get_or-map, length-map}
-use Rattle.std.proofs.lemmas.Simd.{get_or-zip2, length-zip2, Each1-from_get_or, Each2-of, get_or-sel_l, length-sel_l, tops_compared, get_or-replicate, length-chunk, get_or-chunk, bitmask_splat, first_set_mask_l}
-use Rattle.lane_kernels.specs.Kernels.{HasLanes, AreWithin, AllWithin, distance}
+use Rattle.std.proofs.lemmas.List.FromFn.{get_or-map-range_with_len, length-map-range_with_len}
+use Rattle.std.proofs.lemmas.List.Sums.{prefix_len-le-length, prefix_len_passes, prefix_len_stops}
+use Rattle.std.proofs.lemmas.Simd.{zip2_of_maps, tops_compared, map-map, pick_l-range_with_len, bitmask_splat, first_set_mask_l}
+use Rattle.lane_kernels.specs.Kernels.{AllWithin, distance}
 use mir.Val.{SFits}
 use lib.Signed.{lt_z}
 use lib.Count.{count_trailing_zeros}
-use Rattle.std.specs.List.{prefix_len}
-use Rattle.std.proofs.lemmas.List.Sums.{prefix_len-le-length, prefix_len_passes, prefix_len_stops}
 
-abbrev pub less_bits : ℕ → ℕ → ℕ
-less_bits x y = of_z w64 (to_z w64 x -ℤ to_z w64 y)
+-- the bits of an operator's answer, from the bits of what it takes
+abbrev pub bits_of : (ℤ → ℤ → ℤ) → ℕ → ℕ → ℕ
+bits_of op x y = of_z w64 (op (to_z w64 x) (to_z w64 y))
 
-abbrev pub sum_bits : ℕ → ℕ → ℕ
-sum_bits x y = of_z w64 (to_z w64 x +ℤ to_z w64 y)
+abbrev pub minus : ℤ → ℤ → ℤ
+minus a b = a -ℤ b
 
-abbrev pub is_less : ℕ → ℕ → Bool
-is_less x y = lt_z (to_z w64 x) (to_z w64 y)
+abbrev pub plus : ℤ → ℤ → ℤ
+plus a b = a +ℤ b
 
-abbrev pub bits_of : List ℤ → List ℕ
-bits_of a = map (of_z w64) a
+abbrev pub is_below : ℕ → ℕ → Bool
+is_below x y = lt_z (to_z w64 x) (to_z w64 y)
 
-minus_fits : (x y : ℕ) → unsigned_abs (to_z w64 x) ≤ 2 ^ 62 - 1 → unsigned_abs (to_z w64 y) ≤ 2 ^ 62 - 1 → SFits w64 (to_z w64 x -ℤ to_z w64 y)
-minus_fits x y p q = omega (arith, ints)
+-- what `select` and `to_bitmask` read of a comparison
+abbrev pub marks : List ℕ → List ℕ → List Bool
+marks v w = map (top 63) (zip2 (λ x y. cond (is_below x y) (2 ^ 64 - 1) 0) v w)
 
-plus_fits : (x y : ℕ) → unsigned_abs (to_z w64 x) ≤ 2 ^ 62 - 1 → unsigned_abs (to_z w64 y) ≤ 2 ^ 62 - 1 → SFits w64 (to_z w64 x +ℤ to_z w64 y)
-plus_fits x y p q = omega (arith, ints)
+-- the lanes of a vector without their signs
+abbrev pub sizes : List ℕ → List ℕ
+sizes v = let n : List ℕ = zip2 (bits_of minus) (0 ∷ 0 ∷ 0 ∷ 0 ∷ []) v in sel_l (marks v n) n v
 
-minus_is : (a b : ℤ) → unsigned_abs a ≤ 2 ^ 62 - 1 → unsigned_abs b ≤ 2 ^ 62 - 1 → to_z w64 (less_bits (of_z w64 a) (of_z w64 b)) ≡ a -ℤ b
-minus_is a b p q = omega (arith, ints)
+-- the vector v has a lane for each place k of ks: the bits of f k, which is at most m in size
+pub record Holds (ks v : List ℕ) (f : ℕ → ℤ) (m : ℕ) : Type 0 where
+  pub lanes : v ≡ map (λ k. of_z w64 (f k)) ks
+  pub small : (k : ℕ) → unsigned_abs (f k) ≤ m
 
-plus_is : (a b : ℤ) → unsigned_abs a ≤ 2 ^ 62 - 1 → unsigned_abs b ≤ 2 ^ 62 - 1 → to_z w64 (sum_bits (of_z w64 a) (of_z w64 b)) ≡ a +ℤ b
-plus_is a b p q = omega (arith, ints)
-
-size_is : (a : ℤ) → unsigned_abs a ≤ 2 ^ 62 - 1 → (t : Bool) → is_less (of_z w64 a) (less_bits 0 (of_z w64 a)) ≡ t → to_z w64 (cond t (less_bits 0 (of_z w64 a)) (of_z w64 a)) ≡ pos (unsigned_abs a)
-size_is a p true e = omega (arith, ints)
-size_is a p false e = omega (arith, ints)
-
-pub back_is : (a : ℤ) → unsigned_abs a ≤ 2 ^ 62 - 1 → to_z w64 (of_z w64 a) ≡ a
+back_is : (a : ℤ) → unsigned_abs a ≤ 2 ^ 62 → to_z w64 (of_z w64 a) ≡ a
 back_is a p = omega (arith, ints)
 
-bits_at : (a : List ℤ) → length a ≡ 4 → (k : ℕ) → k < 4 → get_or (bits_of a) k 0 ≡ of_z w64 (get_or a k (pos 0))
-bits_at a p k l = get_or-map (of_z w64) a k (pos 0) 0 (omega arith)
+-- ---- loads and splats
+pub load : (at : ℕ) (xs : List ℤ) (m : ℕ) → at + 4 ≤ length xs → AllWithin m xs → Holds (range_with_len at 4) (map (of_z w64) (take 4 (drop at xs))) (λ k. get_or xs k (pos 0)) m
+load at xs m room within = record {
+  lanes = ap (map (of_z w64)) (sym (pick_l-range_with_len (pos 0) xs at 4 room)) ∙ map-map (of_z w64) (λ k. get_or xs k (pos 0)) (range_with_len at 4);
+  small = within;
+}
 
-bits_within : (a : List ℤ) → AreWithin a (2 ^ 62 - 1) → Each1 (λ (x : ℕ). unsigned_abs (to_z w64 x) ≤ 2 ^ 62 - 1) (bits_of a)
-bits_within a w =
-    Each1-from_get_or (λ (x : ℕ). unsigned_abs (to_z w64 x) ≤ 2 ^ 62 - 1) (bits_of a) 0 (λ k l.
-    let small : k < 4 = omega (arith, length-map a (of_z w64), w.long) in
-    let e : to_z w64 (get_or (bits_of a) k 0) ≡ get_or a k (pos 0) = ap (to_z w64) (bits_at a w.long k small) ∙ back_is (get_or a k (pos 0)) (w.each k small) in
-    subst (λ (z : ℤ). unsigned_abs z ≤ 2 ^ 62 - 1) (sym e) (w.each k small))
+pub splat : (at : ℕ) (x : ℤ) (m : ℕ) → unsigned_abs x ≤ m → Holds (range_with_len at 4) (replicate 4 (of_z w64 x)) (λ k. x) m
+splat at x m within = record { lanes = refl; small = λ k. within }
 
-pub less_asks : (a b : List ℤ) → AreWithin a (2 ^ 62 - 1) → AreWithin b (2 ^ 62 - 1) → Each2 (λ (x y : ℕ). SFits w64 (to_z w64 x -ℤ to_z w64 y)) (bits_of a) (bits_of b)
-less_asks a b p q = Each2-of (λ (x : ℕ). unsigned_abs (to_z w64 x) ≤ 2 ^ 62 - 1) (λ (x : ℕ). unsigned_abs (to_z w64 x) ≤ 2 ^ 62 - 1) (λ (x y : ℕ). SFits w64 (to_z w64 x -ℤ to_z w64 y)) minus_fits (bits_of a) (bits_of b) (bits_within a p) (bits_within b q)
+-- ---- sums and differences
+same_bits : (op : ℤ → ℤ → ℤ) (a b : ℤ) → unsigned_abs a ≤ 2 ^ 62 → unsigned_abs b ≤ 2 ^ 62 → bits_of op (of_z w64 a) (of_z w64 b) ≡ of_z w64 (op a b)
+same_bits op a b p q = λ t. of_z w64 (op (back_is a p t) (back_is b q t))
 
-pub plus_asks : (a b : List ℤ) → AreWithin a (2 ^ 62 - 1) → AreWithin b (2 ^ 62 - 1) → Each2 (λ (x y : ℕ). SFits w64 (to_z w64 x +ℤ to_z w64 y)) (bits_of a) (bits_of b)
-plus_asks a b p q = Each2-of (λ (x : ℕ). unsigned_abs (to_z w64 x) ≤ 2 ^ 62 - 1) (λ (x : ℕ). unsigned_abs (to_z w64 x) ≤ 2 ^ 62 - 1) (λ (x y : ℕ). SFits w64 (to_z w64 x +ℤ to_z w64 y)) plus_fits (bits_of a) (bits_of b) (bits_within a p) (bits_within b q)
+pub both : (op : ℤ → ℤ → ℤ) (ks v w : List ℕ) (f g : ℕ → ℤ) (m n r : ℕ) → m ≤ 2 ^ 62 → n ≤ 2 ^ 62 → Holds ks v f m → Holds ks w g n → ((k : ℕ) → unsigned_abs (op (f k) (g k)) ≤ r)
+    → Holds ks (zip2 (bits_of op) v w) (λ k. op (f k) (g k)) r
+both op ks v w f g m n r a b p q small = record {
+  lanes = zip2_of_maps (bits_of op) (λ k. of_z w64 (f k)) (λ k. of_z w64 (g k)) ks p.lanes q.lanes ∙ (λ t. map (λ k. same_bits op (f k) (g k) (omega (arith, p.small k)) (omega (arith, q.small k)) t) ks);
+  small = small;
+}
 
--- an operator on two vectors, at the bits of each lane
-lanes2 : (f : ℕ → ℕ → ℕ) (g : ℤ → ℤ → ℤ) (a b : List ℤ) → AreWithin a (2 ^ 62 - 1) → AreWithin b (2 ^ 62 - 1)
-    → ((x y : ℤ) → unsigned_abs x ≤ 2 ^ 62 - 1 → unsigned_abs y ≤ 2 ^ 62 - 1 → to_z w64 (f (of_z w64 x) (of_z w64 y)) ≡ g x y)
-    → HasLanes (map (to_z w64) (zip2 f (bits_of a) (bits_of b))) (λ k. g (get_or a k (pos 0)) (get_or b k (pos 0)))
-lanes2 f g a b p q h =
-    let la : length (bits_of a) ≡ 4 = length-map a (of_z w64) ∙ p.long in
-    let lb : length (bits_of b) ≡ 4 = length-map b (of_z w64) ∙ q.long in
-    let lz : length (zip2 f (bits_of a) (bits_of b)) ≡ 4 = length-zip2 f (bits_of a) (bits_of b) (la ∙ sym lb) ∙ la in
-    record {
-      long = length-map (zip2 f (bits_of a) (bits_of b)) (to_z w64) ∙ lz;
-      each = λ k l.
-          get_or-map (to_z w64) (zip2 f (bits_of a) (bits_of b)) k 0 (pos 0) (omega arith)
-          ∙ ap (to_z w64) (get_or-zip2 f (bits_of a) (bits_of b) k 0 0 0 (omega arith) (omega arith)
-          ∙ (λ i. f (bits_at a p.long k l i) (bits_at b q.long k l i)))
-          ∙ h (get_or a k (pos 0)) (get_or b k (pos 0)) (p.each k l) (q.each k l);
-    }
+Each2-maps : (R : ℕ → ℕ → Type 0) (g h : ℕ → ℕ) (ks : List ℕ) → ((k : ℕ) → R (g k) (h k)) → Each2 R (map g ks) (map h ks)
+Each2-maps R g h [] r = tt
+Each2-maps R g h (k ∷ ks) r = (r k, Each2-maps R g h ks r)
 
-pub less_lanes : (a b : List ℤ) → AreWithin a (2 ^ 62 - 1) → AreWithin b (2 ^ 62 - 1)
-    → HasLanes (map (to_z w64) (zip2 less_bits (bits_of a) (bits_of b))) (λ k. get_or a k (pos 0) -ℤ get_or b k (pos 0))
-less_lanes a b p q = lanes2 less_bits (λ x y. x -ℤ y) a b p q minus_is
+small_fits : (z : ℤ) → unsigned_abs z ≤ 2 ^ 62 → SFits w64 z
+small_fits z p = omega (arith, ints)
 
-pub plus_lanes : (a b : List ℤ) → AreWithin a (2 ^ 62 - 1) → AreWithin b (2 ^ 62 - 1)
-    → HasLanes (map (to_z w64) (zip2 sum_bits (bits_of a) (bits_of b))) (λ k. get_or a k (pos 0) +ℤ get_or b k (pos 0))
-plus_lanes a b p q = lanes2 sum_bits (λ x y. x +ℤ y) a b p q plus_is
+-- no lane overflows
+pub both_fit : (op : ℤ → ℤ → ℤ) (ks v w : List ℕ) (f g : ℕ → ℤ) (m n : ℕ) → m ≤ 2 ^ 62 → n ≤ 2 ^ 62 → Holds ks v f m → Holds ks w g n → ((k : ℕ) → unsigned_abs (op (f k) (g k)) ≤ 2 ^ 62)
+    → Each2 (λ x y. SFits w64 (op (to_z w64 x) (to_z w64 y))) v w
+both_fit op ks v w f g m n a b p q small =
+    let R : ℕ → ℕ → Type 0 = λ x y. SFits w64 (op (to_z w64 x) (to_z w64 y)) in
+    let each = Each2-maps R (λ k. of_z w64 (f k)) (λ k. of_z w64 (g k)) ks (λ k.
+      subst (SFits w64) (λ t. op (sym (back_is (f k) (omega (arith, p.small k))) t) (sym (back_is (g k) (omega (arith, q.small k))) t)) (small_fits (op (f k) (g k)) (small k))) in
+    subst (λ (x : List ℕ). Each2 R x w) (sym p.lanes) (subst (λ (y : List ℕ). Each2 R (map (λ k. of_z w64 (f k)) ks) y) (sym q.lanes) each)
 
-zeros_within : AreWithin (pos 0 ∷ pos 0 ∷ pos 0 ∷ pos 0 ∷ []) (2 ^ 62 - 1)
-zeros_within = record { long = refl; each = λ k l. subst (λ (z : ℤ). unsigned_abs z ≤ 2 ^ 62 - 1) (sym (get_or-replicate 4 k (pos 0) (pos 0) l)) (omega arith) }
+minus_small : (a b : ℤ) (m n : ℕ) → unsigned_abs a ≤ m → unsigned_abs b ≤ n → unsigned_abs (a -ℤ b) ≤ m + n
+minus_small a b m n p q = omega (arith, ints)
 
-pub size_asks : (a : List ℤ) → AreWithin a (2 ^ 62 - 1) → Each2 (λ (x y : ℕ). SFits w64 (to_z w64 x -ℤ to_z w64 y)) (0 ∷ 0 ∷ 0 ∷ 0 ∷ []) (bits_of a)
-size_asks a p = less_asks (pos 0 ∷ pos 0 ∷ pos 0 ∷ pos 0 ∷ []) a zeros_within p
+plus_small : (a b : ℤ) (m n : ℕ) → unsigned_abs a ≤ m → unsigned_abs b ≤ n → unsigned_abs (a +ℤ b) ≤ m + n
+plus_small a b m n p q = omega (arith, ints)
 
-pub size_lanes : (a : List ℤ) → AreWithin a (2 ^ 62 - 1)
-    → HasLanes (map (to_z w64) (sel_l (map (top 63) (zip2 (λ x y. cond (is_less x y) (2 ^ 64 - 1) 0) (bits_of a) (zip2 less_bits (0 ∷ 0 ∷ 0 ∷ 0 ∷ []) (bits_of a)))) (zip2 less_bits (0 ∷ 0 ∷ 0 ∷ 0 ∷ []) (bits_of a)) (bits_of a)))
-    (λ k. pos (unsigned_abs (get_or a k (pos 0))))
-size_lanes a p =
-    let xs : List ℕ = bits_of a in
+-- ---- sizes
+sel_l-maps : (b : ℕ → Bool) (g h : ℕ → ℕ) (ks : List ℕ) → sel_l (map b ks) (map g ks) (map h ks) ≡ map (λ k. cond (b k) (g k) (h k)) ks
+sel_l-maps b g h [] = refl
+sel_l-maps b g h (k ∷ ks) = ap (λ r. cond (b k) (g k) (h k) ∷ r) (sel_l-maps b g h ks)
+
+size_by : (a : ℤ) → unsigned_abs a ≤ 2 ^ 62 → (t : Bool) → is_below (of_z w64 a) (of_z w64 (pos 0 -ℤ a)) ≡ t → cond t (of_z w64 (pos 0 -ℤ a)) (of_z w64 a) ≡ of_z w64 (pos (unsigned_abs a))
+size_by a p true e = omega (arith, ints)
+size_by a p false e = omega (arith, ints)
+
+pub sizes_held : (at : ℕ) (v : List ℕ) (f : ℕ → ℤ) (m : ℕ) → m ≤ 2 ^ 62 → Holds (range_with_len at 4) v f m → Holds (range_with_len at 4) (sizes v) (λ k. pos (unsigned_abs (f k))) m
+sizes_held at v f m a p =
+    let ks : List ℕ = range_with_len at 4 in
     let zs : List ℕ = 0 ∷ 0 ∷ 0 ∷ 0 ∷ [] in
-    let ns : List ℕ = zip2 less_bits zs xs in
-    let lx : length xs ≡ 4 = length-map a (of_z w64) ∙ p.long in
-    let ln : length ns ≡ 4 = length-zip2 less_bits zs xs (sym lx) in
-    let ms : List Bool = zip2 is_less xs ns in
-    let lm : length ms ≡ 4 = length-zip2 is_less xs ns (lx ∙ sym ln) ∙ lx in
-    let same : map (top 63) (zip2 (λ x y. cond (is_less x y) (2 ^ 64 - 1) 0) xs ns) ≡ ms = tops_compared w64 is_less xs ns in
-    subst (λ (m : List Bool). HasLanes (map (to_z w64) (sel_l m ns xs)) (λ k. pos (unsigned_abs (get_or a k (pos 0))))) (sym same)
-    (record {
-      long = length-map (sel_l ms ns xs) (to_z w64) ∙ length-sel_l ms ns xs (lm ∙ sym ln) (lm ∙ sym lx) ∙ lm;
-      each = λ k l.
-          let nk : get_or ns k 0 ≡ less_bits 0 (of_z w64 (get_or a k (pos 0))) = get_or-zip2 less_bits zs xs k 0 0 0 l (omega arith) ∙ (λ i. less_bits (get_or-replicate 4 k 0 0 l i) (bits_at a p.long k l i)) in
-          let xk : get_or xs k 0 ≡ of_z w64 (get_or a k (pos 0)) = bits_at a p.long k l in
-          get_or-map (to_z w64) (sel_l ms ns xs) k 0 (pos 0) (omega (arith, length-sel_l ms ns xs (lm ∙ sym ln) (lm ∙ sym lx)))
-          ∙ ap (to_z w64) (get_or-sel_l ms ns xs k 0 (omega arith) (omega arith) (omega arith)
-          ∙ (λ i. cond ((get_or-zip2 is_less xs ns k 0 0 false (omega arith) (omega arith) ∙ (λ j. is_less (xk j) (nk j))) i) (nk i) (xk i)))
-          ∙ size_is (get_or a k (pos 0)) (p.each k l) _ refl;
-    })
-
-pub load_lanes : (xs : List ℤ) (at : ℕ) → at + 4 ≤ length xs → AllWithin (2 ^ 60) xs → HasLanes (map (to_z w64) (map (of_z w64) (chunk at 4 xs))) (λ k. get_or xs (at + k) (pos 0))
-load_lanes xs at h w =
-    let long : length (chunk at 4 xs) ≡ 4 = length-chunk at 4 xs h in
+    let ns : List ℕ = zip2 (bits_of minus) zs v in
+    let n : Holds ks ns (λ k. pos 0 -ℤ f k) m = both minus ks zs v (λ k. pos 0) f 0 m m (omega arith) a (splat at (pos 0) 0 (omega arith)) p (λ k. let h : unsigned_abs (pos 0 -ℤ f k) ≤ 0 + m = minus_small (pos 0) (f k) 0 m (omega arith) (p.small k) in omega arith) in
+    let ms : marks v ns ≡ map (λ k. is_below (of_z w64 (f k)) (of_z w64 (pos 0 -ℤ f k))) ks =
+      tops_compared w64 is_below v ns ∙ zip2_of_maps is_below (λ k. of_z w64 (f k)) (λ k. of_z w64 (pos 0 -ℤ f k)) ks p.lanes n.lanes in
     record {
-      long = length-map (map (of_z w64) (chunk at 4 xs)) (to_z w64) ∙ length-map (chunk at 4 xs) (of_z w64) ∙ long;
-      each = λ k l.
-          get_or-map (to_z w64) (map (of_z w64) (chunk at 4 xs)) k 0 (pos 0) (omega (arith, length-map (chunk at 4 xs) (of_z w64)))
-          ∙ ap (to_z w64) (get_or-map (of_z w64) (chunk at 4 xs) k (pos 0) 0 (omega arith) ∙ ap (of_z w64) (get_or-chunk at 4 xs k (pos 0) l))
-          ∙ back_is (get_or xs (at + k) (pos 0)) (omega (arith, w (at + k)));
+      lanes = (λ t. sel_l (ms t) (n.lanes t) (p.lanes t))
+        ∙ sel_l-maps (λ k. is_below (of_z w64 (f k)) (of_z w64 (pos 0 -ℤ f k))) (λ k. of_z w64 (pos 0 -ℤ f k)) (λ k. of_z w64 (f k)) ks
+        ∙ (λ t. map (λ k. size_by (f k) (omega (arith, p.small k)) _ refl t) ks);
+      small = λ k. p.small k;
     }
 
-not_less : (a z : ℤ) → not (lt_z a z) ≡ true → z ≤ℤ a
-not_less a z e = grind (arith, ints)
+pub sizes_fit : (at : ℕ) (v : List ℕ) (f : ℕ → ℤ) (m : ℕ) → m ≤ 2 ^ 62 → Holds (range_with_len at 4) v f m → Each2 (λ x y. SFits w64 (to_z w64 x -ℤ to_z w64 y)) (0 ∷ 0 ∷ 0 ∷ 0 ∷ []) v
+sizes_fit at v f m a p =
+    both_fit minus (range_with_len at 4) _ v (λ k. pos 0) f 0 m (omega arith) a (splat at (pos 0) 0 (omega arith)) p (λ k.
+      let h : unsigned_abs (pos 0 -ℤ f k) ≤ 0 + m = minus_small (pos 0) (f k) 0 m (omega arith) (p.small k) in omega arith)
 
-is_below : (a z : ℤ) → not (lt_z a z) ≡ false → a <ℤ z
-is_below a z e = grind (arith, ints)
+-- ---- distances from x
+pub away_fit : (at : ℕ) (x : ℤ) (xs : List ℤ) → unsigned_abs x ≤ 2 ^ 41 → AllWithin (2 ^ 41) xs → at + 4 ≤ length xs
+    → Each2 (λ a b. SFits w64 (to_z w64 a -ℤ to_z w64 b)) (replicate 4 (of_z w64 x)) (map (of_z w64) (take 4 (drop at xs)))
+away_fit at x xs p q room =
+    both_fit minus (range_with_len at 4) _ _ (λ k. x) (λ k. get_or xs k (pos 0)) (2 ^ 41) (2 ^ 41) (omega arith) (omega arith) (splat at x (2 ^ 41) p) (load at xs (2 ^ 41) room q) (λ k.
+      let h : unsigned_abs (x -ℤ get_or xs k (pos 0)) ≤ 2 ^ 41 + 2 ^ 41 = minus_small x (get_or xs k (pos 0)) (2 ^ 41) (2 ^ 41) p (q k) in omega arith)
 
--- what lanes hold, with a bound on it
-pub within_from : (v : List ℤ) (f : ℕ → ℤ) (m : ℕ) → HasLanes v f → ((k : ℕ) → k < 4 → unsigned_abs (f k) ≤ m) → AreWithin v m
-within_from v f m h b = record { long = h.long; each = λ k l. subst (λ (z : ℤ). unsigned_abs z ≤ m) (sym (h.each k l)) (b k l) }
+pub away_held : (at : ℕ) (x : ℤ) (xs : List ℤ) → unsigned_abs x ≤ 2 ^ 41 → AllWithin (2 ^ 41) xs → at + 4 ≤ length xs
+    → Holds (range_with_len at 4) (zip2 (bits_of minus) (replicate 4 (of_z w64 x)) (map (of_z w64) (take 4 (drop at xs)))) (λ k. x -ℤ get_or xs k (pos 0)) (2 ^ 42)
+away_held at x xs p q room =
+    both minus (range_with_len at 4) _ _ (λ k. x) (λ k. get_or xs k (pos 0)) (2 ^ 41) (2 ^ 41) (2 ^ 42) (omega arith) (omega arith) (splat at x (2 ^ 41) p) (load at xs (2 ^ 41) room q)
+      (λ k. minus_small x (get_or xs k (pos 0)) (2 ^ 41) (2 ^ 41) p (q k))
 
--- how many lanes come before the first that is below
-pub before_lanes : (a : List ℤ) (z : ℤ) → AreWithin a (2 ^ 62 - 1) → SFits w64 z → (r : ℕ)
-    → r ≡ cond (eqb (mask_l (map (top 63) (zip2 (λ x y. cond (is_less x y) (2 ^ 64 - 1) 0) (bits_of a) (replicate 4 (of_z w64 z)))) % 2 ^ 64) 0) 4 (count_trailing_zeros 64 (mask_l (map (top 63) (zip2 (λ x y. cond (is_less x y) (2 ^ 64 - 1) 0) (bits_of a) (replicate 4 (of_z w64 z)))) % 2 ^ 64))
-    → (r ≤ 4) × ((k : ℕ) → k < r → z ≤ℤ get_or a k (pos 0)) × (r < 4 → get_or a r (pos 0) <ℤ z)
-before_lanes a z w f r e =
-    let p : ℕ → Bool = λ x. is_less x (of_z w64 z) in
-    let la : length (bits_of a) ≡ 4 = length-map a (of_z w64) ∙ w.long in
-    let m : mask_l (map (top 63) (zip2 (λ x y. cond (is_less x y) (2 ^ 64 - 1) 0) (bits_of a) (replicate 4 (of_z w64 z)))) % 2 ^ 64 ≡ mask_l (map p (bits_of a)) = bitmask_splat w64 is_less (bits_of a) 4 (of_z w64 z) la (omega arith) in
-    let n : r ≡ prefix_len (λ x. not (p x)) (bits_of a) = e ∙ ap (λ q. cond (eqb q 0) 4 (count_trailing_zeros 64 q)) m ∙ first_set_mask_l p (bits_of a) 4 la (omega arith) in
-    let high : r ≤ 4 = omega (arith, prefix_len-le-length (λ x. not (p x)) (bits_of a)) in
-    let back : to_z w64 (of_z w64 z) ≡ z = to_z-of_z w64 z f in (
-      high,
-      (λ k l.
-          let pk : not (p (get_or (bits_of a) k 0)) ≡ true = prefix_len_passes (λ x. not (p x)) (bits_of a) k 0 (omega arith) in
-          let small : k < 4 = omega arith in
-          let ek : to_z w64 (get_or (bits_of a) k 0) ≡ get_or a k (pos 0) = ap (to_z w64) (bits_at a w.long k small) ∙ back_is (get_or a k (pos 0)) (w.each k small) in
-          not_less (get_or a k (pos 0)) z ((λ i. not (lt_z (sym ek i) (sym back i))) ∙ pk)),
-      (λ l.
-          let stop : r ≡ prefix_len (λ x. not (p x)) (bits_of a) → not (p (get_or (bits_of a) r 0)) ≡ false = λ q. subst (λ (j : ℕ). not (p (get_or (bits_of a) j 0)) ≡ false) (sym q) (prefix_len_stops (λ x. not (p x)) (bits_of a) 0 (omega arith)) in
-          let er : to_z w64 (get_or (bits_of a) r 0) ≡ get_or a r (pos 0) = ap (to_z w64) (bits_at a w.long r l) ∙ back_is (get_or a r (pos 0)) (w.each r l) in
-          is_below (get_or a r (pos 0)) z ((λ i. not (lt_z (sym er i) (sym back i))) ∙ stop n)),
-    )
+pub distances_held : (at : ℕ) (x : ℤ) (xs : List ℤ) → unsigned_abs x ≤ 2 ^ 41 → AllWithin (2 ^ 41) xs → at + 4 ≤ length xs
+    → Holds (range_with_len at 4) (sizes (zip2 (bits_of minus) (replicate 4 (of_z w64 x)) (map (of_z w64) (take 4 (drop at xs))))) (λ k. pos (distance x (get_or xs k (pos 0)))) (2 ^ 42)
+distances_held at x xs p q room = sizes_held at _ (λ k. x -ℤ get_or xs k (pos 0)) (2 ^ 42) (omega arith) (away_held at x xs p q room)
 
-pub wider : (v : List ℤ) (m n : ℕ) → m ≤ n → AreWithin v m → AreWithin v n
-wider v m n h w = record { long = w.long; each = λ k l. omega (arith, w.each k l) }
+-- ---- sums
+pub sum_fit : (at : ℕ) (v w : List ℕ) (f g : ℕ → ℤ) (m n : ℕ) → m + n ≤ 2 ^ 62 → Holds (range_with_len at 4) v f m → Holds (range_with_len at 4) w g n → Each2 (λ x y. SFits w64 (to_z w64 x +ℤ to_z w64 y)) v w
+sum_fit at v w f g m n a p q =
+    both_fit plus (range_with_len at 4) v w f g m n (omega arith) (omega arith) p q (λ k. let h : unsigned_abs (f k +ℤ g k) ≤ m + n = plus_small (f k) (g k) m n (p.small k) (q.small k) in omega arith)
 
-pub sum_lanes : (a b v : List ℤ) (f g : ℕ → ℤ) → HasLanes a f → HasLanes b g → HasLanes v (λ k. get_or a k (pos 0) +ℤ get_or b k (pos 0)) → HasLanes v (λ k. f k +ℤ g k)
-sum_lanes a b v f g p q h = record { long = h.long; each = λ k l. h.each k l ∙ (λ i. p.each k l i +ℤ q.each k l i) }
+pub sum_held : (at : ℕ) (v w : List ℕ) (f g : ℕ → ℤ) (m n : ℕ) → m + n ≤ 2 ^ 62 → Holds (range_with_len at 4) v f m → Holds (range_with_len at 4) w g n
+    → Holds (range_with_len at 4) (zip2 (bits_of plus) v w) (λ k. f k +ℤ g k) (m + n)
+sum_held at v w f g m n a p q = both plus (range_with_len at 4) v w f g m n (m + n) (omega arith) (omega arith) p q (λ k. plus_small (f k) (g k) m n (p.small k) (q.small k))
 
-sum_small : (x y : ℤ) (m n : ℕ) → unsigned_abs x ≤ m → unsigned_abs y ≤ n → unsigned_abs (x +ℤ y) ≤ m + n
-sum_small x y m n p q = omega (arith, ints)
+-- ---- how many lanes come before the first that is below
+not_below : (a z : ℤ) → not (lt_z a z) ≡ true → z ≤ℤ a
+not_below a z e = grind (arith, ints)
 
-pub sum_within : (a b v : List ℤ) (m n : ℕ) → AreWithin a m → AreWithin b n → HasLanes v (λ k. get_or a k (pos 0) +ℤ get_or b k (pos 0)) → AreWithin v (m + n)
-sum_within a b v m n p q h = record { long = h.long; each = λ k l. subst (λ (z : ℤ). unsigned_abs z ≤ m + n) (sym (h.each k l)) (sum_small (get_or a k (pos 0)) (get_or b k (pos 0)) m n (p.each k l) (q.each k l)) }
+below : (a z : ℤ) → not (lt_z a z) ≡ false → a <ℤ z
+below a z e = grind (arith, ints)
 
-less_small : (x y : ℤ) (m : ℕ) → unsigned_abs x ≤ m → unsigned_abs y ≤ m → unsigned_abs (x -ℤ y) ≤ 2 * m
-less_small x y m p q = omega (arith, ints)
+pub record Stops (at r : ℕ) (f : ℕ → ℤ) (z : ℤ) : Type 0 where
+  pub high : r ≤ 4
+  pub before : (j : ℕ) → at ≤ j → j < at + r → z ≤ℤ f j
+  pub stops : r < 4 → f (at + r) <ℤ z
 
--- the distances from x of what b holds
-pub distance_lanes : (a b d v : List ℤ) (x : ℤ) (f : ℕ → ℤ) → HasLanes a (λ k. x) → HasLanes b f → HasLanes d (λ k. get_or a k (pos 0) -ℤ get_or b k (pos 0)) → HasLanes v (λ k. pos (unsigned_abs (get_or d k (pos 0))))
-    → HasLanes v (λ k. pos (distance x (f k)))
-distance_lanes a b d v x f p q h g = record { long = g.long; each = λ k l. g.each k l ∙ ap (λ z. pos (unsigned_abs z)) (h.each k l ∙ (λ i. p.each k l i -ℤ q.each k l i)) }
-
-pub less_within : (a b d : List ℤ) (m : ℕ) → AreWithin a m → AreWithin b m → HasLanes d (λ k. get_or a k (pos 0) -ℤ get_or b k (pos 0)) → AreWithin d (2 * m)
-less_within a b d m p q h = record { long = h.long; each = λ k l. subst (λ (z : ℤ). unsigned_abs z ≤ 2 * m) (sym (h.each k l)) (less_small (get_or a k (pos 0)) (get_or b k (pos 0)) m (p.each k l) (q.each k l)) }
-
-pub sizes_within : (d v : List ℤ) (m : ℕ) → AreWithin d m → HasLanes v (λ k. pos (unsigned_abs (get_or d k (pos 0)))) → AreWithin v m
-sizes_within d v m p h = record { long = h.long; each = λ k l. subst (λ (z : ℤ). unsigned_abs z ≤ m) (sym (h.each k l)) (p.each k l) }
-
--- one sum, from its parts
-pub gain_lanes : (v : List ℤ) (a b d w : ℕ → ℕ) (e : ℕ → ℤ) → HasLanes v (λ k. ((pos (a k) +ℤ pos (b k)) +ℤ (pos (d k) +ℤ pos (w k))) +ℤ e k) → HasLanes v (λ k. pos (a k + b k + d k + w k) +ℤ e k)
-gain_lanes v a b d w e p = record { long = p.long; each = λ k l. p.each k l ∙ ap (λ (n : ℕ). pos n +ℤ e k) (omega arith) }
-
--- a vector that goes from a call to the next
-abbrev pub again : List ℤ → List ℤ
-again v = map (to_z w64) (map (of_z w64) v)
-
-again_at : (v : List ℤ) (m : ℕ) → m ≤ 2 ^ 62 - 1 → AreWithin v m → (k : ℕ) → k < 4 → get_or (again v) k (pos 0) ≡ get_or v k (pos 0)
-again_at v m h w k l =
-    get_or-map (to_z w64) (map (of_z w64) v) k 0 (pos 0) (omega (arith, length-map v (of_z w64), w.long))
-    ∙ ap (to_z w64) (bits_at v w.long k l) ∙ back_is (get_or v k (pos 0)) (omega (arith, w.each k l))
-
-pub again_within : (v : List ℤ) (m n : ℕ) → m ≤ 2 ^ 62 - 1 → m ≤ n → AreWithin v m → AreWithin (again v) n
-again_within v m n h g w = record {
-  long = length-map (map (of_z w64) v) (to_z w64) ∙ length-map v (of_z w64) ∙ w.long;
-  each = λ k l. subst (λ (z : ℤ). unsigned_abs z ≤ n) (sym (again_at v m h w k l)) (omega (arith, w.each k l));
-}
-
-pub again_lanes : (v : List ℤ) (m : ℕ) (f : ℕ → ℤ) → m ≤ 2 ^ 62 - 1 → AreWithin v m → HasLanes v f → HasLanes (again v) f
-again_lanes v m f h w p = record {
-  long = length-map (map (of_z w64) v) (to_z w64) ∙ length-map v (of_z w64) ∙ w.long;
-  each = λ k l. again_at v m h w k l ∙ p.each k l;
-}
-
--- lanes, and a bound on them
-pub record Held (v : List ℤ) (f : ℕ → ℤ) (m : ℕ) : Type 0 where
-  pub lanes : HasLanes v f
-  pub within : AreWithin v m
-
-pub plus_held : (a b v : List ℤ) (f g : ℕ → ℤ) (m n : ℕ) → m ≤ 2 ^ 62 - 1 → n ≤ 2 ^ 62 - 1 → Held a f m → Held b g n
-    → HasLanes v (λ k. get_or (again a) k (pos 0) +ℤ get_or (again b) k (pos 0)) → Held v (λ k. f k +ℤ g k) (m + n)
-plus_held a b v f g m n p q x y h = record {
-  lanes = sum_lanes (again a) (again b) v f g (again_lanes a m f p x.within x.lanes) (again_lanes b n g q y.within y.lanes) h;
-  within = sum_within (again a) (again b) v m n (again_within a m m p (omega arith) x.within) (again_within b n n q (omega arith) y.within) h;
-}
+pub stops_at : (at : ℕ) (v : List ℕ) (f : ℕ → ℤ) (m : ℕ) (z : ℤ) (r : ℕ) → m ≤ 2 ^ 62 → Holds (range_with_len at 4) v f m → SFits w64 z
+    → r ≡ cond (eqb (mask_l (marks v (replicate 4 (of_z w64 z))) % 2 ^ 64) 0) 4 (count_trailing_zeros 64 (mask_l (marks v (replicate 4 (of_z w64 z))) % 2 ^ 64))
+    → Stops at r f z
+stops_at at v f m z r a h fits e =
+    let p : ℕ → Bool = λ x. not (is_below x (of_z w64 z)) in
+    let long : length v ≡ 4 = ap length h.lanes ∙ length-map-range_with_len (λ k. of_z w64 (f k)) at 4 in
+    let counted : r ≡ prefix_len p v =
+      e ∙ ap (λ q. cond (eqb q 0) 4 (count_trailing_zeros 64 q)) (bitmask_splat w64 is_below v 4 (of_z w64 z) long (omega arith)) ∙ first_set_mask_l (λ x. is_below x (of_z w64 z)) v 4 long (omega arith) in
+    let high : r ≤ 4 = omega (arith, prefix_len-le-length p v) in
+    let lane : (k : ℕ) → k < 4 → p (get_or v k 0) ≡ not (lt_z (f (at + k)) z) = (λ k l.
+      ap (λ w. p (get_or w k 0)) h.lanes ∙ ap p (get_or-map-range_with_len (λ n. of_z w64 (f n)) at 4 k (at + k) 0 l refl)
+      ∙ (λ t. not (lt_z (back_is (f (at + k)) (omega (arith, h.small (at + k))) t) (to_z-of_z w64 z fits t)))) in
+    record {
+      high = high;
+      before = λ j from to.
+        let k : at + (j - at) ≡ j = omega arith in
+        subst (λ (n : ℕ). z ≤ℤ f n) k (not_below (f (at + (j - at))) z (sym (lane (j - at) (omega arith)) ∙ prefix_len_passes p v (j - at) 0 (omega arith)));
+      stops = λ l. below (f (at + r)) z (sym (lane r l) ∙ ap (λ n. p (get_or v n 0)) counted ∙ prefix_len_stops p v 0 (omega arith));
+    }

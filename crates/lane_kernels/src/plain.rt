@@ -1,7 +1,7 @@
 //! The same calls one element at a time, under the same contracts: what the lanes are held against.
 ghost use Rattle.std.specs.Prelude.{◌≡◌, ℕ, ℤ, pos, ◌+◌, ◌^◌, ◌<◌, ◌≤◌, ◌<ℤ◌, ◌≤ℤ◌, ◌==◌, length, count_by, unsigned_abs, IfSome, IfNone, slice_index, true, false};
 ghost use Rattle.std.specs.Simd.Lanes.{zip2};
-ghost use Rattle.lane_kernels.specs.Kernels.{flipped_where, is_allowed};
+ghost use Rattle.lane_kernels.specs.Kernels.{flipped_where, is_allowed, AreNear, AreRows, sum_at};
 
 /// How many of the bytes are `b`.
 pub fn count_byte(bytes: &[u8], b: u8) -> usize
@@ -52,6 +52,73 @@ pub fn any_byte_outside(bytes: &[u8], allowed: &[u8]) -> Option<usize>
     for at in 0..bytes.len() {
         if !allowed.contains(&bytes[at]) {
             return Some(at);
+        }
+    }
+    None
+}
+
+/// The points p and q from which a step is measured, and the limit that its sum has to stay below.
+#[derive(Clone, Copy)]
+pub(crate) struct Aim {
+    pub px: i64,
+    pub py: i64,
+    pub qx: i64,
+    pub qy: i64,
+    pub limit: i64,
+}
+
+// Whether the sum at place k is less than the limit.
+pub(crate) fn is_gain(
+    aim: &Aim,
+    ex: &[i64],
+    ey: &[i64],
+    nx: &[i64],
+    ny: &[i64],
+    c: &[i64],
+    k: usize,
+) -> bool
+    requires near { AreNear aim.now.px aim.now.py aim.now.qx aim.now.qy }
+    requires rows { AreRows ex.now ey.now nx.now ny.now c.now }
+    requires within { k < length ex.now }
+    ensures gain { result ≡ true → sum_at aim.now.px aim.now.py aim.now.qx aim.now.qy ex.now ey.now nx.now ny.now c.now k <ℤ aim.now.limit }
+    ensures no_gain { result ≡ false → aim.now.limit ≤ℤ sum_at aim.now.px aim.now.py aim.now.qx aim.now.qy ex.now ey.now nx.now ny.now c.now k }
+{
+    let p = aim.px.abs_diff(ex[k]) + aim.py.abs_diff(ey[k]);
+    let q = aim.qx.abs_diff(nx[k]) + aim.qy.abs_diff(ny[k]);
+    (p + q) as i64 + c[k] < aim.limit
+}
+
+/// The least k with `|px - ex[k]| + |py - ey[k]| + |qx - nx[k]| + |qy - ny[k]| + c[k] < limit`, or None where there is
+/// none.
+pub fn first_gain(
+    px: i64,
+    py: i64,
+    qx: i64,
+    qy: i64,
+    ex: &[i64],
+    ey: &[i64],
+    nx: &[i64],
+    ny: &[i64],
+    c: &[i64],
+    limit: i64,
+) -> Option<usize>
+    requires near { AreNear px py qx qy }
+    requires rows { AreRows ex.now ey.now nx.now ny.now c.now }
+    ensures within { IfSome result (λ k. k < length ex.now) }
+    ensures found { IfSome result (λ k. sum_at px py qx qy ex.now ey.now nx.now ny.now c.now k <ℤ limit) }
+    ensures least { IfSome result (λ k. (j : ℕ) → j < k → limit ≤ℤ sum_at px py qx qy ex.now ey.now nx.now ny.now c.now j) }
+    ensures none { IfNone result ((j : ℕ) → j < length ex.now → limit ≤ℤ sum_at px py qx qy ex.now ey.now nx.now ny.now c.now j) }
+{
+    let aim = Aim {
+        px,
+        py,
+        qx,
+        qy,
+        limit,
+    };
+    for k in 0..ex.len() {
+        if is_gain(&aim, ex, ey, nx, ny, c, k) {
+            return Some(k);
         }
     }
     None
