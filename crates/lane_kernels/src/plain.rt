@@ -1,7 +1,7 @@
 //! The same calls one element at a time, under the same contracts: what the lanes are held against.
-ghost use Rattle.std.specs.Prelude.{◌≡◌, ℕ, ℤ, pos, ◌+◌, ◌^◌, ◌<◌, ◌≤◌, ◌<ℤ◌, ◌≤ℤ◌, ◌==◌, length, count_by, unsigned_abs, IfSome, IfNone, slice_index, true, false};
+ghost use Rattle.std.specs.Prelude.{◌≡◌, ℕ, ℤ, pos, ◌+◌, ◌^◌, ◌<◌, ◌≤◌, ◌<ℤ◌, ◌≤ℤ◌, ◌==◌, length, count_by, unsigned_abs, IfSome, IfNone, IsTrue, ◌↔◌, slice_index, true, false};
 ghost use Rattle.std.specs.Simd.Lanes.{zip2};
-ghost use Rattle.lane_kernels.specs.Kernels.{flipped_where, is_allowed, AreNear, AreRows, sum_at};
+ghost use Rattle.lane_kernels.specs.Kernels.{flipped_where, is_allowed, AllWithin, AreNear, AreRows, sum_at};
 
 /// How many of the bytes are `b`.
 pub fn count_byte(bytes: &[u8], b: u8) -> usize
@@ -122,4 +122,30 @@ pub fn first_gain(
         }
     }
     None
+}
+
+/// Whether five rows are what `first_gain` asks: of one length, the first four of coordinates within 2^41 in size, the
+/// last within 2^60.
+pub fn are_rows(ex: &[i64], ey: &[i64], nx: &[i64], ny: &[i64], c: &[i64]) -> bool
+    ensures value { IsTrue result ↔ AreRows ex.now ey.now nx.now ny.now c.now }
+{
+    let near = 1 << 41;
+    let same = ey.len() == ex.len() && nx.len() == ex.len() && ny.len() == ex.len() && c.len() == ex.len();
+    same && are_within(ex, near)
+        && are_within(ey, near)
+        && are_within(nx, near)
+        && are_within(ny, near)
+        && are_within(c, 1 << 60)
+}
+
+// Whether each number is at most `most` in size.
+fn are_within(xs: &[i64], most: u64) -> bool
+    ensures value { IsTrue result ↔ AllWithin most xs.now }
+{
+    for x in xs {
+        if most < x.unsigned_abs() {
+            return false;
+        }
+    }
+    true
 }

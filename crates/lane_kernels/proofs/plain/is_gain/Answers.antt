@@ -24,51 +24,51 @@ total_fits n c p q = omega (arith, ints)
 cast_fits : (n : ℕ) → n ≤ 2 ^ 44 → SFits w64 (pos n)
 cast_fits n p = omega (arith, ints)
 
--- the four distances as the code makes them
-record Made (px py qx qy : ℤ) (ex ey nx ny c : List ℤ) (k a b d e : ℕ) : Type 0 where
-  near : AreNear px py qx qy
-  rows : AreRows ex ey nx ny c
-  from_px : a ≡ made px (get_or ex k (pos 0))
-  from_py : b ≡ made py (get_or ey k (pos 0))
-  from_qx : d ≡ made qx (get_or nx k (pos 0))
-  from_qy : e ≡ made qy (get_or ny k (pos 0))
+-- what the four distances come to
+record Known (sum : ℤ) (n : ℕ) (c : ℤ) : Type 0 where
+  within : n ≤ 2 ^ 44
+  c_small : unsigned_abs c ≤ 2 ^ 60
+  is : pos n +ℤ c ≡ sum
 
-within : (px py qx qy : ℤ) (ex ey nx ny c : List ℤ) (k a b d e : ℕ) → Made px py qx qy ex ey nx ny c k a b d e → a + b + (d + e) ≤ 2 ^ 44
-within px py qx qy ex ey nx ny c k a b d e m =
-    omega (arith, m.from_px, m.from_py, m.from_qx, m.from_qy, made_small px (get_or ex k (pos 0)) m.near.px_near (m.rows.ex_near k), made_small py (get_or ey k (pos 0)) m.near.py_near (m.rows.ey_near k), made_small qx (get_or nx k (pos 0)) m.near.qx_near (m.rows.nx_near k), made_small qy (get_or ny k (pos 0)) m.near.qy_near (m.rows.ny_near k))
+known : {px py qx qy : ℤ} {ex ey nx ny c : List ℤ} {a b d e : ℕ} (near : AreNear px py qx qy) (rows : AreRows ex ey nx ny c) (k : ℕ)
+    → a ≡ made px (get_or ex k (pos 0)) → b ≡ made py (get_or ey k (pos 0)) → d ≡ made qx (get_or nx k (pos 0)) → e ≡ made qy (get_or ny k (pos 0))
+    → Known (sum_at px py qx qy ex ey nx ny c k) (a + b + (d + e)) (get_or c k (pos 0))
+known {px} {py} {qx} {qy} {ex} {ey} {nx} {ny} {c} near rows k p q r s =
+    let hp = made_small px (get_or ex k (pos 0)) near.px_near (rows.ex_near k) in
+    let hq = made_small py (get_or ey k (pos 0)) near.py_near (rows.ey_near k) in
+    let hr = made_small qx (get_or nx k (pos 0)) near.qx_near (rows.nx_near k) in
+    let hs = made_small qy (get_or ny k (pos 0)) near.qy_near (rows.ny_near k) in
+    let ep = p ∙ made_is px (get_or ex k (pos 0)) near.px_near (rows.ex_near k) in
+    let eq = q ∙ made_is py (get_or ey k (pos 0)) near.py_near (rows.ey_near k) in
+    let er = r ∙ made_is qx (get_or nx k (pos 0)) near.qx_near (rows.nx_near k) in
+    let es = s ∙ made_is qy (get_or ny k (pos 0)) near.qy_near (rows.ny_near k) in
+    record { within = omega (arith, p, q, r, s, hp, hq, hr, hs); c_small = rows.c_small k; is = ap (λ (n : ℕ). pos n +ℤ get_or c k (pos 0)) (omega (arith, ep, eq, er, es)) }
 
-sum_is : (px py qx qy : ℤ) (ex ey nx ny c : List ℤ) (k a b d e : ℕ) → Made px py qx qy ex ey nx ny c k a b d e → to_z w64 (of_z w64 (to_z w64 (a + b + (d + e)) +ℤ to_z w64 (of_z w64 (get_or c k (pos 0))))) ≡ sum_at px py qx qy ex ey nx ny c k
-sum_is px py qx qy ex ey nx ny c k a b d e m =
-    let ea : a ≡ distance px (get_or ex k (pos 0)) = m.from_px ∙ made_is px (get_or ex k (pos 0)) m.near.px_near (m.rows.ex_near k) in
-    let eb : b ≡ distance py (get_or ey k (pos 0)) = m.from_py ∙ made_is py (get_or ey k (pos 0)) m.near.py_near (m.rows.ey_near k) in
-    let ed : d ≡ distance qx (get_or nx k (pos 0)) = m.from_qx ∙ made_is qx (get_or nx k (pos 0)) m.near.qx_near (m.rows.nx_near k) in
-    let ee : e ≡ distance qy (get_or ny k (pos 0)) = m.from_qy ∙ made_is qy (get_or ny k (pos 0)) m.near.qy_near (m.rows.ny_near k) in
-    total_is (a + b + (d + e)) (get_or c k (pos 0)) (within px py qx qy ex ey nx ny c k a b d e m) (m.rows.c_small k) ∙ ap (λ (n : ℕ). pos n +ℤ get_or c k (pos 0)) (omega (arith, ea, eb, ed, ee))
+below : {sum c z w : ℤ} {n : ℕ} → Known sum n c → w ≡ z → lt_z (to_z w64 (of_z w64 (to_z w64 n +ℤ to_z w64 (of_z w64 c)))) w ≡ true → sum <ℤ z
+below {sum} {c} {z} {w} {n} known e h = let x = total_is n c known.within known.c_small ∙ known.is in grind (arith, ints)
 
-below : (x y z w : ℤ) → x ≡ y → z ≡ w → lt_z x z ≡ true → y <ℤ w
-below x y z w p q e = grind (arith, ints)
-
-not_below : (x y z w : ℤ) → x ≡ y → z ≡ w → lt_z x z ≡ false → w ≤ℤ y
-not_below x y z w p q e = grind (arith, ints)
+not_below : {sum c z w : ℤ} {n : ℕ} → Known sum n c → w ≡ z → lt_z (to_z w64 (of_z w64 (to_z w64 n +ℤ to_z w64 (of_z w64 c)))) w ≡ false → z ≤ℤ sum
+not_below {sum} {c} {z} {w} {n} known e h = let x = total_is n c known.within known.c_small ∙ known.is in grind (arith, ints)
 
 pub overflow_add-result : goal.overflow_add-result
 overflow_add-result c =
-    omega (arith, within c.args.aim.now.px c.args.aim.now.py c.args.aim.now.qx c.args.aim.now.qy c.args.ex.now c.args.ey.now c.args.nx.now c.args.ny.now c.args.c.now c.args.k _ _ _ _ (record { near = c.requires.near; rows = c.requires.rows; from_px = c.abs_diff.ensures; from_py = c.abs_diff-2.ensures; from_qx = c.abs_diff-3.ensures; from_qy = c.abs_diff-4.ensures }))
+    omega (arith, (known c.requires.near c.requires.rows c.args.k c.abs_diff.ensures c.abs_diff-2.ensures c.abs_diff-3.ensures c.abs_diff-4.ensures).within)
 
 pub overflow_cast-result : goal.overflow_cast-result
 overflow_cast-result c =
-    cast_fits _ (within c.args.aim.now.px c.args.aim.now.py c.args.aim.now.qx c.args.aim.now.qy c.args.ex.now c.args.ey.now c.args.nx.now c.args.ny.now c.args.c.now c.args.k _ _ _ _ (record { near = c.requires.near; rows = c.requires.rows; from_px = c.abs_diff.ensures; from_py = c.abs_diff-2.ensures; from_qx = c.abs_diff-3.ensures; from_qy = c.abs_diff-4.ensures }))
+    cast_fits _ (known c.requires.near c.requires.rows c.args.k c.abs_diff.ensures c.abs_diff-2.ensures c.abs_diff-3.ensures c.abs_diff-4.ensures).within
 
 pub overflow_add-result-2 : goal.overflow_add-result-2
 overflow_add-result-2 c =
-    total_fits _ (get_or c.args.c.now c.args.k (pos 0)) (within c.args.aim.now.px c.args.aim.now.py c.args.aim.now.qx c.args.aim.now.qy c.args.ex.now c.args.ey.now c.args.nx.now c.args.ny.now c.args.c.now c.args.k _ _ _ _ (record { near = c.requires.near; rows = c.requires.rows; from_px = c.abs_diff.ensures; from_py = c.abs_diff-2.ensures; from_qx = c.abs_diff-3.ensures; from_qy = c.abs_diff-4.ensures })) (c.requires.rows.c_small c.args.k)
+    let h = known c.requires.near c.requires.rows c.args.k c.abs_diff.ensures c.abs_diff-2.ensures c.abs_diff-3.ensures c.abs_diff-4.ensures in
+    total_fits _ (get_or c.args.c.now c.args.k (pos 0)) h.within h.c_small
 
 pub returns-clause-gain : goal.returns-clause-gain
 returns-clause-gain c =
     let fits : SFits w64 c.args.aim.now.limit = search rules in
-    below _ _ _ _ (sum_is c.args.aim.now.px c.args.aim.now.py c.args.aim.now.qx c.args.aim.now.qy c.args.ex.now c.args.ey.now c.args.nx.now c.args.ny.now c.args.c.now c.args.k _ _ _ _ (record { near = c.requires.near; rows = c.requires.rows; from_px = c.abs_diff.ensures; from_py = c.abs_diff-2.ensures; from_qx = c.abs_diff-3.ensures; from_qy = c.abs_diff-4.ensures })) (to_z-of_z w64 c.args.aim.now.limit fits)
+    below (known c.requires.near c.requires.rows c.args.k c.abs_diff.ensures c.abs_diff-2.ensures c.abs_diff-3.ensures c.abs_diff-4.ensures) (to_z-of_z w64 c.args.aim.now.limit fits)
 
 pub returns-clause-no_gain : goal.returns-clause-no_gain
 returns-clause-no_gain c =
     let fits : SFits w64 c.args.aim.now.limit = search rules in
-    not_below _ _ _ _ (sum_is c.args.aim.now.px c.args.aim.now.py c.args.aim.now.qx c.args.aim.now.qy c.args.ex.now c.args.ey.now c.args.nx.now c.args.ny.now c.args.c.now c.args.k _ _ _ _ (record { near = c.requires.near; rows = c.requires.rows; from_px = c.abs_diff.ensures; from_py = c.abs_diff-2.ensures; from_qx = c.abs_diff-3.ensures; from_qy = c.abs_diff-4.ensures })) (to_z-of_z w64 c.args.aim.now.limit fits)
+    not_below (known c.requires.near c.requires.rows c.args.k c.abs_diff.ensures c.abs_diff-2.ensures c.abs_diff-3.ensures c.abs_diff-4.ensures) (to_z-of_z w64 c.args.aim.now.limit fits)
