@@ -74,7 +74,7 @@ pub both_fit : (op : ℤ → ℤ → ℤ) (ks v w : List ℕ) (f g : ℕ → ℤ
 both_fit op ks v w f g m n a b p q small =
     let R : ℕ → ℕ → Type 0 = λ x y. SFits w64 (op (to_z w64 x) (to_z w64 y)) in
     let each = Each2-maps R (λ k. of_z w64 (f k)) (λ k. of_z w64 (g k)) ks (λ k.
-      subst (SFits w64) (λ t. op (sym (back_is (f k) (omega (arith, p.small k))) t) (sym (back_is (g k) (omega (arith, q.small k))) t)) (small_fits (op (f k) (g k)) (small k))) in
+    subst (SFits w64) (λ t. op (sym (back_is (f k) (omega (arith, p.small k))) t) (sym (back_is (g k) (omega (arith, q.small k))) t)) (small_fits (op (f k) (g k)) (small k))) in
     subst (λ (x : List ℕ). Each2 R x w) (sym p.lanes) (subst (λ (y : List ℕ). Each2 R (map (λ k. of_z w64 (f k)) ks) y) (sym q.lanes) each)
 
 minus_small : (a b : ℤ) (m n : ℕ) → unsigned_abs a ≤ m → unsigned_abs b ≤ n → unsigned_abs (a -ℤ b) ≤ m + n
@@ -99,31 +99,31 @@ sizes_held at v f m a p =
     let ns : List ℕ = zip2 (bits_of minus) zs v in
     let n : Holds ks ns (λ k. pos 0 -ℤ f k) m = both minus ks zs v (λ k. pos 0) f 0 m m (omega arith) a (splat at (pos 0) 0 (omega arith)) p (λ k. let h : unsigned_abs (pos 0 -ℤ f k) ≤ 0 + m = minus_small (pos 0) (f k) 0 m (omega arith) (p.small k) in omega arith) in
     let ms : marks v ns ≡ map (λ k. is_below (of_z w64 (f k)) (of_z w64 (pos 0 -ℤ f k))) ks =
-      tops_compared w64 is_below v ns ∙ zip2_of_maps is_below (λ k. of_z w64 (f k)) (λ k. of_z w64 (pos 0 -ℤ f k)) ks p.lanes n.lanes in
+    tops_compared w64 is_below v ns ∙ zip2_of_maps is_below (λ k. of_z w64 (f k)) (λ k. of_z w64 (pos 0 -ℤ f k)) ks p.lanes n.lanes in
     record {
       lanes = (λ t. sel_l (ms t) (n.lanes t) (p.lanes t))
-        ∙ sel_l-maps (λ k. is_below (of_z w64 (f k)) (of_z w64 (pos 0 -ℤ f k))) (λ k. of_z w64 (pos 0 -ℤ f k)) (λ k. of_z w64 (f k)) ks
-        ∙ (λ t. map (λ k. size_by (f k) (omega (arith, p.small k)) _ refl t) ks);
+          ∙ sel_l-maps (λ k. is_below (of_z w64 (f k)) (of_z w64 (pos 0 -ℤ f k))) (λ k. of_z w64 (pos 0 -ℤ f k)) (λ k. of_z w64 (f k)) ks
+          ∙ (λ t. map (λ k. size_by (f k) (omega (arith, p.small k)) _ refl t) ks);
       small = λ k. p.small k;
     }
 
 pub sizes_fit : (at : ℕ) (v : List ℕ) (f : ℕ → ℤ) (m : ℕ) → m ≤ 2 ^ 62 → Holds (range_with_len at 4) v f m → Each2 (λ x y. SFits w64 (to_z w64 x -ℤ to_z w64 y)) (0 ∷ 0 ∷ 0 ∷ 0 ∷ []) v
 sizes_fit at v f m a p =
     both_fit minus (range_with_len at 4) _ v (λ k. pos 0) f 0 m (omega arith) a (splat at (pos 0) 0 (omega arith)) p (λ k.
-      let h : unsigned_abs (pos 0 -ℤ f k) ≤ 0 + m = minus_small (pos 0) (f k) 0 m (omega arith) (p.small k) in omega arith)
+    let h : unsigned_abs (pos 0 -ℤ f k) ≤ 0 + m = minus_small (pos 0) (f k) 0 m (omega arith) (p.small k) in omega arith)
 
 -- ---- distances from x
 pub away_fit : (at : ℕ) (x : ℤ) (xs : List ℤ) → unsigned_abs x ≤ 2 ^ 41 → AllWithin (2 ^ 41) xs → at + 4 ≤ length xs
     → Each2 (λ a b. SFits w64 (to_z w64 a -ℤ to_z w64 b)) (replicate 4 (of_z w64 x)) (map (of_z w64) (take 4 (drop at xs)))
 away_fit at x xs p q room =
     both_fit minus (range_with_len at 4) _ _ (λ k. x) (λ k. get_or xs k (pos 0)) (2 ^ 41) (2 ^ 41) (omega arith) (omega arith) (splat at x (2 ^ 41) p) (load at xs (2 ^ 41) room q) (λ k.
-      let h : unsigned_abs (x -ℤ get_or xs k (pos 0)) ≤ 2 ^ 41 + 2 ^ 41 = minus_small x (get_or xs k (pos 0)) (2 ^ 41) (2 ^ 41) p (q k) in omega arith)
+    let h : unsigned_abs (x -ℤ get_or xs k (pos 0)) ≤ 2 ^ 41 + 2 ^ 41 = minus_small x (get_or xs k (pos 0)) (2 ^ 41) (2 ^ 41) p (q k) in omega arith)
 
 pub away_held : (at : ℕ) (x : ℤ) (xs : List ℤ) → unsigned_abs x ≤ 2 ^ 41 → AllWithin (2 ^ 41) xs → at + 4 ≤ length xs
     → Holds (range_with_len at 4) (zip2 (bits_of minus) (replicate 4 (of_z w64 x)) (map (of_z w64) (take 4 (drop at xs)))) (λ k. x -ℤ get_or xs k (pos 0)) (2 ^ 42)
 away_held at x xs p q room =
     both minus (range_with_len at 4) _ _ (λ k. x) (λ k. get_or xs k (pos 0)) (2 ^ 41) (2 ^ 41) (2 ^ 42) (omega arith) (omega arith) (splat at x (2 ^ 41) p) (load at xs (2 ^ 41) room q)
-      (λ k. minus_small x (get_or xs k (pos 0)) (2 ^ 41) (2 ^ 41) p (q k))
+    (λ k. minus_small x (get_or xs k (pos 0)) (2 ^ 41) (2 ^ 41) p (q k))
 
 pub distances_held : (at : ℕ) (x : ℤ) (xs : List ℤ) → unsigned_abs x ≤ 2 ^ 41 → AllWithin (2 ^ 41) xs → at + 4 ≤ length xs
     → Holds (range_with_len at 4) (sizes (zip2 (bits_of minus) (replicate 4 (of_z w64 x)) (map (of_z w64) (take 4 (drop at xs))))) (λ k. pos (distance x (get_or xs k (pos 0)))) (2 ^ 42)
@@ -157,15 +157,15 @@ stops_at at v f m z r a h fits e =
     let p : ℕ → Bool = λ x. not (is_below x (of_z w64 z)) in
     let long : length v ≡ 4 = ap length h.lanes ∙ length-map-range_with_len (λ k. of_z w64 (f k)) at 4 in
     let counted : r ≡ prefix_len p v =
-      e ∙ ap (λ q. cond (eqb q 0) 4 (count_trailing_zeros 64 q)) (bitmask_splat w64 is_below v 4 (of_z w64 z) long (omega arith)) ∙ first_set_mask_l (λ x. is_below x (of_z w64 z)) v 4 long (omega arith) in
+    e ∙ ap (λ q. cond (eqb q 0) 4 (count_trailing_zeros 64 q)) (bitmask_splat w64 is_below v 4 (of_z w64 z) long (omega arith)) ∙ first_set_mask_l (λ x. is_below x (of_z w64 z)) v 4 long (omega arith) in
     let high : r ≤ 4 = omega (arith, prefix_len-le-length p v) in
     let lane : (k : ℕ) → k < 4 → p (get_or v k 0) ≡ not (lt_z (f (at + k)) z) = (λ k l.
-      ap (λ w. p (get_or w k 0)) h.lanes ∙ ap p (get_or-map-range_with_len (λ n. of_z w64 (f n)) at 4 k (at + k) 0 l refl)
-      ∙ (λ t. not (lt_z (back_is (f (at + k)) (omega (arith, h.small (at + k))) t) (to_z-of_z w64 z fits t)))) in
+    ap (λ w. p (get_or w k 0)) h.lanes ∙ ap p (get_or-map-range_with_len (λ n. of_z w64 (f n)) at 4 k (at + k) 0 l refl)
+    ∙ (λ t. not (lt_z (back_is (f (at + k)) (omega (arith, h.small (at + k))) t) (to_z-of_z w64 z fits t)))) in
     record {
       high = high;
       before = λ j from to.
-        let k : at + (j - at) ≡ j = omega arith in
-        subst (λ (n : ℕ). z ≤ℤ f n) k (not_below (f (at + (j - at))) z (sym (lane (j - at) (omega arith)) ∙ prefix_len_passes p v (j - at) 0 (omega arith)));
+          let k : at + (j - at) ≡ j = omega arith in
+          subst (λ (n : ℕ). z ≤ℤ f n) k (not_below (f (at + (j - at))) z (sym (lane (j - at) (omega arith)) ∙ prefix_len_passes p v (j - at) 0 (omega arith)));
       stops = λ l. below (f (at + r)) z (sym (lane r l) ∙ ap (λ n. p (get_or v n 0)) counted ∙ prefix_len_stops p v 0 (omega arith));
     }

@@ -68,12 +68,24 @@ fn places_before(
     ensures before { (j : ℕ) → at ≤ j → j < at + result → aim.now.limit ≤ℤ sum_at aim.now.px aim.now.py aim.now.qx aim.now.qy ex.now ey.now nx.now ny.now c.now j }
     ensures stops { result < 4 → sum_at aim.now.px aim.now.py aim.now.qx aim.now.qy ex.now ey.now nx.now ny.now c.now (at + result) <ℤ aim.now.limit }
 {
-    let px = i64x4::splat(aim.px).strict_sub(i64x4::from_slice(&ex[at..])).strict_abs();
-    let py = i64x4::splat(aim.py).strict_sub(i64x4::from_slice(&ey[at..])).strict_abs();
-    let qx = i64x4::splat(aim.qx).strict_sub(i64x4::from_slice(&nx[at..])).strict_abs();
-    let qy = i64x4::splat(aim.qy).strict_sub(i64x4::from_slice(&ny[at..])).strict_abs();
+    let px = i64x4::splat(aim.px)
+        .strict_sub(i64x4::from_slice(&ex[at..]))
+        .strict_abs();
+    let py = i64x4::splat(aim.py)
+        .strict_sub(i64x4::from_slice(&ey[at..]))
+        .strict_abs();
+    let qx = i64x4::splat(aim.qx)
+        .strict_sub(i64x4::from_slice(&nx[at..]))
+        .strict_abs();
+    let qy = i64x4::splat(aim.qy)
+        .strict_sub(i64x4::from_slice(&ny[at..]))
+        .strict_abs();
     let links = px.strict_add(py).strict_add(qx.strict_add(qy));
     let sums = links.strict_add(i64x4::from_slice(&c[at..]));
     let marks = sums.simd_lt(i64x4::splat(aim.limit)).to_bitmask();
-    if marks == 0 { 4 } else { marks.trailing_zeros() }
+    if marks == 0 {
+        4
+    } else {
+        marks.trailing_zeros()
+    }
 }

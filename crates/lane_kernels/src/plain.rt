@@ -130,7 +130,10 @@ pub fn are_rows(ex: &[i64], ey: &[i64], nx: &[i64], ny: &[i64], c: &[i64]) -> bo
     ensures value { IsTrue result ↔ AreRows ex.now ey.now nx.now ny.now c.now }
 {
     let near = 1 << 41;
-    let same = ey.len() == ex.len() && nx.len() == ex.len() && ny.len() == ex.len() && c.len() == ex.len();
+    let same = ey.len() == ex.len()
+        && nx.len() == ex.len()
+        && ny.len() == ex.len()
+        && c.len() == ex.len();
     same && are_within(ex, near)
         && are_within(ey, near)
         && are_within(nx, near)

@@ -61,11 +61,11 @@ overflow_add-links-2 c =
 -- the distances from both points
 links_held : (i : ℕ) (px py qx qy : ℤ) (ex ey nx ny c : List ℤ) → AreNear px py qx qy → AreRows ex ey nx ny c → i + 4 ≤ length ex
     → Holds (range_with_len i 4) (sum (sum (far i px ex) (far i py ey)) (sum (far i qx nx) (far i qy ny)))
-      (λ k. pos (distance px (get_or ex k (pos 0)) + distance py (get_or ey k (pos 0)) + (distance qx (get_or nx k (pos 0)) + distance qy (get_or ny k (pos 0))))) (2 ^ 43 + 2 ^ 43)
+    (λ k. pos (distance px (get_or ex k (pos 0)) + distance py (get_or ey k (pos 0)) + (distance qx (get_or nx k (pos 0)) + distance qy (get_or ny k (pos 0))))) (2 ^ 43 + 2 ^ 43)
 links_held i px py qx qy ex ey nx ny c n r room =
     sum_held i _ _ _ _ (2 ^ 43) (2 ^ 43) (omega arith)
-      (point_held i px py ex ey n.px_near n.py_near r.ex_near r.ey_near room (omega (arith, r.ey_length)))
-      (point_held i qx qy nx ny n.qx_near n.qy_near r.nx_near r.ny_near (omega (arith, r.nx_length)) (omega (arith, r.ny_length)))
+    (point_held i px py ex ey n.px_near n.py_near r.ex_near r.ey_near room (omega (arith, r.ey_length)))
+    (point_held i qx qy nx ny n.qx_near n.qy_near r.nx_near r.ny_near (omega (arith, r.nx_length)) (omega (arith, r.ny_length)))
 
 pub overflow_add-links-3 : goal.overflow_add-links-3
 overflow_add-links-3 c =
@@ -73,26 +73,26 @@ overflow_add-links-3 c =
     let n = c.requires.near in
     let r = c.requires.rows in
     sum_fit a.at _ _ _ _ (2 ^ 43) (2 ^ 43) (omega arith)
-      (point_held a.at a.aim.now.px a.aim.now.py a.ex.now a.ey.now n.px_near n.py_near r.ex_near r.ey_near (omega arith) (omega (arith, r.ey_length)))
-      (point_held a.at a.aim.now.qx a.aim.now.qy a.nx.now a.ny.now n.qx_near n.qy_near r.nx_near r.ny_near (omega (arith, r.nx_length)) (omega (arith, r.ny_length)))
+    (point_held a.at a.aim.now.px a.aim.now.py a.ex.now a.ey.now n.px_near n.py_near r.ex_near r.ey_near (omega arith) (omega (arith, r.ey_length)))
+    (point_held a.at a.aim.now.qx a.aim.now.qy a.nx.now a.ny.now n.qx_near n.qy_near r.nx_near r.ny_near (omega (arith, r.nx_length)) (omega (arith, r.ny_length)))
 
 pub overflow_add-sums : goal.overflow_add-sums
 overflow_add-sums c =
     let a = c.args in
     let r = c.requires.rows in
     sum_fit a.at _ _ _ _ (2 ^ 44) (2 ^ 60) (omega arith)
-      (links_held a.at a.aim.now.px a.aim.now.py a.aim.now.qx a.aim.now.qy a.ex.now a.ey.now a.nx.now a.ny.now a.c.now c.requires.near r (omega arith))
-      (load a.at a.c.now (2 ^ 60) (omega (arith, r.c_length)) r.c_small)
+    (links_held a.at a.aim.now.px a.aim.now.py a.aim.now.qx a.aim.now.qy a.ex.now a.ey.now a.nx.now a.ny.now a.c.now c.requires.near r (omega arith))
+    (load a.at a.c.now (2 ^ 60) (omega (arith, r.c_length)) r.c_small)
 
 -- from the mask of the lanes below the limit to the first place
 found : (i : ℕ) (px py qx qy : ℤ) (ex ey nx ny c : List ℤ) (limit : ℤ) (r : ℕ) → AreNear px py qx qy → AreRows ex ey nx ny c → i + 4 ≤ length ex → SFits w64 limit
     → (let m : ℕ = mask_l (marks (sum (sum (sum (far i px ex) (far i py ey)) (sum (far i qx nx) (far i qy ny))) (map (of_z w64) (take 4 (drop i c)))) (replicate 4 (of_z w64 limit))) % 2 ^ 64 in
-      r ≡ cond (eqb m 0) 4 (count_trailing_zeros 64 m))
+    r ≡ cond (eqb m 0) 4 (count_trailing_zeros 64 m))
     → Stops i r (sum_at px py qx qy ex ey nx ny c) limit
 found i px py qx qy ex ey nx ny c limit r n h room fits e =
     let all = sum_held i _ _ _ _ (2 ^ 44) (2 ^ 60) (omega arith) (links_held i px py qx qy ex ey nx ny c n h room) (load i c (2 ^ 60) (omega (arith, h.c_length)) h.c_small) in
     let same : (k : ℕ) → pos (distance px (get_or ex k (pos 0)) + distance py (get_or ey k (pos 0)) + (distance qx (get_or nx k (pos 0)) + distance qy (get_or ny k (pos 0)))) +ℤ get_or c k (pos 0) ≡ sum_at px py qx qy ex ey nx ny c k
-      = (λ k. ap (λ (s : ℕ). pos s +ℤ get_or c k (pos 0)) (omega arith)) in
+    = (λ k. ap (λ (s : ℕ). pos s +ℤ get_or c k (pos 0)) (omega arith)) in
     subst (λ (f : ℕ → ℤ). Stops i r f limit) (λ t k. same k t) (stops_at i _ _ (2 ^ 44 + 2 ^ 60) limit r (omega arith) all fits e)
 
 none_set : (m x y : ℕ) → m ≡ 0 → x ≡ cond (eqb m 0) x y
