@@ -85,12 +85,12 @@ block_left i old now ms f l r =
     ∙ (λ t. drop (n t) (r t)) ∙ drop-drop 32 i old
 
 -- the step by one element
-pub one_done : (i y : ℕ) (old now ms : List ℕ) → length old ≡ length ms → length now ≡ length ms → i < length ms
-    → take i now ≡ zip2 flipped_where (take i old) (take i ms) → drop i now ≡ drop i old → y ≡ flipped_where (get_or now i 0) (get_or ms i 0)
-    → take (i + 1) (set now i y) ≡ zip2 flipped_where (take (i + 1) old) (take (i + 1) ms)
-one_done i y old now ms e f l d r q =
-    take_more_set now i y (omega arith)
-    ∙ (λ t. d t ++ (q ∙ ap (λ (x : ℕ). flipped_where x (get_or ms i 0)) (at_left i old now r)) t ∷ [])
+pub one_done : (i : ℕ) (old now ms : List ℕ) → length old ≡ length ms → length now ≡ length ms → i < length ms
+    → take i now ≡ zip2 flipped_where (take i old) (take i ms) → drop i now ≡ drop i old
+    → take (i + 1) (set now i (flipped_where (get_or now i 0) (get_or ms i 0))) ≡ zip2 flipped_where (take (i + 1) old) (take (i + 1) ms)
+one_done i old now ms e f l d r =
+    take_more_set now i (flipped_where (get_or now i 0) (get_or ms i 0)) (omega arith)
+    ∙ (λ t. d t ++ flipped_where (at_left i old now r t) (get_or ms i 0) ∷ [])
     ∙ sym (zip2-append flipped_where (take i old) (get_or old i 0 ∷ []) (take i ms) (get_or ms i 0 ∷ []) (length-take-le i old (omega arith) ∙ sym (length-take-le i ms (omega arith))))
     ∙ (λ t. zip2 flipped_where (sym (take_more old i 0 (omega arith)) t) (sym (take_more ms i 0 l) t))
 

@@ -4,7 +4,7 @@ ghost use Rattle.std.specs.List.{prefix_len};
 ghost use Rattle.std.specs.Simd.Lanes.{zip2, chunk, put_chunk};
 ghost use Rattle.lane_kernels.specs.Kernels.{flipped_where, is_allowed};
 
-use crate::plain::flipped_byte;
+use crate::plain::flip_at;
 use std::simd::prelude::*;
 
 /// How many of the bytes are `b`.
@@ -37,7 +37,7 @@ pub fn flip_where(symbols: &mut [u8], mask: &[u8])
         at += 32;
     }
     while at < mask.len() {
-        symbols[at] = flipped_byte(symbols[at], mask[at]);
+        flip_at(symbols, mask, at);
         at += 1;
     }
 }

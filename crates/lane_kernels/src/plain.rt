@@ -1,7 +1,7 @@
 //! The same calls one element at a time, under the same contracts: what the lanes are held against.
-ghost use Rattle.std.specs.Prelude.{◌≡◌, ℕ, ℤ, pos, ◌+◌, ◌^◌, ◌<◌, ◌≤◌, ◌<ℤ◌, ◌≤ℤ◌, ◌==◌, length, count_by, unsigned_abs, IfSome, IfNone, IsTrue, ◌↔◌, slice_index, true, false};
+ghost use Rattle.std.specs.Prelude.{◌≡◌, ℕ, ℤ, pos, ◌+◌, ◌^◌, ◌<◌, ◌≤◌, ◌<ℤ◌, ◌≤ℤ◌, ◌==◌, length, count_by, unsigned_abs, IfSome, IfNone, IsTrue, ◌↔◌, slice_index, slice_set, true, false};
 ghost use Rattle.std.specs.Simd.Lanes.{zip2};
-ghost use Rattle.lane_kernels.specs.Kernels.{flipped_where, is_allowed, AllWithin, AreNear, AreRows, sum_at};
+ghost use Rattle.lane_kernels.specs.Kernels.{flipped, flipped_where, is_allowed, AllWithin, AreNear, AreRows, sum_at};
 
 /// How many of the bytes are `b`.
 pub fn count_byte(bytes: &[u8], b: u8) -> usize
@@ -16,29 +16,37 @@ pub fn count_byte(bytes: &[u8], b: u8) -> usize
     total
 }
 
-/// What becomes of one symbol: with a mask of 0 it stays, else `0` and `1`, and `L` and `H`, are exchanged.
-pub fn flipped_byte(symbol: u8, mask: u8) -> u8
-    ensures value { result ≡ flipped_where symbol mask }
-{
-    if mask == 0 {
-        return symbol;
-    }
-    match symbol {
-        b'0' => b'1',
-        b'1' => b'0',
-        b'L' => b'H',
-        b'H' => b'L',
-        other => other,
-    }
-}
-
 /// Exchanges `0` and `1`, and `L` and `H`, where the mask is not 0; all else stays.
 pub fn flip_where(symbols: &mut [u8], mask: &[u8])
     requires lengths { length symbols.old ≡ length mask.now }
     ensures value { symbols.new ≡ zip2 flipped_where symbols.old mask.now }
 {
     for at in 0..mask.len() {
-        symbols[at] = flipped_byte(symbols[at], mask[at]);
+        flip_at(symbols, mask, at);
+    }
+}
+
+// Exchanges the symbol at one place, if the mask is not 0 there.
+pub(crate) fn flip_at(symbols: &mut [u8], mask: &[u8], at: usize)
+    requires symbols { at < length symbols.old }
+    requires mask { at < length mask.now }
+    ensures value { symbols.new ≡ slice_set symbols.old at (flipped_where (slice_index symbols.old at) (slice_index mask.now at)) }
+{
+    if mask[at] != 0 {
+        symbols[at] = flipped(symbols[at]);
+    }
+}
+
+// `0` for `1`, `1` for `0`, `L` for `H`, `H` for `L`, and every other symbol for itself.
+fn flipped(symbol: u8) -> u8
+    ensures value { result ≡ flipped symbol }
+{
+    match symbol {
+        b'0' => b'1',
+        b'1' => b'0',
+        b'L' => b'H',
+        b'H' => b'L',
+        other => other,
     }
 }
 

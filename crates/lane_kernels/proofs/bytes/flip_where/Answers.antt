@@ -19,6 +19,6 @@ loop-at-2-preserved c =
     let before = c.loop-at-2.invariant in
     record {
       within = omega arith;
-      done = one_done c.loop-at-2.at c.flipped_byte.result c.args.symbols.now c.loop-at-2.symbols c.args.mask.now (omega arith) (omega arith) c.loop-at-2-test.true before.done before.left c.flipped_byte.ensures.value;
-      left = one_left c.loop-at-2.at c.flipped_byte.result c.args.symbols.now c.loop-at-2.symbols before.left;
+      done = ap (take (c.loop-at-2.at + 1)) c.flip_at.ensures.value ∙ one_done c.loop-at-2.at c.args.symbols.now c.loop-at-2.symbols c.args.mask.now (omega arith) (omega arith) c.loop-at-2-test.true before.done before.left;
+      left = ap (drop (c.loop-at-2.at + 1)) c.flip_at.ensures.value ∙ one_left c.loop-at-2.at _ c.args.symbols.now c.loop-at-2.symbols before.left;
     }
