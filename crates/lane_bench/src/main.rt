@@ -12,29 +12,54 @@ mod sample;
 
 use inputs::{numbers, text};
 use lane_kernels::plain;
-use sample::{Sample, Unit};
+use sample::{Kernel, Sample};
 use std::alloc::Global;
 use std::rt::Clock;
 use std::time::Instant;
 use std::{env, io};
 
 const LENGTHS: [usize; 3] = [64, 1_000, 100_000];
-// how many elements each kernel goes over in all at each length, where it is timed and where it is not
-const TIMED: usize = 100_000_000;
 
-const UNTIMED: usize = 300_000;
+const KERNELS: [Kernel; 4] = [
+    Kernel::CountByte,
+    Kernel::FlipWhere,
+    Kernel::AnyByteOutside,
+    Kernel::FirstGain,
+];
 
 fn main(rt: HostRuntime) -> io::Result<()> {
     let timed = env::args(&rt)?.count() > 1;
-    let elements = if timed { TIMED } else { UNTIMED };
+    // the tries, of which the best counts, and how many elements a try goes over
+    let (tries, elements) = if timed {
+        (20, 10_000_000)
+    } else {
+        (1, 300_000)
+    };
     for length in LENGTHS {
-        let rounds = elements / length.max(1);
-        count(&rt, length, rounds)?.print(&rt, "count_byte", timed)?;
-        flip(&rt, length, rounds)?.print(&rt, "flip_where", timed)?;
-        outside(&rt, length, rounds)?.print(&rt, "any_byte_outside", timed)?;
-        gains(&rt, length, rounds)?.print(&rt, "first_gain", timed)?;
+        for kernel in KERNELS {
+            let rounds = elements / length.max(1);
+            let mut best = measure(&rt, kernel, length, rounds)?;
+            for _ in 1..tries {
+                best = best.better(measure(&rt, kernel, length, rounds)?);
+            }
+            best.print(&rt, kernel, timed)?;
+        }
     }
     Ok(())
+}
+
+fn measure(
+    rt: &(impl Clock + Alloc<A = Global>),
+    kernel: Kernel,
+    length: usize,
+    rounds: usize,
+) -> io::Result<Sample> {
+    match kernel {
+        Kernel::CountByte => count(rt, length, rounds),
+        Kernel::FlipWhere => flip(rt, length, rounds),
+        Kernel::AnyByteOutside => outside(rt, length, rounds),
+        Kernel::FirstGain => gains(rt, length, rounds),
+    }
 }
 
 fn count(
@@ -55,7 +80,6 @@ fn count(
     }
     let lanes = start.elapsed(rt)?;
     Ok(Sample {
-        unit: Unit::Bytes,
         length,
         rounds,
         plain,
@@ -89,7 +113,6 @@ fn flip(rt: &(impl Clock + Alloc<A = Global>), length: usize, rounds: usize) -> 
     }
     let lanes = start.elapsed(rt)?;
     Ok(Sample {
-        unit: Unit::Bytes,
         length,
         rounds,
         plain,
@@ -121,7 +144,6 @@ fn outside(
     }
     let lanes = start.elapsed(rt)?;
     Ok(Sample {
-        unit: Unit::Bytes,
         length,
         rounds,
         plain,
@@ -130,11 +152,10 @@ fn outside(
     })
 }
 
-// Writes an allowed byte, so that no round can be left out.
+// Changes the first byte for an allowed one, so that no round can be left out.
 fn touch(text: &mut [u8], round: usize) {
-    if !text.is_empty() {
-        let at = round % text.len();
-        text[at] = b'X';
+    if let Some(first) = text.first_mut() {
+        *first = if round % 2 == 0 { b'X' } else { b'0' };
     }
 }
 
@@ -188,7 +209,6 @@ fn gains_of_rows(
     }
     let lanes = start.elapsed(rt)?;
     Ok(Sample {
-        unit: Unit::Elements,
         length: ex.len(),
         rounds,
         plain,

@@ -1,17 +1,19 @@
-//! One line of the table.
+//! The kernels that are timed, and one line of the table.
 
 use std::io;
 use std::time::Duration;
 
 #[derive(Clone, Copy)]
-pub enum Unit {
-    Bytes,
-    Elements,
+pub enum Kernel {
+    CountByte,
+    FlipWhere,
+    AnyByteOutside,
+    FirstGain,
 }
 
+/// What some rounds of one kernel took.
 #[derive(Clone, Copy)]
 pub struct Sample {
-    pub unit: Unit,
     pub length: usize,
     pub rounds: usize,
     pub plain: Duration,
@@ -20,22 +22,45 @@ pub struct Sample {
     pub alike: bool,
 }
 
+impl Kernel {
+    fn name(self) -> &'static str {
+        match self {
+            Kernel::CountByte => "count_byte",
+            Kernel::FlipWhere => "flip_where",
+            Kernel::AnyByteOutside => "any_byte_outside",
+            Kernel::FirstGain => "first_gain",
+        }
+    }
+}
+
 impl Sample {
-    pub fn print(&self, rt: &impl Print, kernel: &str, timed: bool) -> io::Result<()> {
+    /// The shorter times of both.
+    pub fn better(self, other: Sample) -> Sample {
+        Sample {
+            length: self.length,
+            rounds: self.rounds,
+            plain: self.plain.min(other.plain),
+            lanes: self.lanes.min(other.lanes),
+            alike: self.alike && other.alike,
+        }
+    }
+
+    pub fn print(&self, rt: &impl Print, kernel: Kernel, timed: bool) -> io::Result<()> {
+        let name = kernel.name();
         let answers = if self.alike { "alike" } else { "NOT ALIKE" };
         let length = self.length;
         if !timed {
-            return println!(rt; "{kernel} {length} {answers}");
+            return println!(rt; "{name} {length} {answers}");
         }
-        let plain = self.hundredths(self.plain);
-        let lanes = self.hundredths(self.lanes);
+        let plain = self.hundredths(kernel, self.plain);
+        let lanes = self.hundredths(kernel, self.lanes);
         let times = self.plain.as_nanos().saturating_mul(100) / self.lanes.as_nanos().max(1);
-        let unit = match self.unit {
-            Unit::Bytes => "GB/s",
-            Unit::Elements => "ns an element",
+        let unit = match kernel {
+            Kernel::FirstGain => "ns an element",
+            _ => "GB/s",
         };
         println!(rt;
-            "{kernel} {length} {answers}: plain {}.{:02}, lanes {}.{:02} {unit}, {}.{:02} times",
+            "{name} {length} {answers}: plain {}.{:02}, lanes {}.{:02} {unit}, {}.{:02} times",
             plain / 100,
             plain % 100,
             lanes / 100,
@@ -45,15 +70,15 @@ impl Sample {
         )
     }
 
-    // Hundredths of the unit.
-    fn hundredths(&self, time: Duration) -> u128 {
+    // Hundredths of the kernel's unit.
+    fn hundredths(&self, kernel: Kernel, time: Duration) -> u128 {
         let elements = (self.length as u128)
             .saturating_mul(self.rounds as u128)
             .max(1);
         let nanos = time.as_nanos().max(1);
-        match self.unit {
-            Unit::Bytes => elements.saturating_mul(100) / nanos,
-            Unit::Elements => nanos.saturating_mul(100) / elements,
+        match kernel {
+            Kernel::FirstGain => nanos.saturating_mul(100) / elements,
+            _ => elements.saturating_mul(100) / nanos,
         }
     }
 }

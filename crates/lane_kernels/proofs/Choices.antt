@@ -1,5 +1,5 @@
 -- Choices by the comparison with a splat, lane by lane.
-use Rattle.std.proofs.Common.{◌≡◌, ℕ, ◌+◌, ◌-◌, ◌<◌, ◌≤◌, ◌^◌, List, [], ◌∷◌, ◌++◌, Bool, true, false, cond, eqb, map, length, take, drop, get_or, replicate, refl, sym, ap, ◌∙◌, arith, suc, zero, w8, subst, set, add-zero, not, ◌||◌, ◌%◌, inl, inr}
+use Rattle.std.proofs.Common.{◌≡◌, ℕ, ◌+◌, ◌-◌, ◌<◌, ◌≤◌, ◌^◌, List, [], ◌∷◌, ◌++◌, Bool, true, false, cond, eqb, map, length, take, drop, get_or, replicate, refl, sym, ap, ◌∙◌, arith, w8, subst, set, add-zero, not, ◌||◌, ◌%◌, inl, inr}
 use Rattle.std.specs.Simd.Lanes.{zip2, sel_l, top, chunk, put_chunk, mask_l}
 use Rattle.std.proofs.lemmas.Simd.{tops_compared, length-zip2, length-chunk, take_more_put_chunk, put_chunk_is, splat_is_map, bitmask_splat, first_set_mask_l, map-map, get_or-chunk}
 use Rattle.std.proofs.Math.Seq.{take-add}

@@ -1,4 +1,4 @@
-use Rattle.std.proofs.Common.{ℕ, ◌+◌, ◌<◌, ◌≤◌, arith}
+use Rattle.std.proofs.Common.{◌≤◌, arith}
 use Rattle.lane_kernels.specs.Kernels.{is_allowed}
 use Rattle.lane_kernels.proofs.Choices.{run_passes, run_stops, run_short}
 use Rattle.lane_kernels.proofs.bytes.any_byte_outside.Goals as goal

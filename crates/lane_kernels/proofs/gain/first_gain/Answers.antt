@@ -1,7 +1,6 @@
-use Rattle.std.proofs.Common.{ℕ, ℤ, ◌+◌, ◌<◌, ◌≤◌, ◌<ℤ◌, ◌≤ℤ◌, to_z, of_z, w64, below_more, inl, inr, arith}
+use Rattle.std.proofs.Common.{ℕ, ◌<◌, ◌≤◌, below_more, inl, inr, arith}
 use Rattle.std.proofs.lemmas.Bool.{cases_lt}
 use Rattle.std.proofs.lemmas.Int.{to_z-of_z}
-use Rattle.lane_kernels.specs.Kernels.{sum_at}
 use Rattle.lane_kernels.proofs.gain.first_gain.Goals as goal
 
 -- what holds below i, and from i on, holds below n

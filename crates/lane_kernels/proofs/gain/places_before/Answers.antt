@@ -1,4 +1,4 @@
-use Rattle.std.proofs.Common.{◌≡◌, ◌≢◌, ℕ, ℤ, pos, ◌+◌, ◌-◌, ◌*◌, ◌%◌, ◌^◌, ◌≤◌, ◌+ℤ◌, ◌-ℤ◌, List, length, get_or, arith, ap, ◌∙◌, unsigned_abs, cond, eqb, rules, map, take, drop, replicate, w64, of_z, subst}
+use Rattle.std.proofs.Common.{◌≡◌, ◌≢◌, ℕ, ℤ, pos, ◌+◌, ◌%◌, ◌^◌, ◌≤◌, ◌+ℤ◌, List, length, get_or, arith, ap, unsigned_abs, cond, eqb, rules, map, take, drop, replicate, w64, of_z, subst}
 use Rattle.std.specs.List.{range_with_len}
 use Rattle.std.specs.Simd.Lanes.{zip2, mask_l}
 use Rattle.std.proofs.lemmas.Bool.Decides.{nat_tests}

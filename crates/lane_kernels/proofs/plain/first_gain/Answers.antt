@@ -1,6 +1,5 @@
-use Rattle.std.proofs.Common.{ℕ, ℤ, ◌<◌, ◌≤◌, ◌<ℤ◌, ◌≤ℤ◌, to_z, of_z, w64, below_more}
+use Rattle.std.proofs.Common.{below_more}
 use Rattle.std.proofs.lemmas.Int.{to_z-of_z}
-use Rattle.lane_kernels.specs.Kernels.{sum_at}
 use Rattle.lane_kernels.proofs.plain.first_gain.Goals as goal
 
 pub returns-then-is_gain-clause-found : goal.returns-then-is_gain-clause-found

@@ -1,4 +1,4 @@
-use Rattle.std.proofs.Common.{◌≡◌, ℕ, ℤ, pos, ◌+◌, ◌-◌, ◌*◌, ◌^◌, ◌<◌, ◌≤◌, ◌+ℤ◌, ◌-ℤ◌, ◌≤ℤ◌, ◌<ℤ◌, List, true, false, Bool, arith, rules, get_or, length, unsigned_abs, to_z, of_z, w64, ap, ◌∙◌, sym}
+use Rattle.std.proofs.Common.{◌≡◌, ℕ, ℤ, pos, ◌+◌, ◌^◌, ◌≤◌, ◌+ℤ◌, ◌-ℤ◌, ◌≤ℤ◌, ◌<ℤ◌, List, true, false, arith, rules, get_or, unsigned_abs, to_z, of_z, w64, ap, ◌∙◌}
 use Rattle.std.proofs.lemmas.Int.{ints, to_z-of_z}
 use Rattle.lane_kernels.specs.Kernels.{AreNear, AreRows, distance, sum_at}
 use Rattle.lane_kernels.proofs.plain.is_gain.Goals as goal
