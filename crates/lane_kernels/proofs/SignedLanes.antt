@@ -88,6 +88,7 @@ sel_l-maps : (b : ℕ → Bool) (g h : ℕ → ℕ) (ks : List ℕ) → sel_l (m
 sel_l-maps b g h [] = refl
 sel_l-maps b g h (k ∷ ks) = ap (λ r. cond (b k) (g k) (h k) ∷ r) (sel_l-maps b g h ks)
 
+-- a number without its sign, as the code chooses it
 size_by : (a : ℤ) → unsigned_abs a ≤ 2 ^ 62 → (t : Bool) → is_below (of_z w64 a) (of_z w64 (pos 0 -ℤ a)) ≡ t → cond t (of_z w64 (pos 0 -ℤ a)) (of_z w64 a) ≡ of_z w64 (pos (unsigned_abs a))
 size_by a p true e = omega (arith, ints)
 size_by a p false e = omega (arith, ints)
@@ -145,6 +146,7 @@ not_below a z e = grind (arith, ints)
 below : (a z : ℤ) → not (lt_z a z) ≡ false → a <ℤ z
 below a z e = grind (arith, ints)
 
+-- at the r-th place from `at` on f is below z, or r is 4, and at none of those before
 pub record Stops (at r : ℕ) (f : ℕ → ℤ) (z : ℤ) : Type 0 where
   pub high : r ≤ 4
   pub before : (j : ℕ) → at ≤ j → j < at + r → z ≤ℤ f j

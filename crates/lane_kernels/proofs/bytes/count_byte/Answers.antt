@@ -13,4 +13,8 @@ loop-at-preserved c =
     let n : at + 32 - at ≡ 32 = omega arith in
     let e : c.count_in.result ≡ count_by (λ x. eqb x b) (take 32 (drop at xs)) = c.count_in.ensures ∙ ap (λ m. count_by (λ x. eqb x b) (take m (drop at xs))) n in
     let all : count_by (λ x. eqb x b) (take (at + 32) xs) ≡ count_by (λ x. eqb x b) (take at xs) + count_by (λ x. eqb x b) (take 32 (drop at xs)) = count_block (λ x. eqb x b) xs at 32 in
-    (omega arith, omega arith, omega (arith, count_by-le-length (λ x. eqb x b) (take (at + 32) xs), length-take-le (at + 32) xs (omega arith)))
+    record {
+      within = omega arith;
+      counted = omega arith;
+      small = omega (arith, count_by-le-length (λ x. eqb x b) (take (at + 32) xs), length-take-le (at + 32) xs (omega arith));
+    }

@@ -1,5 +1,5 @@
 use Rattle.std.proofs.Common.{List, ℕ, ◌+◌, arith, ap, take, drop, ◌∙◌}
-use Rattle.lane_kernels.proofs.Choices.{block_done, block_left, one_done, one_left}
+use Rattle.lane_kernels.proofs.Flips.{block_done, block_left, one_done, one_left}
 use Rattle.lane_kernels.proofs.bytes.flip_where.Goals as goal
 
 pub loop-at-preserved : goal.loop-at-preserved

@@ -1,3 +1,4 @@
+-- The points and the limit go into a struct: each comes back from it as `to_z w64 (of_z w64 x)`, which is x where it fits.
 use Rattle.std.proofs.Common.{ℕ, ◌<◌, ◌≤◌, below_more, inl, inr, arith}
 use Rattle.std.proofs.lemmas.Bool.{cases_lt}
 use Rattle.std.proofs.lemmas.Int.{to_z-of_z}

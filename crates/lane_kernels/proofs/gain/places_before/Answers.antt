@@ -1,8 +1,8 @@
-use Rattle.std.proofs.Common.{◌≡◌, ◌≢◌, ℕ, ℤ, pos, ◌+◌, ◌%◌, ◌^◌, ◌≤◌, ◌+ℤ◌, List, length, get_or, arith, ap, unsigned_abs, cond, eqb, rules, map, take, drop, replicate, w64, of_z, subst}
+use Rattle.std.proofs.Common.{◌≡◌, ℕ, ℤ, pos, ◌+◌, ◌%◌, ◌^◌, ◌≤◌, ◌+ℤ◌, List, length, get_or, arith, ap, unsigned_abs, cond, eqb, rules, map, take, drop, replicate, w64, of_z, subst}
 use Rattle.std.specs.List.{range_with_len}
 use Rattle.std.specs.Simd.Lanes.{zip2, mask_l}
-use Rattle.std.proofs.lemmas.Bool.Decides.{nat_tests}
 use Rattle.lane_kernels.specs.Kernels.{AllWithin, AreNear, AreRows, distance, sum_at}
+use Rattle.lane_kernels.proofs.Choices.{none_marked, some_marked}
 use Rattle.lane_kernels.proofs.SignedLanes.{Holds, Stops, load, away_fit, away_held, sizes, sizes_fit, distances_held, sum_fit, sum_held, stops_at, bits_of, minus, plus, marks}
 use Rattle.lane_kernels.proofs.gain.places_before.Goals as goal
 use mir.Val.{SFits}
@@ -12,6 +12,7 @@ use lib.Count.{count_trailing_zeros}
 abbrev far : ℕ → ℤ → List ℤ → List ℕ
 far i x xs = sizes (zip2 (bits_of minus) (replicate 4 (of_z w64 x)) (map (of_z w64) (take 4 (drop i xs))))
 
+-- the sum of two vectors
 abbrev sum : List ℕ → List ℕ → List ℕ
 sum v w = zip2 (bits_of plus) v w
 
@@ -95,22 +96,16 @@ found i px py qx qy ex ey nx ny c limit r n h room fits e =
     = (λ k. ap (λ (s : ℕ). pos s +ℤ get_or c k (pos 0)) (omega arith)) in
     subst (λ (f : ℕ → ℤ). Stops i r f limit) (λ t k. same k t) (stops_at i _ _ (2 ^ 44 + 2 ^ 60) limit r (omega arith) all fits e)
 
-none_set : (m x y : ℕ) → m ≡ 0 → x ≡ cond (eqb m 0) x y
-none_set m x y e = grind (arith, nat_tests)
-
-some_set : (m x y : ℕ) → m ≢ 0 → y ≡ cond (eqb m 0) x y
-some_set m x y e = grind (arith, nat_tests)
-
 pub returns-then-marks-eq0 : goal.returns-then-marks-eq0
 returns-then-marks-eq0 c =
     let a = c.args in
     let fits : SFits w64 a.aim.now.limit = search rules in
-    let s = found a.at a.aim.now.px a.aim.now.py a.aim.now.qx a.aim.now.qy a.ex.now a.ey.now a.nx.now a.ny.now a.c.now a.aim.now.limit 4 c.requires.near c.requires.rows (omega arith) fits (none_set _ _ _ c.if-marks-eq0.true) in
+    let s = found a.at a.aim.now.px a.aim.now.py a.aim.now.qx a.aim.now.qy a.ex.now a.ey.now a.nx.now a.ny.now a.c.now a.aim.now.limit 4 c.requires.near c.requires.rows (omega arith) fits (none_marked _ _ _ c.if-marks-eq0.true) in
     record { high = s.high; before = s.before; stops = s.stops }
 
 pub returns-else-marks-eq0 : goal.returns-else-marks-eq0
 returns-else-marks-eq0 c =
     let a = c.args in
     let fits : SFits w64 a.aim.now.limit = search rules in
-    let s = found a.at a.aim.now.px a.aim.now.py a.aim.now.qx a.aim.now.qy a.ex.now a.ey.now a.nx.now a.ny.now a.c.now a.aim.now.limit _ c.requires.near c.requires.rows (omega arith) fits (some_set _ _ _ c.if-marks-eq0.false) in
+    let s = found a.at a.aim.now.px a.aim.now.py a.aim.now.qx a.aim.now.qy a.ex.now a.ey.now a.nx.now a.ny.now a.c.now a.aim.now.limit _ c.requires.near c.requires.rows (omega arith) fits (some_marked _ _ _ c.if-marks-eq0.false) in
     record { high = s.high; before = s.before; stops = s.stops }

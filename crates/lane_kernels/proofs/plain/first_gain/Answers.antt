@@ -1,3 +1,4 @@
+-- The points and the limit go into a struct: each comes back from it as `to_z w64 (of_z w64 x)`, which is x where it fits.
 use Rattle.std.proofs.Common.{below_more}
 use Rattle.std.proofs.lemmas.Int.{to_z-of_z}
 use Rattle.lane_kernels.proofs.plain.first_gain.Goals as goal

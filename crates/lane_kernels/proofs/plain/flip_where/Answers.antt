@@ -1,5 +1,5 @@
 use Rattle.std.proofs.Common.{◌+◌, take, drop, ap, ◌∙◌, arith}
-use Rattle.lane_kernels.proofs.Choices.{one_done, one_left}
+use Rattle.lane_kernels.proofs.Flips.{one_done, one_left}
 use Rattle.lane_kernels.proofs.plain.flip_where.Goals as goal
 
 pub loop-at-preserved : goal.loop-at-preserved
