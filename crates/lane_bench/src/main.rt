@@ -5,7 +5,7 @@
 #![tactic(auto)]
 
 ghost use Rattle.std.specs.Prelude.{◌≡◌, ◌≤◌, ◌^◌, length, unsigned_abs};
-ghost use Rattle.lane_kernels.specs.Kernels.{AreRows};
+ghost use Rattle.lane_kernels.specs.Kernels.{AreNear, AreRows};
 
 mod inputs;
 mod sample;
@@ -194,18 +194,16 @@ fn gains_of_rows(
     let (mut by_one, mut by_lanes) = (0usize, 0usize);
     let start = Instant::now(rt)?;
     for round in 0..rounds {
-        let p = (round % 1024) as i64;
-        by_one = by_one.wrapping_add(plain::first_gain(p, p, p, p, ex, ey, nx, ny, c, 0).unwrap_or(
-            1,
-        ));
+        let (px, py, qx, qy, limit) = aim(round);
+        let found = plain::first_gain(px, py, qx, qy, ex, ey, nx, ny, c, limit);
+        by_one = by_one.wrapping_add(found.unwrap_or(1));
     }
     let plain = start.elapsed(rt)?;
     let start = Instant::now(rt)?;
     for round in 0..rounds {
-        let p = (round % 1024) as i64;
-        by_lanes = by_lanes.wrapping_add(lane_kernels::first_gain(
-            p, p, p, p, ex, ey, nx, ny, c, 0,
-        ).unwrap_or(1));
+        let (px, py, qx, qy, limit) = aim(round);
+        let found = lane_kernels::first_gain(px, py, qx, qy, ex, ey, nx, ny, c, limit);
+        by_lanes = by_lanes.wrapping_add(found.unwrap_or(1));
     }
     let lanes = start.elapsed(rt)?;
     Ok(Sample {
@@ -215,4 +213,12 @@ fn gains_of_rows(
         lanes,
         alike: by_one == by_lanes,
     })
+}
+
+// Other points in each round, and a limit that no sum is below, so that each call goes over the whole rows.
+fn aim(round: usize) -> (i64, i64, i64, i64, i64)
+    ensures { AreNear result.0 result.1 result.2 result.3 }
+{
+    let round = (round % 1000) as i64;
+    (round, 1000 - round, 2 * round, 3000 - round, -round)
 }
