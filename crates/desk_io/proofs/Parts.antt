@@ -1,13 +1,12 @@
 -- Parts of a desk in memory: what a read and a write of one of them does to the desk.
-use Rattle.std.proofs.Common.{◌≡◌, ◌≢◌, ◌<◌, ◌≤◌, ◌+◌, ◌-◌, ℕ, List, [], ◌++◌, length, take, drop, min, get_or, set, Option, Some, refl, sym, ◌∙◌, ap, subst, arith, take-append-drop}
+use Rattle.std.proofs.Common.{◌≡◌, ◌<◌, ◌≤◌, ◌+◌, ◌-◌, ℕ, List, [], ◌++◌, length, take, drop, min, get_or, set, Option, Some, refl, sym, ◌∙◌, ap, subst, arith, take-append-drop}
 use Rattle.std.proofs.lemmas.Grind.{common_steps}
 use Rattle.std.proofs.lemmas.List.{drop-drop}
 use Rattle.desk_io.specs.declared.slot.Slot.{Slot}
 use Rattle.desk_io.specs.declared.slot.Stage.{Stage}
 use Rattle.desk_io.specs.Number.{number}
-use Rattle.desk_io.specs.Desk.{IsOutput}
 use Rattle.desk_io.specs.Prefixes.{HasRead, HasWritten}
-use Rattle.desk_io.specs.Memory.{PartState, MemoryState, IsMemoryDesk, fresh_part, state_of, part_at}
+use Rattle.desk_io.specs.Memory.{PartState, MemoryState, IsMemoryDesk, state_of, part_at}
 use Rattle.desk_io.specs.Files.{bytes_of}
 use Rattle.desk_io.proofs.Slots.{number_small}
 

@@ -13,11 +13,15 @@ pub record SureState : Type 0 where
   pub taken : List ℕ
   pub stages : List Stage
 
+-- the bytes that are still to be read from a slot
+abbrev pub sure_unread : SureState → Slot → List ℕ
+sure_unread desk slot = drop (slice_index desk.taken (number slot)) (bytes_of desk.files slot)
+
 -- what stands at the slots: the inputs are told, what is written is not, and the count of faults is 0
 abbrev pub sure_slots : SureState → Slot → SlotState
 sure_slots desk slot = record {
   stage = slice_index_or desk.stages (number slot) Unopened;
-  unread = Some (drop (slice_index desk.taken (number slot)) (bytes_of desk.files slot));
+  unread = Some (sure_unread desk slot);
   written = None;
   faults = 0;
 }

@@ -1,6 +1,8 @@
-ghost use Rattle.std.specs.Prelude.{◌≡◌, true};
+ghost use Rattle.std.specs.Prelude.{◌≡◌, ◌<◌, true, length, min, IfOk};
 ghost use Rattle.desk_io.specs.declared.slot.Slot.{Slot};
-ghost use Rattle.desk_io.specs.Sure.{sure_slots, fresh_sure_slot};
+ghost use Rattle.desk_io.specs.Desk.{SameElsewhere};
+ghost use Rattle.desk_io.specs.Prefixes.{HasRead};
+ghost use Rattle.desk_io.specs.Sure.{sure_slots, sure_unread, fresh_sure_slot};
 
 use crate::desk::{Desk, Failed};
 use crate::files::{file_bytes, move_bytes};
@@ -10,7 +12,8 @@ use text_scan::Text;
 
 /// A desk over files in memory whose calls never fail, and which drops what is written.
 ///
-/// It tells its inputs, and nothing of what was written. It allows every name.
+/// A read moves as many bytes as there are and fit, and a write takes the whole piece. The desk tells its inputs, and
+/// nothing of what was written. It allows every name.
 #[derive(Drop)]
 pub struct SureDesk {
     files: Vec<(Slot, Text)>,
@@ -52,7 +55,12 @@ impl Desk for SureDesk {
         Ok(())
     }
 
-    fn read(&mut self, slot: Slot, room: &mut [u8]) -> Result<usize, Failed> {
+    fn read(&mut self, slot: Slot, room: &mut [u8]) -> Result<usize, Failed>
+        requires room { 0 < length room.old }
+        ensures moved { result ≡ Ok (min (length room.old) (length (sure_unread self.old slot))) }
+        ensures ok { IfOk result (λ count. HasRead count room.new (sure_slots self.old slot) (sure_slots self.new slot)) }
+        ensures elsewhere { SameElsewhere slot (sure_slots self.old) (sure_slots self.new) }
+    {
         let at = slot.number();
         let portion = room.len();
         let count = move_bytes(file_bytes(&self.files, slot), self.taken[at], room, portion);
@@ -60,7 +68,11 @@ impl Desk for SureDesk {
         Ok(count)
     }
 
-    fn write(&mut self, _slot: Slot, piece: &[u8]) -> Result<usize, Failed> {
+    fn write(&mut self, _slot: Slot, piece: &[u8]) -> Result<usize, Failed>
+        requires piece { 0 < length piece.now }
+        ensures whole { result ≡ Ok (length piece.now) }
+        ensures unchanged { self.new ≡ self.old }
+    {
         Ok(piece.len())
     }
 

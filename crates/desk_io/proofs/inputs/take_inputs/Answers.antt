@@ -1,6 +1,5 @@
-use Rattle.std.proofs.Common.{◌≡◌, ◌<◌, ◌≤◌, ◌+◌, ℕ, List, length, Option, Some, set, sym, subst, arith, rules}
+use Rattle.std.proofs.Common.{◌≡◌, ◌<◌, ◌≤◌, ℕ, length, Some, set, sym, subst, arith, rules}
 use Rattle.std.proofs.lemmas.Grind.{common_steps}
-use Rattle.desk_io.specs.declared.slot.Slot.{Slot}
 use Rattle.desk_io.specs.Number.{number}
 use Rattle.desk_io.specs.Names.{IsNamed}
 use Rattle.desk_io.specs.Inputs.{limit_of, HasTakenInputs}

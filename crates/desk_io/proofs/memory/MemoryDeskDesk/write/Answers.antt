@@ -1,4 +1,4 @@
-use Rattle.std.proofs.Common.{◌≡◌, ◌<◌, length, rules, arith}
+use Rattle.std.proofs.Common.{◌≡◌, ◌<◌, length, rules}
 use Rattle.desk_io.proofs.Parts.{part_writes_at, desk_kept}
 use Rattle.desk_io.proofs.memory.MemoryDeskDesk.write.Goals as goal
 
