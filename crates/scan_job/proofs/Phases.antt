@@ -18,7 +18,7 @@ use Rattle.scan_words.specs.declared.verb.Verb.{Verb}
 use Rattle.scan_words.specs.declared.verb.Verb.TheVariants as verbs
 use Rattle.scan_job.specs.declared.stop.Stop.{Stop}
 use Rattle.scan_job.specs.declared.stop.Stop.TheVariants.{NoForm, Refused, InputFailed, OutputFailed, NoMemory}
-use Rattle.narrow_rewire.specs.Faults.{first_fault as rewire_fault, written_verilog, moved_count}
+use Rattle.narrow_rewire.specs.Texts.{first_fault as rewire_fault, written_verilog, moved_count}
 use Rattle.scan_job.specs.Commands.{names_by, names_of, rewire_of}
 use Rattle.scan_job.specs.FirstFault.{size_fault, is_too_large, first_too_large, input_slots, command_fault, or_else, first_fault, fault_text}
 use Rattle.scan_job.specs.Texts.{rewire_text, AreTexts, AreRewired, AreOutputsOf}

@@ -19,7 +19,7 @@ use Rattle.scan_words.specs.declared.order.Order.{Order}
 use Rattle.scan_words.specs.declared.verb.Verb.{Verb}
 use Rattle.scan_words.specs.declared.verb.Verb.TheVariants as verbs
 use Rattle.scan_job.specs.Commands.{names_of, rewire_of}
-use Rattle.narrow_rewire.specs.Faults.{first_fault as rewire_fault}
+use Rattle.narrow_rewire.specs.Texts.{first_fault as rewire_fault}
 
 -- the file of an input slot, as faults name it
 abbrev pub file_of : Slot → FileKind

@@ -9,7 +9,7 @@ use Rattle.scan_words.specs.declared.verb.Verb.{Verb}
 use Rattle.scan_words.specs.declared.verb.Verb.TheVariants as verbs
 use Rattle.scan_job.specs.Commands.{rewire_of}
 use Rattle.scan_job.specs.FirstFault.{first_fault}
-use Rattle.narrow_rewire.specs.Faults.{written_verilog, moved_count}
+use Rattle.narrow_rewire.specs.Texts.{written_verilog, moved_count}
 
 -- what `rewire` says: how many in pins and ports it edited
 abbrev pub rewire_text : ℕ → List ℕ

@@ -4,7 +4,7 @@ ghost use Rattle.desk_io.specs.Inputs.{input_at};
 ghost use Rattle.scan_job.specs.FirstFault.{command_fault, Refuses};
 ghost use Rattle.scan_job.specs.Texts.{AreTexts, AreRewired};
 ghost use Rattle.scan_job.specs.Commands.{rewire_of};
-ghost use Rattle.narrow_rewire.specs.Faults.{first_fault};
+ghost use Rattle.narrow_rewire.specs.Texts.{first_fault};
 
 use crate::line::rewire_line;
 use crate::names::rewire_of;
