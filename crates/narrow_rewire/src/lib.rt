@@ -1,6 +1,0 @@
-//! Stand-in.
-#![tactic(auto)]
-
-mod rewire;
-
-pub use rewire::{Rewire, Rewired, rewire_text};
