@@ -1,0 +1,38 @@
+//! The length of a chain and of a plan.
+ghost use Rattle.std.specs.Prelude.{◌≡◌, ℕ, pos, ◌+◌, ◌*◌, ◌^◌, ◌≤◌, length};
+ghost use Rattle.wire_cost.specs.Lengths.{ArePlaced, IsChainAt, chain_length_of};
+
+use crate::ends::Ends;
+use crate::links::{point_after, point_before, wire};
+
+/// The length of a chain as an unsigned number, for sums.
+pub fn wire_of(ends: &Ends, chain: u32, units: &[u32]) -> u64
+    requires placed { ArePlaced ends.now }
+    requires chain { IsChainAt ends.now chain units.now }
+    ensures value { result ≡ chain_length_of ends.now chain units.now }
+    ensures small { result ≤ 2 ^ 43 * (length units.now + 1) }
+{
+    let mut total: u64 = 0;
+    for i in 0..units.len() {
+        total += wire(
+            point_before(ends, chain, units, i),
+            point_after(ends, chain, units, i),
+        );
+    }
+    let last = units.len();
+    total
+        + wire(
+            point_before(ends, chain, units, last),
+            point_after(ends, chain, units, last),
+        )
+}
+
+/// The length of a chain with these units, in half database units: the sum of its links from its start over the units,
+/// exit to entry, to its stop. It takes as many steps as there are units.
+pub fn chain_length(ends: &Ends, chain: u32, units: &[u32]) -> i64
+    requires placed { ArePlaced ends.now }
+    requires chain { IsChainAt ends.now chain units.now }
+    ensures value { result ≡ pos (chain_length_of ends.now chain units.now) }
+{
+    wire_of(ends, chain, units) as i64
+}
