@@ -1,5 +1,8 @@
 -- Links, the length of a chain and of a plan, and the sums of a chain's first links.
 use Rattle.std.specs.Prelude.{◌≡◌, ℕ, ℤ, ◌+◌, ◌^◌, ◌-ℤ◌, ◌<◌, ◌≤◌, List, [], ◌∷◌, length, take, sum, Option, Some, None, slice_get, slice_index_or, unsigned_abs}
+use Rattle.std.specs.List.{concat}
+use Rattle.chain_rules.specs.Legality.{chain_at}
+use Rattle.chain_rules.specs.declared.plan.Plan.{Plan}
 use Rattle.text_scan.specs.declared.span.Point.{Point}
 use Rattle.wire_cost.specs.declared.ends.Ends.{Ends}
 
@@ -47,6 +50,10 @@ chain_length_of e c us = length_of (chain_ends e c) us
 abbrev pub lengths_from : Ends → ℕ → List (List ℕ) → List ℕ
 lengths_from e c [] = []
 lengths_from e c (us ∷ rest) = chain_length_of e c us ∷ lengths_from e (c + 1) rest
+
+-- the length of a plan is the sum of the lengths of its chains
+abbrev pub plan_length_of : Ends → Plan → ℕ
+plan_length_of e p = sum (lengths_from e 0 p.chains)
 
 -- the sum of a chain's first k links
 abbrev pub forward_sum : ChainEnds → List ℕ → ℕ → ℕ
@@ -99,3 +106,12 @@ pub record IsChainAt (e : Ends) (c : ℕ) (us : List ℕ) : Type 0 where
   pub entry : AreWithin us (length e.entry)
   pub exit : AreWithin us (length e.exit)
   pub few : length us ≤ 65536
+
+-- the numbers of a plan's chains and units are in range, and both are few
+pub record IsPlanAt (e : Ends) (p : Plan) : Type 0 where
+  pub start : length p.chains ≤ length e.start
+  pub stop : length p.chains ≤ length e.stop
+  pub entry : (c : ℕ) → c < length p.chains → AreWithin (chain_at p c) (length e.entry)
+  pub exit : (c : ℕ) → c < length p.chains → AreWithin (chain_at p c) (length e.exit)
+  pub few_units : length (concat p.chains) ≤ 65536
+  pub few_chains : length p.chains ≤ 65536

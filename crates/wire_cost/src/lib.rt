@@ -10,6 +10,6 @@ mod links;
 mod sums;
 
 pub use ends::Ends;
-pub use lengths::{chain_length, wire_of};
+pub use lengths::{chain_length, plan_length, wire_of};
 pub use links::{link, point_after, point_before, wire};
 pub use sums::Sums;
