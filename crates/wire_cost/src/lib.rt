@@ -11,5 +11,5 @@ mod sums;
 
 pub use ends::Ends;
 pub use lengths::{chain_length, plan_length, wire_of};
-pub use links::{link, point_after, point_before, wire};
+pub use links::{entry_of, exit_of, link, point_after, point_before, wire};
 pub use sums::Sums;

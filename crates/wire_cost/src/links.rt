@@ -38,8 +38,9 @@ pub fn link(a: Option<Point>, b: Option<Point>) -> i64
     wire(a, b) as i64
 }
 
+/// Where a unit is entered.
 #[inline(always)]
-fn entry_of(ends: &Ends, unit: u32) -> Point
+pub fn entry_of(ends: &Ends, unit: u32) -> Point
     requires near { AreNear ends.now.entry }
     requires within { unit < length ends.now.entry }
     ensures value { slice_get ends.now.entry unit ≡ Some result }
@@ -48,8 +49,9 @@ fn entry_of(ends: &Ends, unit: u32) -> Point
     ends.entry.as_slice()[unit as usize]
 }
 
+/// Where a unit is left.
 #[inline(always)]
-fn exit_of(ends: &Ends, unit: u32) -> Point
+pub fn exit_of(ends: &Ends, unit: u32) -> Point
     requires near { AreNear ends.now.exit }
     requires within { unit < length ends.now.exit }
     ensures value { slice_get ends.now.exit unit ≡ Some result }
