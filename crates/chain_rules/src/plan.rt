@@ -1,4 +1,4 @@
-ghost use Rattle.std.specs.Prelude.{◌≡◌, ◌<◌, length, map, slice_index_or, slice_set, []};
+ghost use Rattle.std.specs.Prelude.{◌≡◌, ◌<◌, length, map, slice_index_or, []};
 ghost use Rattle.chain_rules.specs.Plans.{lists_of};
 
 use std::marker::Model;
@@ -45,14 +45,5 @@ impl Plan {
         ensures value { result.now ≡ slice_index_or self.now.chains chain [] }
     {
         self.chains[chain].as_slice()
-    }
-
-    /// Writes as many units as a chain has in the place of these; takes no memory.
-    pub fn write_chain(&mut self, chain: usize, units: &[u32])
-        requires within { chain < length self.old.chains }
-        requires same_length { length units.now ≡ length (slice_index_or self.old.chains chain []) }
-        ensures written { self.new.chains ≡ slice_set self.old.chains chain units.now }
-    {
-        self.chains[chain].as_mut_slice().copy_from_slice(units);
     }
 }
