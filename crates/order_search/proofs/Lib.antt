@@ -1,3 +1,5 @@
 pub mod Turns
 pub mod Pinned
 pub mod Different
+pub mod Legal
+pub mod Settling

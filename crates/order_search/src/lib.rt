@@ -6,7 +6,10 @@
 #![tactic(auto)]
 
 mod effort;
+mod nearest;
+mod order;
 mod reversals;
 
 pub use effort::Effort;
+pub use order::settle_order;
 pub use reversals::settle_chain;

@@ -79,7 +79,7 @@ fn settle_run(ends: &Ends, chain: u32, units: &mut [u32], limit: usize)
 }
 
 // How many of a chain's units a reversed run may hold: all but a pinned one at the end.
-fn free_count(rules: &Rules, units: &[u32]) -> usize
+pub(crate) fn free_count(rules: &Rules, units: &[u32]) -> usize
     requires units { AreWithin units.now (length rules.now.units) }
     ensures count { IsFreeCount rules.now units.now result }
 {
