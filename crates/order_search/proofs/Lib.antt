@@ -3,3 +3,4 @@ pub mod Pinned
 pub mod Different
 pub mod Legal
 pub mod Settling
+pub mod Placing

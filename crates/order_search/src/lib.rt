@@ -11,5 +11,6 @@ mod order;
 mod reversals;
 
 pub use effort::Effort;
+pub use nearest::nearest_plan;
 pub use order::settle_order;
 pub use reversals::settle_chain;

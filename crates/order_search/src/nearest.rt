@@ -32,3 +32,42 @@ fn nearest_of(ends: &Ends, from: Option<Point>, left: &[u32]) -> usize
     }
     best
 }
+
+// The units of a chain as read, each the nearest to what stands before it, and a pinned one last.
+fn nearest_chain(
+    alloc: Global,
+    rules: &Rules,
+    ends: &Ends,
+    chain: usize,
+) -> Result<Vec<u32>, NoMemory>
+    requires searchable { AreSearchable rules.now ends.now }
+    requires chain { chain < length rules.now.chains }
+    ensures value { IfOk result (λ units. IsNearestChain rules.now ends.now chain units.items) }
+{
+    let read = rules.read.chain(chain);
+    let free = free_count(rules, read);
+    let mut left = Vec::from_slice(alloc, &read[..free])?;
+    let mut placed = Vec::with_capacity(alloc, read.len())?;
+    let mut from = ends.start.as_slice()[chain];
+    for _ in 0..free {
+        let unit = left.remove(nearest_of(ends, from, left.as_slice()));
+        placed.push(unit)?;
+        from = Some(exit_of(ends, unit));
+    }
+    placed.extend_from_slice(&read[free..])?;
+    Ok(placed)
+}
+
+/// The plan of nearest neighbours: each chain keeps its units as read and takes from its start always the remaining one
+/// with the least link, the earliest as read on a tie, and a pinned one last. It takes quadratic time in a chain's units.
+pub fn nearest_plan(alloc: Global, rules: &Rules, ends: &Ends) -> Result<Plan, NoMemory>
+    requires searchable { AreSearchable rules.now ends.now }
+    ensures value { IfOk result (λ plan. IsNearestPlan rules.now ends.now plan) }
+    ensures legal { IfOk result (λ plan. IsLegal rules.now plan) }
+{
+    let mut chains = Vec::with_capacity(alloc, rules.read.len())?;
+    for chain in 0..rules.read.len() {
+        chains.push(nearest_chain(alloc, rules, ends, chain)?)?;
+    }
+    Ok(Plan::of(chains))
+}
