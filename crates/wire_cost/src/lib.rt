@@ -7,9 +7,14 @@
 mod ends;
 mod lengths;
 mod links;
+mod ranges;
 mod sums;
 
 pub use ends::Ends;
 pub use lengths::{chain_length, plan_length, wire_of};
 pub use links::{entry_of, exit_of, link, point_after, point_before, wire};
+pub use ranges::{are_placed, are_within, is_chain_at};
 pub use sums::Sums;
+
+#[cfg(test)]
+mod tests;
