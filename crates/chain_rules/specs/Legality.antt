@@ -39,7 +39,7 @@ last_of us = slice_get us (length us - 1)
 
 -- the first chain of the read plan in which a unit stands
 abbrev pub read_chain_of : Rules → ℕ → Option ℕ
-read_chain_of rules u = position (list_any (nat_eq u)) rules.read.chains
+read_chain_of rules u = position (list_any (λ v. nat_eq v u)) rules.read.chains
 
 -- a unit's own partition: that of its chain in the read plan
 abbrev pub partition_of : Rules → ℕ → Option ℕ
@@ -99,3 +99,11 @@ pub record IsOpen (plan : Plan) (at : Position) : Type 0 where
 -- the units at two positions are exchanged
 abbrev pub swapped_plan : Plan → Position → Position → Plan
 swapped_plan plan a b = replaced (replaced plan a (unit_in plan b)) b (unit_in plan a)
+
+-- what a legal plan asks of one chain and its units
+pub record IsLegalChain (rules : Rules) (c : ℕ) (us : List ℕ) : Type 0 where
+  pub own_partition : All (λ u. partition_of rules u ≡ Some (rule_at rules c).partition) us
+  pub pinned_last : All (λ u. IsTrue (unit_at rules u).pinned → last_of us ≡ Some u) (chain_at rules.read c)
+  pub not_empty : 0 < length us
+  pub keeps_bit : IsTrue (rule_at rules c).keeps_bit → 0 < bits_of rules us
+  pub bounded : bits_of rules us ≤ (rule_at rules c).bound

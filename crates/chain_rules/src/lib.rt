@@ -5,6 +5,8 @@
 //! `specs/Legality.antt`. Begin with `spec.rt` and `unit.rt`.
 #![tactic(auto)]
 
+mod legal;
+pub mod plain;
 mod plan;
 mod spec;
 mod unit;
