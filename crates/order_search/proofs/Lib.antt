@@ -4,3 +4,4 @@ pub mod Different
 pub mod Legal
 pub mod Settling
 pub mod Placing
+pub mod Trials

@@ -2,3 +2,4 @@ pub mod Steps
 pub mod Runs
 pub mod Searches
 pub mod Nearest
+pub mod Trials

@@ -8,9 +8,12 @@
 mod effort;
 mod nearest;
 mod order;
+pub mod plain;
 mod reversals;
+mod searchable;
 
 pub use effort::Effort;
 pub use nearest::nearest_plan;
 pub use order::settle_order;
 pub use reversals::settle_chain;
+pub use searchable::are_searchable;

@@ -48,7 +48,7 @@ fn shorter_at(ends: &Ends, chain: u32, units: &[u32], limit: usize, i: usize) ->
 }
 
 // Reverses the run of m units from place i on.
-fn reverse_run(units: &mut [u32], i: usize, m: usize)
+pub(crate) fn reverse_run(units: &mut [u32], i: usize, m: usize)
     requires within { i + m ≤ length units.old }
     ensures after { units.new ≡ reversed_run units.old i m }
     ensures permutation { IsPermutation units.old units.new }
