@@ -5,3 +5,4 @@ pub mod Legal
 pub mod Settling
 pub mod Placing
 pub mod Trials
+pub mod Unique

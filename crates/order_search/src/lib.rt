@@ -17,3 +17,6 @@ pub use nearest::nearest_plan;
 pub use order::settle_order;
 pub use reversals::settle_chain;
 pub use searchable::are_searchable;
+
+#[cfg(test)]
+mod tests;

@@ -2,6 +2,7 @@
 ghost use Rattle.std.specs.Prelude.{◌≡◌, ◌≢◌, ℕ, ◌+◌, ◌<◌, ◌≤◌, List, length, take, drop, Option, IfOk, slice_get, slice_index_or, IsPermutation, All};
 ghost use Rattle.wire_cost.specs.Lengths.{ArePlaced, AreNear, AreWithin, IsNearOrNowhere, link_of};
 ghost use Rattle.chain_rules.specs.Legality.{IsLegal, chain_at};
+ghost use Rattle.chain_rules.specs.Plans.{PlanLists};
 ghost use Rattle.order_search.specs.Nearest.{IsNearestChain, IsNearestPlan};
 ghost use Rattle.order_search.specs.Searches.{AreSearchable};
 
@@ -63,6 +64,7 @@ fn nearest_chain(
 pub fn nearest_plan(alloc: Global, rules: &Rules, ends: &Ends) -> Result<Plan, NoMemory>
     requires searchable { AreSearchable rules.now ends.now }
     ensures value { IfOk result (λ plan. IsNearestPlan rules.now ends.now plan) }
+    ensures only { IfOk result (λ plan. (other : PlanLists) → IsNearestPlan rules.now ends.now other → other ≡ plan) }
     ensures legal { IfOk result (λ plan. IsLegal rules.now plan) }
 {
     let mut chains = Vec::with_capacity(alloc, rules.read.len())?;

@@ -1,6 +1,7 @@
 //! Whether a plan is settled, found by making every step's plan. It serves as the oracle of the searches.
-ghost use Rattle.std.specs.Prelude.{◌≡◌, ◌≢◌, ℕ, ◌+◌, ◌-◌, ◌^◌, ◌<◌, ◌≤◌, ◌↔◌, ◌⊎◌, length, IfOk, IsTrue, slice_set};
+ghost use Rattle.std.specs.Prelude.{◌≡◌, ◌≢◌, ℕ, ◌+◌, ◌-◌, ◌^◌, ◌<◌, ◌≤◌, ◌↔◌, length, pos, IfOk, IsTrue, slice_set};
 ghost use Rattle.chain_rules.specs.Legality.{IsLegal, chain_at, moved_plan, swapped_plan, taken_out, with_chain};
+ghost use Rattle.wire_cost.specs.Lengths.{plan_length_of};
 ghost use Rattle.order_search.specs.Searches.{AreSearchable};
 ghost use Rattle.order_search.specs.Steps.{IsMove, IsReversal, IsSettled, IsSwap};
 ghost use Rattle.order_search.specs.Trials.{HasGain, IsGain, NoMoveOf, NoMoveTo, NoSwapOf, NoSwapWith, NoTurnAt, at, turned_plan};
@@ -13,13 +14,22 @@ use std::alloc::Global;
 use text_scan::NoMemory;
 use wire_cost::{Ends, plan_length};
 
+// The length of a legal plan.
+pub(crate) fn length_of(rules: &Rules, ends: &Ends, plan: &Plan) -> i64
+    requires searchable { AreSearchable rules.now ends.now }
+    requires legal { IsLegal rules.now plan.now }
+    ensures value { result ≡ pos (plan_length_of ends.now plan.now) }
+{
+    plan_length(ends, plan)
+}
+
 // Whether the new plan is legal and shorter than the old one.
 fn is_gain(rules: &Rules, ends: &Ends, old: &Plan, new: &Plan) -> bool
     requires searchable { AreSearchable rules.now ends.now }
     requires legal { IsLegal rules.now old.now }
     ensures value { IsTrue result ↔ IsGain rules.now ends.now old.now new.now }
 {
-    is_legal(rules, new) && plan_length(ends, new) < plan_length(ends, old)
+    is_legal(rules, new) && length_of(rules, ends, new) < length_of(rules, ends, old)
 }
 
 // The plan with a run of one chain reversed.

@@ -14,18 +14,13 @@ pub fn wire_of(ends: &Ends, chain: u32, units: &[u32]) -> u64
     ensures small { result ≤ 2 ^ 43 * (length units.now + 1) }
 {
     let mut total: u64 = 0;
-    for i in 0..units.len() {
+    for i in 0..units.len() + 1 {
         total += wire(
             point_before(ends, chain, units, i),
             point_after(ends, chain, units, i),
         );
     }
-    let last = units.len();
     total
-        + wire(
-            point_before(ends, chain, units, last),
-            point_after(ends, chain, units, last),
-        )
 }
 
 /// The length of a chain with these units, in half database units: the sum of its links from its start over the units,

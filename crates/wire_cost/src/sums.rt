@@ -59,22 +59,10 @@ impl Sums {
         let stop = ends.stop.as_slice()[chain as usize];
         let entries = ends.entry.as_slice();
         let exits = ends.exit.as_slice();
-        fill_row(
-            self.forward.as_mut_slice(),
-            entries,
-            exits,
-            start,
-            stop,
-            units,
-        );
-        fill_row(
-            self.backward.as_mut_slice(),
-            exits,
-            entries,
-            start,
-            stop,
-            units,
-        );
+        let row = self.forward.as_mut_slice();
+        fill_row(row, entries, exits, start, stop, units);
+        let row = self.backward.as_mut_slice();
+        fill_row(row, exits, entries, start, stop, units);
         self.links = units.len() + 1;
     }
 

@@ -8,6 +8,7 @@ use Rattle.chain_rules.specs.declared.unit.Rules.{Rules}
 use Rattle.wire_cost.specs.declared.ends.Ends.{Ends}
 use Rattle.order_search.specs.Nearest.{IsNearestChain, IsNearestPlan}
 use Rattle.order_search.proofs.Legal.{AreTurned, legal_turned}
+use Rattle.order_search.proofs.Unique.{nearest_only}
 use Rattle.order_search.proofs.nearest.nearest_plan.Goals as goal
 
 -- the plan of nearest neighbours is legal
@@ -37,14 +38,21 @@ loop-chain-preserved c =
       ];
     }
 
+-- what the loop made is the plan of nearest neighbours
+made : (rules : Rules) (ends : Ends) (p : Plan) (xs : List (List ℕ)) (n : ℕ) → p.chains ≡ xs → length xs ≡ n → n ≡ length rules.read.chains → ((c : ℕ) → c < n → IsNearestChain rules ends c (get_or xs c [])) → IsNearestPlan rules ends p
+made rules ends p xs n e l m h =
+    let k : length p.chains ≡ length rules.read.chains = ap (λ (ys : List (List ℕ)). length ys) e ∙ l ∙ m in
+    record {
+      count = k;
+      chains = λ d i. subst (IsNearestChain rules ends d) (ap (λ (ys : List (List ℕ)). get_or ys d []) (sym e)) (h d (omega (arith, k, m)));
+    }
+
 pub returns-clause-legal : goal.returns-clause-legal
 returns-clause-legal c =
-    let rules = c.args.rules.now in
-    let ends = c.args.ends.now in
-    let e : c.of.result.chains ≡ lists_of c.loop-chain.chains.items = c.of.ensures.value in
-    let k : length c.of.result.chains ≡ length rules.read.chains = ap (λ (xs : List (List ℕ)). length xs) e ∙ length-map c.loop-chain.chains.items (λ x. x.items) ∙ omega (arith, c.loop-chain.invariant.count, c.len-chain-end.ensures.value) in
-    nearest_legal rules ends c.of.result c.requires.searchable.read
-    (record {
-      count = k;
-      chains = λ d h. subst (IsNearestChain rules ends d) (ap (λ (xs : List (List ℕ)). get_or xs d []) (sym e)) (c.loop-chain.invariant.nearest d (omega (arith, k, c.len-chain-end.ensures.value)));
-    })
+    nearest_legal c.args.rules.now c.args.ends.now c.of.result c.requires.searchable.read
+    (made c.args.rules.now c.args.ends.now c.of.result (lists_of c.loop-chain.chains.items) c.loop-chain.chain c.of.ensures.value (length-map c.loop-chain.chains.items (λ x. x.items) ∙ c.loop-chain.invariant.count) (omega (arith, c.len-chain-end.ensures.value)) c.loop-chain.invariant.nearest)
+
+pub returns-clause-only : goal.returns-clause-only
+returns-clause-only c = λ q m.
+    nearest_only c.args.rules.now c.args.ends.now c.of.result q c.requires.searchable.read
+    (made c.args.rules.now c.args.ends.now c.of.result (lists_of c.loop-chain.chains.items) c.loop-chain.chain c.of.ensures.value (length-map c.loop-chain.chains.items (λ x. x.items) ∙ c.loop-chain.invariant.count) (omega (arith, c.len-chain-end.ensures.value)) c.loop-chain.invariant.nearest) m

@@ -14,6 +14,4 @@ loop-i-preserved c =
 pub returns-clause-value : goal.returns-clause-value
 returns-clause-value c =
     let w = chain_ends c.args.ends.now c.args.chain in
-    let us = c.args.units.now in
-    let t : c.loop-i.total ≡ forward_sum w us (length us) = c.loop-i.invariant.value ∙ ap (forward_sum w us) (omega arith) in
-    forward_step w us (length us) c.loop-i.total c.wire.result c.point_before-2.result c.point_after-2.result (omega arith) t c.point_before-2.ensures.value c.point_after-2.ensures.value c.wire.ensures.value ∙ forward_all w us
+    c.loop-i.invariant.value ∙ ap (forward_sum w c.args.units.now) (omega arith) ∙ forward_all w c.args.units.now
