@@ -4,9 +4,11 @@ pub mod LineLemmas
 pub mod Lists
 pub mod NameTokens
 pub mod Reaches
+pub mod Spelled
 pub mod SplitLaw
 pub mod SplitUnique
 pub mod StatementLemmas
+pub mod Unspelled
 pub mod VerilogBlanks
 pub mod VerilogLaws
 pub mod VerilogLongest

@@ -3,6 +3,7 @@ pub mod Faults
 pub mod Lines
 pub mod Names
 pub mod Parsing
+pub mod Parts
 pub mod Pieces
 pub mod Seams
 pub mod Splits

@@ -1,6 +1,8 @@
 ghost use Rattle.std.specs.Prelude.{◌<◌, ◌^◌, length};
 
-use crate::{Lines, NoMemory, Stop, Tokens, line_of, plain_name, verilog_tokens};
+use crate::{
+    Lines, Name, NoMemory, Rows, Stop, Text, Tokens, Word, line_of, plain_name, verilog_tokens,
+};
 use std::alloc::Global;
 use std::test::Fail;
 
@@ -137,5 +139,19 @@ fn parts_of_a_statement(rt: HostRuntime) -> Result<(), Fail> {
     assert_eq!(rt; tokens.mark(b';'), Err(Stop::NoForm));
     let name = plain_name(rt.alloc(), b"u1/r_reg\\[0\\]")?;
     assert_eq!(rt; name.bytes(), b"u1/r_reg[0]".as_slice());
+    Ok(())
+}
+
+#[test]
+fn small_types_take_memory(rt: HostRuntime) -> Result<(), Fail> {
+    let name = Name::copy(rt.alloc(), b"a b")?;
+    assert_eq!(rt; name.bytes(), b"a b".as_slice());
+    let text = Text::copy(rt.alloc(), b"a\n")?;
+    assert_eq!(rt; text.bytes(), b"a\n".as_slice());
+    let word = Word::copy(rt.alloc(), "--full")?;
+    assert_eq!(rt; word.as_str(), "--full");
+    let mut rows = Rows::new(rt.alloc());
+    rows.push(7u32)?;
+    assert_eq!(rt; rows.as_slice(), [7].as_slice());
     Ok(())
 }
