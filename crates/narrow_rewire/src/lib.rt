@@ -1,0 +1,11 @@
+//! `rewire` on a Verilog text of the narrow form: puts one chain of one cell kind into a given order.
+//!
+//! Floor: on splice and text_scan; scan_job calls it.
+#![tactic(auto)]
+
+mod gaps;
+mod module;
+mod parser;
+mod stop;
+
+pub use module::{Assign, Connection, Declared, Instance, Module, Statement};
