@@ -1,3 +1,5 @@
 pub mod Forms
 pub mod Gaps
+pub mod Names
+pub mod Rules
 pub mod Spelling

@@ -5,7 +5,10 @@
 
 mod gaps;
 mod module;
+mod names;
 mod parser;
+mod reader;
+mod rules;
 mod stop;
 
 pub use module::{Assign, Connection, Declared, Instance, Module, Statement};
