@@ -2,4 +2,6 @@ pub mod Flat
 pub mod GapLemmas
 pub mod Lists
 pub mod NameLists
+pub mod Read
+pub mod Spelled
 pub mod Until

@@ -1,3 +1,4 @@
+pub mod Bare
 pub mod Forms
 pub mod Gaps
 pub mod Names
