@@ -4,3 +4,4 @@ pub mod Gaps
 pub mod Names
 pub mod Rules
 pub mod Spelling
+pub mod Tracing

@@ -3,12 +3,16 @@
 //! Floor: on splice and text_scan; scan_job calls it.
 #![tactic(auto)]
 
+mod drivers;
 mod gaps;
 mod module;
 mod names;
 mod parser;
 mod reader;
+mod rewire;
 mod rules;
+mod steps;
 mod stop;
 
 pub use module::{Assign, Connection, Declared, Instance, Module, Statement};
+pub use rewire::{Rewire, Rewired};
