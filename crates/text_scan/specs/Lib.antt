@@ -1,7 +1,12 @@
+pub mod Each
 pub mod Faults
 pub mod Lines
-pub mod Split
+pub mod Names
+pub mod Parsing
+pub mod Pieces
+pub mod Seams
+pub mod Splits
 pub mod Statements
-pub mod Texts
 pub mod Tokens
+pub mod VerilogSplit
 pub mod VerilogTokens

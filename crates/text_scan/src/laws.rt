@@ -1,0 +1,16 @@
+ghost use Rattle.text_scan.specs.Seams.{TextsLaw, ReplacedLaw, PlainLaw, PlainBitLaw, EscapedLaw, EscapedBitLaw};
+
+/// What a writer may rest on: where the tokens between two marks of a Verilog text are replaced, by a text with tokens
+/// of its own, no other token changes. It does nothing; its contract is the law.
+pub fn seam_law()
+    ensures texts { TextsLaw }
+    ensures replaced { ReplacedLaw }
+{}
+
+/// The texts of net bits have tokens of their own, which are these. It does nothing; its contract is the law.
+pub fn name_law()
+    ensures plain { PlainLaw }
+    ensures plain_bit { PlainBitLaw }
+    ensures escaped { EscapedLaw }
+    ensures escaped_bit { EscapedBitLaw }
+{}
