@@ -4,7 +4,8 @@ use Rattle.std.proofs.Common.{◌+◌, get_or, subst, arith}
 use Rattle.std.specs.List.{prefix_len}
 use Rattle.std.proofs.lemmas.List.{drop_more, drop_all, take_rest}
 use Rattle.text_scan.specs.declared.span.Span.{Span}
-use Rattle.text_scan.specs.Split.{SplitFrom}
+use Rattle.text_scan.specs.Splits.{SplitFrom}
+use Rattle.text_scan.specs.VerilogSplit.{IsBlankPart, IsLongestToken}
 use Rattle.narrow_rewire.specs.Gaps.{is_blank, begins_comment, is_plain_behind, is_plain_gap, are_plain_gaps}
 
 inside-drop : (n : ℕ) (bs : List ℕ) → is_plain_behind n bs ≡ is_plain_behind 0 (drop n bs)
@@ -57,23 +58,23 @@ pub record AtSpan (text : List ℕ) (at i : ℕ) (spans : List Span) (s : Span) 
   pub ordered : at ≤ s.start
   pub inside : s.start ≤ s.end
   pub within : s.end ≤ length text
-  pub split : SplitFrom text s.end (drop (i + 1) spans)
+  pub split : SplitFrom IsBlankPart IsLongestToken text s.end (drop (i + 1) spans)
   pub gaps : are_plain_gaps text at (drop i spans) ≡ (is_plain_gap (take (s.start - at) (drop at text)) && are_plain_gaps text s.end (drop (i + 1) spans))
 
-pub at_span : (text : List ℕ) (at i : ℕ) (spans : List Span) (d : Span) → i < length spans → SplitFrom text at (drop i spans) → AtSpan text at i spans (get_or spans i d)
+pub at_span : (text : List ℕ) (at i : ℕ) (spans : List Span) (d : Span) → i < length spans → SplitFrom IsBlankPart IsLongestToken text at (drop i spans) → AtSpan text at i spans (get_or spans i d)
 unfolding are_plain_gaps
 at_span text at i spans d lt split =
     let cut = drop_more spans i d lt in
-    let here = subst (SplitFrom text at) cut split in
+    let here = subst (SplitFrom IsBlankPart IsLongestToken text at) cut split in
     let o = here.0.ordered in
     let t = here.1.some in
     record { ordered = o; inside = omega arith; within = here.1.within; split = here.2; gaps = ap (are_plain_gaps text at) cut }
 
-pub after_all : (text : List ℕ) (at i : ℕ) (spans : List Span) → length spans ≤ i → SplitFrom text at (drop i spans) → (at ≤ length text) × (are_plain_gaps text at (drop i spans) ≡ is_plain_gap (drop at text))
+pub after_all : (text : List ℕ) (at i : ℕ) (spans : List Span) → length spans ≤ i → SplitFrom IsBlankPart IsLongestToken text at (drop i spans) → (at ≤ length text) × (are_plain_gaps text at (drop i spans) ≡ is_plain_gap (drop at text))
 unfolding are_plain_gaps
 after_all text at i spans le split =
     let none : drop i spans ≡ [] = drop_all i spans le in
-    let here : SplitFrom text at [] = subst (SplitFrom text at) none split in
+    let here : SplitFrom IsBlankPart IsLongestToken text at [] = subst (SplitFrom IsBlankPart IsLongestToken text at) none split in
     (here.ordered, ap (are_plain_gaps text at) none)
 
 pub and_false : (g r x t : Bool) → r ≡ g → r ≡ false → t ≡ (g && x) → t ≡ false

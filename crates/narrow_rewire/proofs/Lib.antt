@@ -1,6 +1,5 @@
 pub mod Flat
 pub mod GapLemmas
-pub mod Lists
 pub mod NameLists
 pub mod Read
 pub mod Spelled

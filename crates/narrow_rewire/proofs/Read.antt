@@ -5,9 +5,11 @@ use Rattle.std.specs.Str.{bytes_eq}
 use Rattle.std.proofs.lemmas.Slice.Eq.{bytes_eq-Decides}
 use Rattle.std.proofs.lemmas.List.{length-map, map-id, append-nil}
 use Rattle.text_scan.specs.VerilogTokens.{is_word_start, is_word}
+use Rattle.text_scan.specs.Each.{Each}
+use Rattle.text_scan.specs.Seams.{is_identifier}
 use Rattle.text_scan.specs.Tokens.{Token}
 use Rattle.text_scan.specs.declared.span.Span.{Span}
-use Rattle.splice.specs.Parts.{Part, Fixed, Slot, list_parts, Each, spelled}
+use Rattle.splice.specs.Parts.{Part, Fixed, Slot, list_parts, spelled}
 use Rattle.splice.proofs.Tokens.{token_texts}
 use Rattle.splice.proofs.Parts.{spelled_append}
 use Rattle.narrow_rewire.specs.declared.module.Connection.{Connection}
@@ -20,7 +22,8 @@ use Rattle.narrow_rewire.specs.declared.module.Statement.TheVariants as statemen
 use Rattle.narrow_rewire.specs.declared.module.Module.{Module}
 use Rattle.narrow_rewire.specs.Bare.{nowhere, bare_connection, bare_assign, bare_instance, bare_statement, bare}
 use Rattle.narrow_rewire.specs.Spelling.{is_reserved, is_name, net_texts, connection_parts, name_parts, declared_text, statement_parts, statements_parts, module_parts, IsName, IsGoodNet, IsGoodConnection, IsGoodStatement, IsGoodModule}
-use Rattle.narrow_rewire.specs.Forms.{mark_at, word_at, name_at, placed_name_at, net_at, connection_at, goes_on_at, list_within, list_at, any_at, declare_at, assign_at, instance_at, statement_at, ends_at, statements_within, statements_at, module_at, module_of}
+use Rattle.text_scan.specs.Parsing.{mark_at, word_at, goes_on_at, list_within, list_at}
+use Rattle.narrow_rewire.specs.Forms.{name_at, placed_name_at, net_at, connection_at, any_at, declare_at, assign_at, instance_at, statement_at, ends_at, statements_within, statements_at, module_at, module_of}
 
 -- the first token
 pub record First (w : List ℕ) (ws : List (List ℕ)) (ts : List Token) : Type 0 where
@@ -221,8 +224,7 @@ not_true false e = refl
 
 not_reserved : (w : List ℕ) → IsName w → is_reserved w ≡ false
 unfolding is_name
-not_reserved [] e = absurd cc
-not_reserved (b ∷ bs) e = not_true (is_reserved (b ∷ bs)) (and_last (is_word_start b && list_all is_word bs) _ e)
+not_reserved w e = not_true (is_reserved w) (and_last (is_identifier w) _ e)
 
 record Free (w : List ℕ) : Type 0 where
   pub endmodule : bytes_eq w (codes "endmodule") ≡ false

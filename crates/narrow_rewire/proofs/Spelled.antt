@@ -5,9 +5,11 @@ use Rattle.std.proofs.lemmas.Bool.{eqb-true}
 use Rattle.std.proofs.lemmas.List.{nil_from_length}
 use Rattle.std.proofs.lemmas.Slice.Eq.{bytes_eq-Decides}
 use Rattle.std.proofs.lemmas.Option.{option_and_then_some, cond_some, same_Some}
+use Rattle.text_scan.specs.Each.{Each}
+use Rattle.text_scan.specs.Seams.{is_identifier}
 use Rattle.text_scan.specs.Tokens.{Token}
 use Rattle.text_scan.specs.declared.span.Span.{Span}
-use Rattle.splice.specs.Parts.{Part, Fixed, Slot, list_parts, IsPlace, FitsFixed, FitsSlot, Fits, Each, Spells}
+use Rattle.splice.specs.Parts.{Part, Fixed, Slot, list_parts, IsPlace, FitsFixed, FitsSlot, Fits, Spells}
 use Rattle.narrow_rewire.specs.declared.module.Connection.{Connection}
 use Rattle.narrow_rewire.specs.declared.module.Assign.{Assign}
 use Rattle.narrow_rewire.specs.declared.module.Instance.{Instance}
@@ -17,7 +19,8 @@ use Rattle.narrow_rewire.specs.declared.module.Statement.{Statement}
 use Rattle.narrow_rewire.specs.declared.module.Statement.TheVariants as statements
 use Rattle.narrow_rewire.specs.declared.module.Module.{Module}
 use Rattle.narrow_rewire.specs.Spelling.{is_name, net_texts, connection_parts, name_parts, declared_text, statement_parts, statements_parts, module_parts, IsName, IsGoodNet, IsGoodConnection, IsGoodStatement, IsGoodModule}
-use Rattle.narrow_rewire.specs.Forms.{mark_at, word_at, name_at, placed_name_at, net_at, connection_at, goes_on_at, list_within, list_at, any_at, declare_at, assign_at, instance_at, statement_at, ends_at, statements_within, statements_at, module_at, module_of}
+use Rattle.text_scan.specs.Parsing.{mark_at, word_at, goes_on_at, list_within, list_at}
+use Rattle.narrow_rewire.specs.Forms.{name_at, placed_name_at, net_at, connection_at, any_at, declare_at, assign_at, instance_at, statement_at, ends_at, statements_within, statements_at, module_at, module_of}
 
 same_bytes : (a b : List ℕ) → bytes_eq a b ≡ true → a ≡ b
 same_bytes a b e = (bytes_eq-Decides a b).0 e

@@ -3,13 +3,22 @@ use Rattle.std.proofs.Common.{◌≡◌, ℕ, zero, suc, ◌-◌, ◌<◌, ◌�
 use Rattle.std.proofs.lemmas.List.{append-nil}
 use Rattle.text_scan.specs.Tokens.{Token}
 use Rattle.narrow_rewire.specs.declared.module.Statement.{Statement}
-use Rattle.narrow_rewire.specs.declared.stop.Stop.{Stop}
-use Rattle.narrow_rewire.specs.declared.stop.Stop.TheVariants as stops
-use Rattle.narrow_rewire.specs.Forms.{◌>>=◌, Gives, ends_at, statement_at, statements_within, statements_at}
-use Rattle.narrow_rewire.proofs.Lists.{with_front, front_none, front_more}
+use Rattle.text_scan.specs.declared.stop.Stop.{Stop}
+use Rattle.text_scan.specs.declared.stop.Stop.TheVariants as stops
+use Rattle.text_scan.specs.Parsing.{◌>>=◌, Gives}
+use Rattle.text_scan.proofs.Lists.{with_front}
+use Rattle.narrow_rewire.specs.Forms.{ends_at, statement_at, statements_within, statements_at}
 
 abbrev Read : Type 0
 Read = Option (List Statement × List Token)
+
+front_none : (read : Read) → with_front [] read ≡ read
+front_none (Some x) = refl
+front_none None = refl
+
+front_more : (front : List Statement) (x : Statement) (read : Read) → with_front front (read >>= λ y. Some (x ∷ y.0, y.1)) ≡ with_front (front ++ x ∷ []) read
+front_more front x (Some y) = ap (λ (xs : List Statement). Some (xs, y.1)) (sym (append_assoc front (x ∷ []) y.0))
+front_more front x None = refl
 
 -- the statements so far, the tokens that are left, and what all is read as
 pub record SoFar (front : List Statement) (ts : List Token) (total : Read) : Type 0 where

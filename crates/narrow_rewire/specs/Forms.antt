@@ -13,29 +13,8 @@ use Rattle.narrow_rewire.specs.declared.module.Declared.TheVariants.{Input, Outp
 use Rattle.narrow_rewire.specs.declared.module.Statement.{Statement}
 use Rattle.narrow_rewire.specs.declared.module.Statement.TheVariants as statements
 use Rattle.narrow_rewire.specs.declared.module.Module.{Module}
-use Rattle.narrow_rewire.specs.declared.stop.Stop.{Stop}
-use Rattle.narrow_rewire.specs.declared.stop.Stop.TheVariants as stops
+use Rattle.text_scan.specs.Parsing.{◌>>=◌, word_at, mark_at, list_at}
 use Rattle.narrow_rewire.specs.Spelling.{is_name}
-
-infixl 10 ◌>>=◌
-abbrev pub ◌>>=◌ : {A B : Type 0} → Option A → (A → Option B) → Option B
-o >>= f = option_and_then f o
-
--- what a function of the code read: the value and the tokens behind it, or that the tokens match no form
-abbrev pub Gives : {X : Type 0} → Result X Stop → List Token → Option (X × List Token) → Type 0
-Gives (Ok x) rest read = read ≡ Some (x, rest)
-Gives (Err stops.NoForm) rest read = read ≡ None
-Gives (Err stops.NoMemory) rest read = Unit {0}
-
--- the same where nothing is left behind the value
-abbrev pub GivesAll : {X : Type 0} → Result X Stop → Option X → Type 0
-GivesAll (Ok x) read = read ≡ Some x
-GivesAll (Err stops.NoForm) read = read ≡ None
-GivesAll (Err stops.NoMemory) read = Unit {0}
-
-unfoldable pub mark_at : ℕ → List Token → Option (Unit {0} × List Token)
-mark_at mark [] = None
-mark_at mark (t ∷ ts) = if bytes_eq t.text (mark ∷ []) then Some (tt, ts) else None
 
 unfoldable pub name_at : List Token → Option (List ℕ × List Token)
 name_at [] = None
@@ -62,25 +41,6 @@ connection_at ts = do
   net ← net_at before.1
   close ← mark_at 41 net.1
   Some (record { pin = pin.0; net = net.0.0; span = net.0.1 }, close.1)
-
--- whether a comma stands next, and not the mark that closes the list
-unfoldable pub goes_on_at : ℕ → List Token → Option (Bool × List Token)
-goes_on_at closing [] = None
-goes_on_at closing (t ∷ ts) =
-    if bytes_eq t.text (44 ∷ []) then Some (true, ts)
-    else (if bytes_eq t.text (closing ∷ []) then Some (false, ts) else None)
-
--- one or more items with commas between them and a closing mark behind them; each takes a token at least, so
--- as many items as there are tokens suffice
-unfoldable pub list_within : {X : Type 0} → (List Token → Option (X × List Token)) → ℕ → ℕ → List Token → Option (List X × List Token)
-list_within item closing zero ts = None
-list_within item closing (suc n) ts = do
-  first ← item ts
-  more ← goes_on_at closing first.1
-  if more.0 then (list_within item closing n more.1 >>= λ others. Some (first.0 ∷ others.0, others.1)) else Some (first.0 ∷ [], more.1)
-
-unfoldable pub list_at : {X : Type 0} → (List Token → Option (X × List Token)) → ℕ → List Token → Option (List X × List Token)
-list_at item closing ts = list_within item closing (length ts) ts
 
 -- items up to the parenthesis that closes them, also none
 unfoldable pub any_at : {X : Type 0} → (List Token → Option (X × List Token)) → List Token → Option (List X × List Token)
@@ -135,10 +95,6 @@ statements_within (suc n) ts = do
 
 unfoldable pub statements_at : List Token → Option (List Statement × List Token)
 statements_at ts = statements_within (suc (length ts)) ts
-
-unfoldable pub word_at : List ℕ → List Token → Option (Unit {0} × List Token)
-word_at word [] = None
-word_at word (t ∷ ts) = if bytes_eq t.text word then Some (tt, ts) else None
 
 -- module name ( ports ) ; statements endmodule
 unfoldable pub module_at : List Token → Option (Module × List Token)

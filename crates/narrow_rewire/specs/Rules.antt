@@ -14,7 +14,8 @@ use Rattle.narrow_rewire.specs.declared.module.Statement.TheVariants as statemen
 use Rattle.narrow_rewire.specs.declared.module.Module.{Module}
 use Rattle.narrow_rewire.specs.Names.{has, have_all, are_distinct}
 use Rattle.narrow_rewire.specs.Gaps.{are_plain_gaps}
-use Rattle.narrow_rewire.specs.Forms.{◌>>=◌, module_of}
+use Rattle.text_scan.specs.Parsing.{◌>>=◌}
+use Rattle.narrow_rewire.specs.Forms.{module_of}
 
 -- what a statement declares
 abbrev pub declared_in : Statement → List (List ℕ)

@@ -1,9 +1,10 @@
 -- How a module is spelled, in tokens.
 use Rattle.std.specs.Prelude.{◌≡◌, ◌<◌, ℕ, Bool, true, false, ◌&&◌, ◌||◌, not, length, List, [], ◌∷◌, ◌++◌, codes, Option, Some, None}
-use Rattle.std.specs.List.{list_all, list_any}
+use Rattle.std.specs.List.{list_any}
 use Rattle.std.specs.Str.{bytes_eq}
-use Rattle.text_scan.specs.VerilogTokens.{is_word_start, is_word}
-use Rattle.splice.specs.Parts.{Part, Fixed, Slot, list_parts, Each}
+use Rattle.text_scan.specs.Each.{Each}
+use Rattle.text_scan.specs.Seams.{is_identifier}
+use Rattle.splice.specs.Parts.{Part, Fixed, Slot, list_parts}
 use Rattle.narrow_rewire.specs.declared.module.Connection.{Connection}
 use Rattle.narrow_rewire.specs.declared.module.Assign.{Assign}
 use Rattle.narrow_rewire.specs.declared.module.Instance.{Instance}
@@ -23,8 +24,7 @@ is_reserved text = list_any (bytes_eq text) reserved
 
 -- a name: letters, digits, _ and $, beginning with a letter or _, and no reserved word
 unfoldable pub is_name : List ℕ → Bool
-is_name [] = false
-is_name (b ∷ bs) = is_word_start b && list_all is_word bs && not (is_reserved (b ∷ bs))
+is_name text = is_identifier text && not (is_reserved text)
 
 abbrev pub net_texts : Option (List ℕ) → List (List ℕ)
 net_texts None = []

@@ -12,7 +12,7 @@ use Rattle.narrow_rewire.specs.declared.module.Module.{Module}
 use Rattle.narrow_rewire.specs.declared.rewire.Rewire.{Rewire}
 use Rattle.narrow_rewire.specs.declared.drivers.Driver.{Driver}
 use Rattle.narrow_rewire.specs.declared.drivers.Driver.TheVariants as drivers
-use Rattle.narrow_rewire.specs.Forms.{◌>>=◌}
+use Rattle.text_scan.specs.Parsing.{◌>>=◌}
 use Rattle.narrow_rewire.specs.Names.{has, have_all, are_distinct}
 use Rattle.narrow_rewire.specs.Rules.{inputs, assigns}
 

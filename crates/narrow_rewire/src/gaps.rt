@@ -1,6 +1,6 @@
 ghost use Rattle.std.specs.Prelude.{◌≡◌, ◌≤◌, ◌==◌, not, length};
 ghost use Rattle.std.specs.List.{prefix_len};
-ghost use Rattle.text_scan.specs.Split.{IsSplit};
+ghost use Rattle.text_scan.specs.VerilogSplit.{IsTokenSplit};
 ghost use Rattle.narrow_rewire.specs.Gaps.{begins_comment, is_blank, is_plain_gap, are_plain_gaps};
 
 use text_scan::Span;
@@ -44,7 +44,7 @@ fn line_len(bytes: &[u8]) -> usize
 
 /// Whether blanks and `//` comments alone stand around the tokens.
 pub fn are_plain_gaps(text: &[u8], spans: &[Span]) -> bool
-    requires { IsSplit text.now spans.now }
+    requires split { IsTokenSplit text.now spans.now }
     ensures value { result ≡ are_plain_gaps text.now 0 spans.now }
 {
     let mut at = 0;

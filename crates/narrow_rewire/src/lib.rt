@@ -12,7 +12,6 @@ mod reader;
 mod rewire;
 mod rules;
 mod steps;
-mod stop;
 
 pub use module::{Assign, Connection, Declared, Instance, Module, Statement};
 pub use rewire::{Rewire, Rewired};

@@ -1,13 +1,14 @@
 ghost use Rattle.std.specs.Prelude.{◌≡◌, ◌<◌, ◌≤◌, length, codes, OnOk};
 ghost use Rattle.std.specs.List.{list_all};
 ghost use Rattle.text_scan.specs.VerilogTokens.{is_word_start, is_word};
+ghost use Rattle.text_scan.specs.Parsing.{Gives, GivesAll, list_at};
+ghost use Rattle.text_scan.specs.Seams.{is_identifier};
 ghost use Rattle.narrow_rewire.specs.Spelling.{is_reserved, is_name};
-ghost use Rattle.narrow_rewire.specs.Forms.{Gives, GivesAll, mark_at, word_at, name_at, placed_name_at, net_at, connection_at, goes_on_at, list_at, any_at, declare_at, assign_at, instance_at, statement_at, ends_at, statements_at, module_at, module_of};
+ghost use Rattle.narrow_rewire.specs.Forms.{name_at, placed_name_at, net_at, connection_at, any_at, declare_at, assign_at, instance_at, statement_at, ends_at, statements_at, module_at, module_of};
 
 use crate::module::{Assign, Connection, Declared, Instance, Module, Statement};
-use crate::stop::Stop;
 use std::alloc::Global;
-use text_scan::{Name, Rows, Span, Tokens};
+use text_scan::{Name, Rows, Span, Stop, Tokens};
 
 fn is_reserved(text: &[u8]) -> bool
     ensures value { result ≡ is_reserved text.now }
@@ -42,14 +43,21 @@ fn are_words(bytes: &[u8]) -> bool
     bytes.iter().all(|b| is_word(*b))
 }
 
+/// Letters, digits, `_` and `$`, beginning with a letter or `_`.
+fn is_identifier(text: &[u8]) -> bool
+    ensures value { result ≡ is_identifier text.now }
+{
+    match text {
+        [first, rest @ ..] => begins_name(*first) && are_words(rest),
+        [] => false,
+    }
+}
+
 #[tactic(auto, unfolding(crate::specs::Spelling::is_name))]
 fn is_name(text: &[u8]) -> bool
     ensures value { result ≡ is_name text.now }
 {
-    match text {
-        [first, rest @ ..] => begins_name(*first) && are_words(rest) && !is_reserved(text),
-        [] => false,
-    }
+    is_identifier(text) && !is_reserved(text)
 }
 
 /// Reads a module from the tokens of a text.
@@ -60,32 +68,6 @@ struct Parser<'a> {
 }
 
 impl<'a> Parser<'a> {
-    #[tactic(auto, unfolding(crate::specs::Forms::mark_at))]
-    fn mark(&mut self, mark: u8) -> Result<(), Stop>
-        ensures value { Gives result self.new.tokens (mark_at mark self.old.tokens) }
-        ensures shorter { OnOk result (length self.new.tokens < length self.old.tokens) }
-    {
-        let token = self.tokens.next().ok_or(Stop::NoForm)?;
-        if token.text == [mark].as_slice() {
-            Ok(())
-        } else {
-            Err(Stop::NoForm)
-        }
-    }
-
-    #[tactic(auto, unfolding(crate::specs::Forms::word_at))]
-    fn word(&mut self, word: &[u8]) -> Result<(), Stop>
-        ensures value { Gives result self.new.tokens (word_at word.now self.old.tokens) }
-        ensures shorter { OnOk result (length self.new.tokens < length self.old.tokens) }
-    {
-        let token = self.tokens.next().ok_or(Stop::NoForm)?;
-        if token.text == word {
-            Ok(())
-        } else {
-            Err(Stop::NoForm)
-        }
-    }
-
     #[tactic(auto, unfolding(crate::specs::Forms::name_at))]
     fn name(&mut self) -> Result<Name, Stop>
         ensures value { Gives result self.new.tokens (name_at self.old.tokens) }
@@ -133,28 +115,12 @@ impl<'a> Parser<'a> {
         ensures value { Gives result self.new.tokens (connection_at self.old.tokens) }
         ensures shorter { OnOk result (length self.new.tokens < length self.old.tokens) }
     {
-        self.mark(b'.')?;
+        self.tokens.mark(b'.')?;
         let pin = self.name()?;
-        self.mark(b'(')?;
+        self.tokens.mark(b'(')?;
         let (net, span) = self.net()?;
-        self.mark(b')')?;
+        self.tokens.mark(b')')?;
         Ok(Connection { pin, net, span })
-    }
-
-    /// Whether a comma stands next, and not the mark that closes the list.
-    #[tactic(auto, unfolding(crate::specs::Forms::goes_on_at))]
-    fn goes_on(&mut self, closing: u8) -> Result<bool, Stop>
-        ensures value { Gives result self.new.tokens (goes_on_at closing self.old.tokens) }
-        ensures shorter { OnOk result (length self.new.tokens < length self.old.tokens) }
-    {
-        let token = self.tokens.next().ok_or(Stop::NoForm)?;
-        if token.text == b",".as_slice() {
-            Ok(true)
-        } else if token.text == [closing].as_slice() {
-            Ok(false)
-        } else {
-            Err(Stop::NoForm)
-        }
     }
 
     /// Names with commas between them, up to the closing mark.
@@ -166,7 +132,7 @@ impl<'a> Parser<'a> {
         loop {
             let name = self.name()?;
             names.push(name)?;
-            if !self.goes_on(closing)? {
+            if !self.tokens.goes_on(closing)? {
                 return Ok(names);
             }
         }
@@ -180,7 +146,7 @@ impl<'a> Parser<'a> {
         loop {
             let connection = self.connection()?;
             connections.push(connection)?;
-            if !self.goes_on(b')')? {
+            if !self.tokens.goes_on(b')')? {
                 return Ok(connections);
             }
         }
@@ -229,9 +195,9 @@ impl<'a> Parser<'a> {
         ensures shorter { OnOk result (length self.new.tokens < length self.old.tokens) }
     {
         let left = self.name()?;
-        self.mark(b'=')?;
+        self.tokens.mark(b'=')?;
         let (right, span) = self.placed_name()?;
-        self.mark(b';')?;
+        self.tokens.mark(b';')?;
         Ok(Statement::Assign(Assign { left, right, span }))
     }
 
@@ -242,9 +208,9 @@ impl<'a> Parser<'a> {
     {
         let cell = self.name()?;
         let name = self.name()?;
-        self.mark(b'(')?;
+        self.tokens.mark(b'(')?;
         let connections = self.any_connections()?;
-        self.mark(b';')?;
+        self.tokens.mark(b';')?;
         Ok(Statement::Instance(Instance {
             cell,
             name,
@@ -306,11 +272,11 @@ impl<'a> Parser<'a> {
     fn module(&mut self) -> Result<Module, Stop>
         ensures value { Gives result self.new.tokens (module_at self.old.tokens) }
     {
-        self.word(b"module")?;
+        self.tokens.word(b"module")?;
         let name = self.name()?;
-        self.mark(b'(')?;
+        self.tokens.mark(b'(')?;
         let ports = self.ports()?;
-        self.mark(b';')?;
+        self.tokens.mark(b';')?;
         let statements = self.statements()?;
         Ok(Module {
             name,

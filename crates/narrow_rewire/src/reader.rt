@@ -1,14 +1,13 @@
 ghost use Rattle.std.specs.Prelude.{◌<◌, ◌^◌, length};
-ghost use Rattle.narrow_rewire.specs.Forms.{GivesAll};
+ghost use Rattle.text_scan.specs.Parsing.{GivesAll};
 ghost use Rattle.narrow_rewire.specs.Rules.{narrow_module};
 
 use crate::gaps::are_plain_gaps;
 use crate::module::Module;
 use crate::parser::module_of;
 use crate::rules::keeps_rules;
-use crate::stop::Stop;
 use std::alloc::Global;
-use text_scan::{Tokens, verilog_tokens};
+use text_scan::{Stop, Tokens, verilog_tokens};
 
 /// The module of a text of the narrow form, in which the scan-out has this name.
 #[tactic(auto, unfolding(crate::specs::Rules::narrow_module, crate::specs::Rules::read_module))]

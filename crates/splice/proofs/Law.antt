@@ -1,13 +1,13 @@
 -- The law of written texts: where a text is spelled by parts, the text with some expressions replaced is spelled by the parts with these replaced.
 use Rattle.std.proofs.Common.{◌≡◌, ℕ, List, [], length}
-use Rattle.text_scan.specs.VerilogTokens.{verilog_tokens}
+use Rattle.text_scan.specs.VerilogTokens.{verilog_tokens, texts}
 use Rattle.text_scan.specs.Tokens.{tokens_of}
-use Rattle.text_scan.specs.Texts.{texts}
+use Rattle.text_scan.specs.Each.{Each}
+use Rattle.text_scan.specs.Seams.{IsReady}
 use Rattle.splice.specs.declared.Edit.{Edit}
 use Rattle.splice.specs.Spliced.{spliced, AreRising}
-use Rattle.splice.specs.Parts.{Part, Fits, Each, spelled}
+use Rattle.splice.specs.Parts.{Part, Fits, spelled}
 use Rattle.splice.specs.Edited.{AreEdits}
-use Rattle.splice.proofs.Written.{IsReady}
 use Rattle.splice.proofs.Tokens.{written_tokens}
 use Rattle.splice.proofs.Parts.{AreMarked, swapped_parts}
 use Rattle.splice.proofs.Rising.{rising, text_ahead}

@@ -1,13 +1,13 @@
 -- Tokens that are spelled by parts, and the same with some parts replaced.
-use Rattle.std.proofs.Common.{◌≡◌, ℕ, suc, ◌+◌, ◌≤◌, List, [], ◌∷◌, ◌++◌, length, map, refl, sym, ap, ◌∙◌, subst, arith, append_assoc}
+use Rattle.std.proofs.Common.{◌≡◌, ℕ, true, suc, ◌+◌, ◌≤◌, List, [], ◌∷◌, ◌++◌, length, map, refl, sym, ap, ◌∙◌, subst, arith, append_assoc}
 use Rattle.std.proofs.lemmas.List.{map-append, append-nil}
 use Rattle.text_scan.specs.declared.span.Span.{Span}
 use Rattle.text_scan.specs.Tokens.{Token}
-use Rattle.text_scan.specs.Texts.{texts}
-use Rattle.text_scan.proofs.Fronts.{IsMark}
+use Rattle.text_scan.specs.Each.{Each}
+use Rattle.text_scan.specs.Seams.{is_mark, IsReady}
+use Rattle.text_scan.specs.VerilogTokens.{texts}
 use Rattle.splice.specs.declared.Edit.{Edit}
-use Rattle.splice.proofs.Written.{IsReady}
-use Rattle.splice.specs.Parts.{Part, Fixed, Slot, Each, FitsFixed, FitsSlot, Fits, spelled}
+use Rattle.splice.specs.Parts.{Part, Fixed, Slot, FitsFixed, FitsSlot, Fits, spelled}
 use Rattle.splice.specs.Edited.{IsEdit, AreEdits}
 use Rattle.splice.proofs.Tokens.{token_texts, SwapTokens, AreSwapped}
 
@@ -51,7 +51,7 @@ fits_front (Slot o sp ws c ∷ ps) rest ts f =
 abbrev pub AreMarked : List Part → Type 0
 AreMarked [] = Unit {0}
 AreMarked (Fixed w ∷ ps) = AreMarked ps
-AreMarked (Slot opening place ws closing ∷ ps) = IsMark opening × IsMark closing × AreMarked ps
+AreMarked (Slot opening place ws closing ∷ ps) = (is_mark opening ≡ true) × (is_mark closing ≡ true) × AreMarked ps
 
 pub marked_behind : (ps qs : List Part) → AreMarked (ps ++ qs) → AreMarked qs
 marked_behind [] qs m = m

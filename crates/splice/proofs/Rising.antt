@@ -1,7 +1,9 @@
 -- Edits of parts that a text spells stand in it in their order.
 use Rattle.std.proofs.Common.{◌≡◌, ℕ, zero, suc, ◌+◌, ◌<◌, ◌≤◌, List, [], ◌∷◌, ◌++◌, length, drop, map, refl, sym, ap, ◌∙◌, subst, arith}
 use Rattle.text_scan.specs.declared.span.Span.{Span}
-use Rattle.text_scan.specs.VerilogTokens.{tokens_from, verilog_tokens}
+use Rattle.text_scan.specs.Pieces.{tokens_from}
+use Rattle.text_scan.specs.VerilogTokens.{piece_at, verilog_tokens}
+use Rattle.text_scan.proofs.VerilogPieces.{verilog_cut}
 use Rattle.text_scan.specs.Tokens.{Token, tokens_of}
 use Rattle.text_scan.proofs.Reaches.{Turn, Over, First, turn}
 use Rattle.splice.specs.declared.Edit.{Edit}
@@ -20,15 +22,15 @@ ahead_from : (at to end : ℕ) (ss : List Span) → at ≤ to → AreAhead to en
 ahead_from at to end [] le a = omega arith
 ahead_from at to end (s ∷ ss) le a = let o = a.0 in (omega arith, a.1, a.2)
 
-tokens_ahead : (k : ℕ) (text : List ℕ) (at : ℕ) (ss : List Span) → at ≤ length text → length text ≤ at + k → tokens_from at 0 (drop at text) ≡ ss → AreAhead at (length text) ss
+tokens_ahead : (k : ℕ) (text : List ℕ) (at : ℕ) (ss : List Span) → at ≤ length text → length text ≤ at + k → tokens_from piece_at at 0 (drop at text) ≡ ss → AreAhead at (length text) ss
 tokens_ahead k text at [] within short e = within
 tokens_ahead zero text at (s ∷ ss) within short e =
-    elim (turn text at s ss e) [
+    elim (turn piece_at verilog_cut text at s ss e) [
       | Over n some inside is more ↦ absurd (omega arith)
       | First n rest some inside is more whole ↦ absurd (omega arith)
     ]
 tokens_ahead (suc k) text at (s ∷ ss) within short e =
-    elim (turn text at s ss e) [
+    elim (turn piece_at verilog_cut text at s ss e) [
       | Over n some inside is more ↦ ahead_from at (at + n) (length text) (s ∷ ss) (omega arith) (tokens_ahead k text (at + n) (s ∷ ss) inside (omega arith) more)
       | First n rest some inside is more whole ↦
           let here : s ≡ record { start = at; end = at + n } = cc in

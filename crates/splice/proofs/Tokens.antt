@@ -1,16 +1,15 @@
 -- The written text's tokens, from the tokens with their texts.
-use Rattle.std.proofs.Common.{◌≡◌, ℕ, suc, ◌+◌, ◌≤◌, List, [], ◌∷◌, ◌++◌, length, take, drop, map, refl, sym, ap, ◌∙◌, subst, arith}
+use Rattle.std.proofs.Common.{◌≡◌, ℕ, true, suc, ◌+◌, ◌≤◌, List, [], ◌∷◌, ◌++◌, length, take, drop, map, refl, sym, ap, ◌∙◌, subst, arith}
 use Rattle.std.proofs.lemmas.List.{map-append}
 use Rattle.text_scan.specs.declared.span.Span.{Span}
-use Rattle.text_scan.specs.VerilogTokens.{tokens_from, verilog_tokens}
+use Rattle.text_scan.specs.VerilogTokens.{verilog_tokens, texts}
 use Rattle.text_scan.specs.Tokens.{Token, token_of, tokens_of}
-use Rattle.text_scan.specs.Texts.{texts}
-use Rattle.text_scan.proofs.Fronts.{IsMark}
-use Rattle.text_scan.proofs.Reaches.{bytes_of, texts_of}
+use Rattle.text_scan.specs.Each.{Each}
+use Rattle.text_scan.specs.Seams.{bytes_of, texts_of, is_mark, IsReady, IsRun, end_of}
 use Rattle.splice.specs.declared.Edit.{Edit}
 use Rattle.splice.specs.Spliced.{spliced, AreRising}
-use Rattle.splice.proofs.Written.{IsReady, IsRun, end_of, Swap, Swapped, written_from}
-use Rattle.splice.specs.Parts.{Each, IsPlace, last_end}
+use Rattle.splice.proofs.Written.{Swap, Swapped, written_from}
+use Rattle.splice.specs.Parts.{IsPlace, last_end}
 
 abbrev pub back : Token → Span
 back t = record { start = t.start; end = t.end }
@@ -55,9 +54,9 @@ pub record SwapTokens (ts : List Token) (e : Edit) (ws : List (List ℕ)) (More 
   pub opening : ℕ
   pub closing : ℕ
   pub cut : ts ≡ front ++ mark ∷ (run ++ next ∷ behind)
-  pub opens : IsMark opening
+  pub opens : is_mark opening ≡ true
   pub opens_is : mark.text ≡ opening ∷ []
-  pub closes : IsMark closing
+  pub closes : is_mark closing ≡ true
   pub closes_is : next.text ≡ closing ∷ []
   pub place : IsPlace e.span run next
   pub ready : IsReady e.text
@@ -90,14 +89,10 @@ swapped_back text (e ∷ es) ts ws each sw =
       run = map back sw.run;
       next = back sw.next;
       behind = map back sw.behind;
-      opening = sw.opening;
-      closing = sw.closing;
       cut = ap (λ (l : List Token). map back l) sw.cut ∙ map-append back sw.front (sw.mark ∷ (sw.run ++ sw.next ∷ sw.behind))
           ∙ ap (λ (l : List Span). map back sw.front ++ back sw.mark ∷ l) (map-append back sw.run (sw.next ∷ sw.behind));
-      opens = sw.opens;
-      opens_is = here.0 ∙ sw.opens_is;
-      closes = sw.closes;
-      closes_is = later.0 ∙ sw.closes_is;
+      opens = record { mark = sw.opening; is = sw.opens; only = here.0 ∙ sw.opens_is };
+      closes = record { mark = sw.closing; is = sw.closes; only = later.0 ∙ sw.closes_is };
       place = place_back e.span sw.run sw.next sw.place;
       ready = sw.ready;
       later = sw.later;

@@ -54,10 +54,6 @@ Fits [] rest ts = ts ≡ rest
 Fits (Fixed w ∷ ps) rest ts = FitsFixed w ts (Fits ps rest)
 Fits (Slot opening place ws closing ∷ ps) rest ts = FitsSlot opening place ws closing ts (Fits ps rest)
 
-abbrev pub Each : {X : Type 0} → (X → Type 0) → List X → Type 0
-Each P [] = Unit {0}
-Each P (x ∷ xs) = P x × Each P xs
-
 -- a value is spelled by the tokens that stand before the rest
 pub record Spells {X : Type 0} (parts : X → List Part) (Good : X → Type 0) (x : X) (rest ts : List Token) : Type 0 where
   pub fits : Fits (parts x) rest ts

@@ -1,7 +1,7 @@
 use Rattle.std.proofs.Common.{arith}
 use Rattle.std.proofs.lemmas.Result.{err_from_is_err_and}
 use Rattle.narrow_rewire.specs.Forms.{connection_at}
-use Rattle.narrow_rewire.proofs.Lists.{begins, item_stops, mark_stops, goes_on_if, closes_if}
+use Rattle.text_scan.proofs.Lists.{begins, item_stops, mark_stops, goes_on_if, closes_if}
 use Rattle.narrow_rewire.proofs.parser.Parser.connections.Goals as goal
 
 pub loop-connections-init : goal.loop-connections-init

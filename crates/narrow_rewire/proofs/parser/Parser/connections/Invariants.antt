@@ -1,6 +1,7 @@
 use Rattle.std.proofs.Common.{◌≤◌, length}
-use Rattle.narrow_rewire.specs.Forms.{connection_at, list_at}
-use Rattle.narrow_rewire.proofs.Lists.{SoFar}
+use Rattle.text_scan.specs.Parsing.{list_at}
+use Rattle.narrow_rewire.specs.Forms.{connection_at}
+use Rattle.text_scan.proofs.Lists.{SoFar}
 use Rattle.narrow_rewire.proofs.parser.Parser.connections.Given as goal
 
 abbrev pub invariant-loop-connections : goal.invariant-loop-connections

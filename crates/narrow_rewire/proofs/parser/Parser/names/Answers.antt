@@ -1,7 +1,7 @@
 use Rattle.std.proofs.Common.{arith}
 use Rattle.std.proofs.lemmas.Result.{err_from_is_err_and}
 use Rattle.narrow_rewire.specs.Forms.{name_at}
-use Rattle.narrow_rewire.proofs.Lists.{begins, item_stops, mark_stops, goes_on_if, closes_if}
+use Rattle.text_scan.proofs.Lists.{begins, item_stops, mark_stops, goes_on_if, closes_if}
 use Rattle.narrow_rewire.proofs.parser.Parser.names.Goals as goal
 
 pub loop-names-init : goal.loop-names-init

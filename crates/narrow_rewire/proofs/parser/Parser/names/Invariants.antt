@@ -1,6 +1,7 @@
 use Rattle.std.proofs.Common.{◌≤◌, length}
-use Rattle.narrow_rewire.specs.Forms.{name_at, list_at}
-use Rattle.narrow_rewire.proofs.Lists.{SoFar}
+use Rattle.text_scan.specs.Parsing.{list_at}
+use Rattle.narrow_rewire.specs.Forms.{name_at}
+use Rattle.text_scan.proofs.Lists.{SoFar}
 use Rattle.narrow_rewire.proofs.parser.Parser.names.Given as goal
 
 abbrev pub invariant-loop-names : goal.invariant-loop-names
