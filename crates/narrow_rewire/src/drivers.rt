@@ -1,8 +1,10 @@
-ghost use Rattle.std.specs.Prelude.{◌≡◌, ◌+◌, ◌++◌, List, ℕ, if◌then◌else◌, IfOk, OnOk};
+ghost use Rattle.std.specs.Prelude.{◌≡◌, ◌+◌, ◌++◌, List, ℕ, Option, if◌then◌else◌, IfOk, OnOk, take};
 ghost use Rattle.std.specs.Borrow.{Bor};
 ghost use Rattle.std.specs.Str.{bytes_eq};
 ghost use Rattle.std.specs.HashMap.{get};
-ghost use Rattle.narrow_rewire.specs.Tracing.{with_driver, driver, drives, port_drives, step_drives};
+ghost use Rattle.narrow_rewire.specs.declared.drivers.Driver as ghost_driver;
+ghost use Rattle.narrow_rewire.specs.Names.{now_of};
+ghost use Rattle.narrow_rewire.specs.Tracing.{with_driver, driver, drives, port_drives, traced};
 
 use crate::names::Names;
 use crate::steps::Step;
@@ -27,7 +29,7 @@ fn add<'a>(
     net: &'a [u8],
     driver: Driver,
 ) -> Result<(), NoMemory>
-    ensures ok { OnOk result ((q : Bor (List ℕ)) → get (λ x y. bytes_eq x.now y.now) drivers.new q ≡ (if bytes_eq net.now q.now then with_driver driver (get (λ x y. bytes_eq x.now y.now) drivers.old net) else get (λ x y. bytes_eq x.now y.now) drivers.old q)) }
+    ensures ok { OnOk result ((q : Bor (List ℕ)) → get (λ x y. bytes_eq x.now y.now) drivers.new q ≡ (if bytes_eq net.now q.now then with_driver driver (get (λ x y. bytes_eq x.now y.now) drivers.old net.entry) else get (λ x y. bytes_eq x.now y.now) drivers.old q)) }
 {
     let driver = if drivers.contains_key(&net) {
         Driver::Several
@@ -36,4 +38,34 @@ fn add<'a>(
     };
     drivers.insert(net, driver)?;
     Ok(())
+}
+
+fn port_drivers<'a>(
+    alloc: Global,
+    ports: &[&'a [u8]],
+) -> Result<HashMap<&'a [u8], Driver>, NoMemory>
+    ensures value { IfOk result (λ drivers. (q : Bor (List ℕ)) → get (λ x y. bytes_eq x.now y.now) drivers q ≡ driver (port_drives (now_of ports.now)) q.now) }
+{
+    let mut drivers = HashMap::new(alloc);
+    for port in ports {
+        add(&mut drivers, *port, Driver::Port)?;
+    }
+    Ok(drivers)
+}
+
+/// What drives each net, of the input ports and the steps.
+pub fn drivers_of<'a>(
+    alloc: Global,
+    ports: &Names<'a>,
+    steps: &[Step<'a>],
+) -> Result<HashMap<&'a [u8], Driver>, NoMemory>
+    ensures value { IfOk result (λ drivers. (q : Bor (List ℕ)) → get (λ x y. bytes_eq x.now y.now) drivers q ≡ driver (drives ports.now steps.now) q.now) }
+{
+    let mut drivers = port_drivers(alloc, ports.as_slice())?;
+    for i in 0..steps.len() {
+        if let Some(net) = steps[i].output() {
+            add(&mut drivers, net, Driver::Step(i))?;
+        }
+    }
+    Ok(drivers)
 }

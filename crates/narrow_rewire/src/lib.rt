@@ -12,6 +12,7 @@ mod reader;
 mod rewire;
 mod rules;
 mod steps;
+mod trace;
 
 pub use module::{Assign, Connection, Declared, Instance, Module, Statement};
 pub use rewire::{Rewire, Rewired};

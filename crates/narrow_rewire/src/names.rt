@@ -33,6 +33,12 @@ impl<'a> Names<'a> {
         }
     }
 
+    pub fn as_slice(&self) -> &[&'a [u8]]
+        ensures value { now_of result.now ≡ self.now }
+    {
+        self.names.as_slice()
+    }
+
     #[tactic(auto, using(crate::proofs::NameLists::pushed))]
     pub fn push(&mut self, name: &'a [u8]) -> Result<(), NoMemory>
         ensures ok { OnOk result (self.new ≡ self.old ++ name.now ∷ []) }
