@@ -1,6 +1,6 @@
 -- Lists of names, member by member, as loops go over them.
 use Rattle.std.proofs.Common.{◌≡◌, ℕ, ◌+◌, ◌<◌, ◌≤◌, Bool, true, false, cond, not, ◌&&◌, ◌||◌, List, [], ◌∷◌, ◌++◌, length, map, get_or, take, drop, Bor, refl, sym, ap, ◌∙◌, append_assoc}
-use Rattle.std.specs.List.{list_any, list_all}
+use Rattle.std.specs.List.{filter, list_any, list_all}
 use Rattle.std.specs.Str.{bytes_eq}
 use Rattle.std.proofs.lemmas.List.{drop_more, drop_all, take_more, map-append, append-nil}
 use Rattle.narrow_rewire.specs.Names.{now_of, has, have_all, are_new, are_distinct}
@@ -88,3 +88,27 @@ all_passed names xs i total le so_far = sym (ap (λ (l : List (Bor (List ℕ))).
 pub added_name : (xs : List (Bor (List ℕ))) (i : ℕ) (d : Bor (List ℕ)) (name : List ℕ) (new old : Bool) → i < length xs → new ≡ cond (bytes_eq (get_or xs i d).now name) true old → old ≡ has name (now_of (take i xs))
     → new ≡ has name (now_of (take (i + 1) xs))
 added_name xs i d name new old lt is was = is ∙ ap (λ (b : Bool). cond (bytes_eq (get_or xs i d).now name) true b) was ∙ sym (has_more xs i d name lt)
+
+filter_append : (p : List ℕ → Bool) (xs ys : List (List ℕ)) → filter p (xs ++ ys) ≡ filter p xs ++ filter p ys
+filter_append p [] ys = refl
+filter_append p (x ∷ xs) ys =
+    elim (p x) as (λ t. cond t (x ∷ filter p (xs ++ ys)) (filter p (xs ++ ys)) ≡ cond t (x ∷ filter p xs) (filter p xs) ++ filter p ys) [
+      | true ↦ ap (λ (l : List (List ℕ)). x ∷ l) (filter_append p xs ys)
+      | false ↦ filter_append p xs ys
+    ]
+
+filter_more : (p : List ℕ → Bool) (xs : List (Bor (List ℕ))) (i : ℕ) (d : Bor (List ℕ)) → i < length xs
+    → filter p (now_of (take (i + 1) xs)) ≡ filter p (now_of (take i xs)) ++ cond (p (get_or xs i d).now) ((get_or xs i d).now ∷ []) []
+filter_more p xs i d lt = ap (λ (l : List (Bor (List ℕ))). filter p (now_of l)) (take_more xs i d lt) ∙ ap (filter p) (pushed (take i xs) (get_or xs i d)) ∙ filter_append p (now_of (take i xs)) ((get_or xs i d).now ∷ [])
+
+-- a name that passes is taken, and another is not
+pub filter_takes : (p : List ℕ → Bool) (xs : List (Bor (List ℕ))) (i : ℕ) (d : Bor (List ℕ)) (front next : List (List ℕ)) → i < length xs → p (get_or xs i d).now ≡ true
+    → next ≡ front ++ (get_or xs i d).now ∷ [] → front ≡ filter p (now_of (take i xs)) → next ≡ filter p (now_of (take (i + 1) xs))
+filter_takes p xs i d front next lt is step so_far =
+    step ∙ ap (λ (l : List (List ℕ)). l ++ (get_or xs i d).now ∷ []) so_far
+    ∙ sym (filter_more p xs i d lt ∙ ap (λ (t : Bool). filter p (now_of (take i xs)) ++ cond t ((get_or xs i d).now ∷ []) []) is)
+
+pub filter_leaves : (p : List ℕ → Bool) (xs : List (Bor (List ℕ))) (i : ℕ) (d : Bor (List ℕ)) (front : List (List ℕ)) → i < length xs → p (get_or xs i d).now ≡ false
+    → front ≡ filter p (now_of (take i xs)) → front ≡ filter p (now_of (take (i + 1) xs))
+filter_leaves p xs i d front lt is so_far =
+    so_far ∙ sym (filter_more p xs i d lt ∙ ap (λ (t : Bool). filter p (now_of (take i xs)) ++ cond t ((get_or xs i d).now ∷ []) []) is ∙ append-nil (filter p (now_of (take i xs))))

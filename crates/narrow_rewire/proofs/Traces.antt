@@ -1,12 +1,17 @@
 -- Tracing back, driver by driver, as the loop does.
-use Rattle.std.proofs.Common.{◌≡◌, ℕ, zero, suc, ◌+◌, ◌-◌, ◌<◌, ◌≤◌, Bool, true, false, cond, List, [], ◌∷◌, ◌++◌, Option, Some, None, refl, sym, ap, ◌∙◌, append_assoc, arith}
+use Rattle.std.proofs.Common.{◌≡◌, ℕ, zero, suc, ◌+◌, ◌-◌, ◌<◌, ◌≤◌, Bool, true, false, cond, List, [], ◌∷◌, ◌++◌, length, Option, Some, None, refl, sym, ap, ◌∙◌, append_assoc, arith}
 use Rattle.std.specs.Prelude.{slice_get}
+use Rattle.std.specs.List.{flat_map}
 use Rattle.std.specs.Str.{bytes_eq}
 use Rattle.std.proofs.lemmas.List.{append-nil}
 use Rattle.text_scan.specs.Parsing.{◌>>=◌}
 use Rattle.narrow_rewire.specs.declared.drivers.Driver.{Driver}
 use Rattle.narrow_rewire.specs.declared.drivers.Driver.TheVariants as drivers
-use Rattle.narrow_rewire.specs.Tracing.{Step, step_back, driver_back, traced}
+use Rattle.narrow_rewire.specs.declared.module.Statement.{Statement}
+use Rattle.narrow_rewire.specs.declared.module.Module.{Module}
+use Rattle.narrow_rewire.specs.declared.rewire.Rewire.{Rewire}
+use Rattle.narrow_rewire.specs.Rules.{assigns_in, assigns}
+use Rattle.narrow_rewire.specs.Tracing.{Step, steps_in, steps, input_ports, drives, driver, step_back, driver_back, traced, right_of, traced_back}
 
 abbrev Names : Type 0
 Names = List (List ℕ)
@@ -62,3 +67,13 @@ unfolding traced
 ends find all from most k front net total le so_far =
     let n : most - k ≡ 0 = omega arith in
     sym (ap (λ (m : ℕ). with_back front (traced find all from m net)) n) ∙ so_far
+
+-- the loop's call is that of the definition
+pub traced_same : (m : Module) (w : Rewire) (ss : List Statement) (ports units : Names) (all : List Step) (from net : List ℕ) (most : ℕ)
+    → ss ≡ m.statements → ports ≡ input_ports m → all ≡ flat_map (steps_in w) ss → from ≡ w.scan_in → units ≡ w.units → most ≡ length units → net ≡ right_of (flat_map assigns_in ss)
+    → traced (driver (drives ports all)) all from (most + 1) net ≡ traced_back m w
+traced_same m w ss ports units all from net most ss_is ports_is all_is from_is units_is most_is net_is =
+    let k : most + 1 ≡ suc (length units) = omega arith in
+    let steps_are : all ≡ steps m w = all_is ∙ ap (flat_map (steps_in w)) ss_is in
+    let right : net ≡ right_of (assigns m) = net_is ∙ ap (λ (l : List Statement). right_of (flat_map assigns_in l)) ss_is in
+    rw (k, ports_is, steps_are, from_is, right, units_is) refl

@@ -1,5 +1,6 @@
-ghost use Rattle.std.specs.Prelude.{◌≡◌, ◌∷◌, ◌++◌, [], List, ℕ, OnOk, IfOk};
+ghost use Rattle.std.specs.Prelude.{◌≡◌, ◌<◌, ◌^◌, ◌∷◌, ◌++◌, [], List, ℕ, length, OnOk, IfOk};
 ghost use Rattle.std.specs.Borrow.{Bor};
+ghost use Rattle.std.specs.List.{filter};
 ghost use Rattle.std.specs.Str.{bytes_eq};
 ghost use Rattle.std.specs.HashSet.{contains};
 ghost use Rattle.narrow_rewire.specs.Names.{now_of, has, have_all, are_distinct};
@@ -33,6 +34,13 @@ impl<'a> Names<'a> {
         }
     }
 
+    pub fn len(&self) -> usize
+        ensures value { result ≡ length self.now }
+        ensures small { result < 2 ^ 63 }
+    {
+        self.names.len()
+    }
+
     pub fn as_slice(&self) -> &[&'a [u8]]
         ensures value { now_of result.now ≡ self.now }
     {
@@ -55,6 +63,13 @@ impl<'a> Names<'a> {
             self.push(name.bytes())?;
         }
         Ok(())
+    }
+
+    /// Those of the names that are others too.
+    pub fn shared(&self, alloc: Global, others: &Names<'a>) -> Result<Names<'a>, NoMemory>
+        ensures value { IfOk result (λ names. names ≡ filter (λ name. has name others.now) self.now) }
+    {
+        shared(alloc, &self.names, &others.names)
     }
 
     /// Whether no name stands twice.
@@ -80,6 +95,23 @@ fn set_of<'a>(alloc: Global, names: &[&'a [u8]]) -> Result<HashSet<&'a [u8]>, No
         set.insert(*name)?;
     }
     Ok(set)
+}
+
+fn shared<'a>(
+    alloc: Global,
+    names: &[&'a [u8]],
+    others: &[&'a [u8]],
+) -> Result<Names<'a>, NoMemory>
+    ensures value { IfOk result (λ found. found ≡ filter (λ name. has name (now_of others.now)) (now_of names.now)) }
+{
+    let set = set_of(alloc, others)?;
+    let mut found = Names::new(alloc);
+    for name in names {
+        if set.contains(name) {
+            found.push(*name)?;
+        }
+    }
+    Ok(found)
 }
 
 fn are_distinct(alloc: Global, names: &[&[u8]]) -> Result<bool, NoMemory>

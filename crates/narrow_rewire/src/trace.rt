@@ -1,10 +1,11 @@
-ghost use Rattle.std.specs.Prelude.{◌≡◌, ◌+◌, Option, List, ℕ, IfOk, suc, length};
+ghost use Rattle.std.specs.Prelude.{◌≡◌, Option, List, ℕ, IfOk};
 ghost use Rattle.std.specs.Borrow.{Bor};
+ghost use Rattle.std.specs.List.{flat_map};
 ghost use Rattle.std.specs.Str.{bytes_eq};
 ghost use Rattle.std.specs.HashMap.{get};
 ghost use Rattle.narrow_rewire.specs.declared.drivers.Driver.{Driver};
-ghost use Rattle.narrow_rewire.specs.Rules.{inputs, assigns_in};
-ghost use Rattle.narrow_rewire.specs.Tracing.{traced, rearranges, are_units, fits_path, input_ports, right_of, traced_back, steps_in};
+ghost use Rattle.narrow_rewire.specs.Rules.{assigns_in};
+ghost use Rattle.narrow_rewire.specs.Tracing.{traced, rearranges, fits_path, input_ports, right_of, traced_back};
 
 use crate::drivers::{Driver, drivers_of};
 use crate::module::{Module, Statement};
@@ -52,4 +53,66 @@ fn traced<'a>(
         }
     }
     Ok(None)
+}
+
+/// The net that is assigned to the scan-out.
+fn right_of(statements: &[Statement]) -> &[u8]
+    ensures value { result.now ≡ right_of (flat_map assigns_in statements.now) }
+{
+    for statement in statements {
+        if let Statement::Assign(assign) = statement {
+            return assign.right.bytes();
+        }
+    }
+    &[]
+}
+
+fn input_ports<'a>(alloc: Global, read: &'a Module) -> Result<Names<'a>, NoMemory>
+    ensures value { IfOk result (λ ports. ports ≡ input_ports read.now) }
+{
+    let mut ports = Names::new(alloc);
+    ports.push_all(read.ports.as_slice())?;
+    inputs(alloc, read.statements.as_slice())?.shared(alloc, &ports)
+}
+
+/// The names of the steps from the scan-out back to the scan-in.
+fn traced_back<'a>(
+    alloc: Global,
+    read: &'a Module,
+    rewire: &Rewire,
+    units: &Names<'a>,
+) -> Result<Option<Names<'a>>, NoMemory>
+    requires units { units.now ≡ rewire.now.units }
+    ensures value { IfOk result (λ back. back ≡ traced_back read.now rewire.now) }
+{
+    let statements = read.statements.as_slice();
+    let cells = steps_of(alloc, rewire, statements)?;
+    let steps = cells.as_slice();
+    let ports = input_ports(alloc, read)?;
+    let drivers = drivers_of(alloc, &ports, steps)?;
+    let most = units.len() + 1;
+    traced(alloc, &drivers, steps, rewire.scan_in.bytes(), most, right_of(statements))
+}
+
+/// Whether the names are those of a list, each once.
+fn rearranges<'a>(alloc: Global, names: &Names<'a>, others: &Names<'a>) -> Result<bool, NoMemory>
+    ensures value { IfOk result (λ is. is ≡ rearranges names.now others.now) }
+{
+    Ok(names.are_distinct(alloc)?
+        && others.are_distinct(alloc)?
+        && others.have_all(alloc, names)?
+        && names.have_all(alloc, others)?)
+}
+
+/// Whether a scan path leads from the scan-in to the scan-out, and the words are its instances, each once.
+#[tactic(auto, unfolding(crate::specs::Tracing::fits_path))]
+pub fn fits_path<'a>(alloc: Global, read: &'a Module, rewire: &'a Rewire) -> Result<bool, NoMemory>
+    ensures value { IfOk result (λ fits. fits ≡ fits_path read.now rewire.now) }
+{
+    let mut units = Names::new(alloc);
+    units.push_all(rewire.units.as_slice())?;
+    let Some(back) = traced_back(alloc, read, rewire, &units)? else {
+        return Ok(false);
+    };
+    rearranges(alloc, &units, &back)
 }
