@@ -1,4 +1,5 @@
 pub mod DriverLemmas
+pub mod FeedLemmas
 pub mod Flat
 pub mod GapLemmas
 pub mod NameLists

@@ -2,6 +2,8 @@ pub mod Bare
 pub mod Forms
 pub mod Gaps
 pub mod Names
+pub mod Rewiring
 pub mod Rules
 pub mod Spelling
+pub mod Texts
 pub mod Tracing

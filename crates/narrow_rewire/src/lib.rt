@@ -4,6 +4,8 @@
 #![tactic(auto)]
 
 mod drivers;
+mod edits;
+mod feeds;
 mod gaps;
 mod module;
 mod names;

@@ -107,7 +107,7 @@ fn pins<'a>(alloc: Global, instance: &'a Instance) -> Result<Names<'a>, NoMemory
     Ok(names)
 }
 
-fn is_net(name: &[u8], net: &Option<Name>) -> bool
+pub fn is_net(name: &[u8], net: &Option<Name>) -> bool
     ensures value { result ≡ is_net name.now net.now }
 {
     match net {
