@@ -1,6 +1,8 @@
 -- What `rewire` answers on a text of the narrow form.
-use Rattle.std.specs.Prelude.{ℕ, if◌then◌else◌, List, [], length, Option, Some, None}
+use Rattle.std.specs.Prelude.{◌≡◌, ℕ, if◌then◌else◌, List, [], length, Option, Some, None, Result, Ok, Err}
 use Rattle.text_scan.specs.declared.fault.Fault.{Fault}
+use Rattle.text_scan.specs.declared.fault.ReadFault.{ReadFault}
+use Rattle.text_scan.specs.declared.fault.ReadFault.TheVariants as faults
 use Rattle.text_scan.specs.declared.fault.FileKind.TheVariants as files
 use Rattle.text_scan.specs.declared.fault.Spot.TheVariants as spots
 use Rattle.text_scan.specs.declared.kind.Kind.TheVariants as kinds
@@ -42,3 +44,9 @@ written_verilog text w = spliced text (text_edits text w)
 -- how many in pins and ports have another source
 abbrev pub moved_count : List ℕ → Rewire → ℕ
 moved_count text w = length (text_edits text w)
+
+-- a fault is answered exactly where it is the first, and nothing else is refused; want of memory says nothing
+abbrev pub IsRefused : {X : Type 0} → Result X ReadFault → Option Fault → Type 0
+IsRefused (Ok made) first = first ≡ None
+IsRefused (Err (faults.Fault f)) first = first ≡ Some f
+IsRefused (Err faults.NoMemory) first = Unit {0}

@@ -17,4 +17,4 @@ mod steps;
 mod trace;
 
 pub use module::{Assign, Connection, Declared, Instance, Module, Statement};
-pub use rewire::{Rewire, Rewired};
+pub use rewire::{Rewire, Rewired, rewire_text};

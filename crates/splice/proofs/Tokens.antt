@@ -32,7 +32,7 @@ pub each_behind : {X : Type 0} (P : X → Type 0) (xs ys : List X) → Each P (x
 each_behind P [] ys e = e
 each_behind P (x ∷ xs) ys e = each_behind P xs ys e.1
 
-each_front : {X : Type 0} (P : X → Type 0) (xs ys : List X) → Each P (xs ++ ys) → Each P xs
+pub each_front : {X : Type 0} (P : X → Type 0) (xs ys : List X) → Each P (xs ++ ys) → Each P xs
 each_front P [] ys e = tt
 each_front P (x ∷ xs) ys e = (e.0, each_front P xs ys e.1)
 

@@ -16,8 +16,8 @@ pub struct Edit {
 
 /// The text with all edits made.
 pub fn spliced(alloc: Global, text: &[u8], edits: &[Edit]) -> Result<Text, NoMemory>
-    requires { AreRising 0 (length text.now) edits.now }
-    ensures { IfOk result (λ written. written ≡ spliced text.now edits.now) }
+    requires rising { AreRising 0 (length text.now) edits.now }
+    ensures value { IfOk result (λ written. written ≡ spliced text.now edits.now) }
 {
     let mut out = Vec::new(alloc);
     let mut at = 0;

@@ -12,4 +12,6 @@ loop-edit-preserved c =
     record { within = s.within; rising = s.rising; same = s.same }
 
 pub returns : goal.returns
-returns c = c.of.ensures.value ∙ done c.args.text.now c.loop-edit.at c.loop-edit.edit-index c.args.edits.now c.loop-edit.out.items c.extend_from_slice-2.new.self.items _ c.loop-edit-test.false (c.in_ok-extend_from_slice-3.ensures.items ∙ ap (λ (x : List ℕ). c.loop-edit.out.items ++ x) (take_rest c.args.text.now c.loop-edit.at)) c.loop-edit.invariant.same
+returns c = record {
+  value = c.of.ensures.value ∙ done c.args.text.now c.loop-edit.at c.loop-edit.edit-index c.args.edits.now c.loop-edit.out.items c.extend_from_slice-2.new.self.items _ c.loop-edit-test.false (c.in_ok-extend_from_slice-3.ensures.items ∙ ap (λ (x : List ℕ). c.loop-edit.out.items ++ x) (take_rest c.args.text.now c.loop-edit.at)) c.loop-edit.invariant.same;
+}
