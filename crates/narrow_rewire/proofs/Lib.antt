@@ -1,0 +1,11 @@
+pub mod DriverLemmas
+pub mod FeedLemmas
+pub mod Flat
+pub mod GapLemmas
+pub mod Made
+pub mod NameLists
+pub mod Read
+pub mod Spelled
+pub mod Traces
+pub mod Until
+pub mod Written

@@ -1,0 +1,9 @@
+pub mod Bare
+pub mod Forms
+pub mod Gaps
+pub mod Names
+pub mod Rewiring
+pub mod Rules
+pub mod Spelling
+pub mod Texts
+pub mod Tracing
