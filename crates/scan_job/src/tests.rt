@@ -56,7 +56,11 @@ fn a_chain_is_rewired_or_refused(rt: HostRuntime) -> Result<(), Fail> {
         let mut desk = desk(alloc, text, 0, 0)?;
         let words = rewiring(alloc, units)?;
         assert_eq!(rt; run(alloc, &words, &mut desk), status, "{units}");
-        assert_eq!(rt; desk.written(Slot::OutVerilog), verilog.as_bytes(), "{units}");
+        assert_eq!(rt;
+            desk.written(Slot::OutVerilog),
+            verilog.as_bytes(),
+            "{units}"
+        );
         assert_eq!(rt; desk.written(Slot::Console), console.as_bytes(), "{units}");
     }
     Ok(())
@@ -74,7 +78,11 @@ fn a_failing_call_ends_the_run(rt: HostRuntime) -> Result<(), Fail> {
         (9, 0, 4, 9),
     ] {
         let mut desk = desk(alloc, THREE_FLOPS, failing, empty_write)?;
-        assert_eq!(rt; run(alloc, &words, &mut desk), status, "{failing} {empty_write}");
+        assert_eq!(rt;
+            run(alloc, &words, &mut desk),
+            status,
+            "{failing} {empty_write}"
+        );
         assert_eq!(rt; desk.calls(), calls, "{failing} {empty_write}");
         assert_eq!(rt; desk.written(Slot::Console), b"".as_slice());
     }
