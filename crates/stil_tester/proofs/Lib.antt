@@ -1,6 +1,7 @@
 pub mod Strings
 pub mod WellFormed
 pub mod DeviceLaws
+pub mod Meanings
 pub mod Plays
 pub mod ShiftLaws
 pub mod Shifts

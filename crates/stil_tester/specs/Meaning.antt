@@ -1,10 +1,11 @@
 -- Patterns of the same meaning.
 use Rattle.std.specs.Prelude.{◌≡◌, ℕ, ⊤, List, [], ◌∷◌}
+use Rattle.stil_reader.specs.declared.statement.ScanCall.{ScanCall}
 use Rattle.stil_reader.specs.declared.statement.PatternStatement.{PatternStatement}
 use Rattle.stil_reader.specs.declared.statement.PatternStatement.TheVariants.{Scan, Other}
 use Rattle.stil_tester.specs.declared.symbol.Symbol.{Symbol}
 use Rattle.stil_tester.specs.declared.chains.Chains.{Chains}
-use Rattle.stil_tester.specs.Shifting.{HasCells}
+use Rattle.stil_tester.specs.Shifting.{HasCells, scan_call}
 use Rattle.stil_tester.specs.Runs.{Answer, AreAnswersFor, run_patterns}
 
 -- scan chains, and the statements that are played on them
@@ -36,3 +37,17 @@ pub record HaveSameMeaning (reading : Reading) (old new : Patterns) : Type 0 whe
   pub cells : old.chains.cells ≡ new.chains.cells
   pub alike : AllAlike reading old.statements new.statements
   pub results : (cells : List Symbol) (answers : List Answer) → HasCells old.chains cells → AreAnswersFor old.chains old.statements answers → run_patterns old.chains old.statements cells answers ≡ run_patterns new.chains new.statements cells answers
+
+-- from whatever cells, one call on these chains and the other on those leave the same cells, and pass alike
+abbrev pub ShowSame : Chains → Chains → ScanCall → ScanCall → Type 0
+ShowSame old new call call' = (cells : List Symbol) → HasCells old cells → scan_call old cells call ≡ scan_call new cells call'
+
+-- at each place of both lists stand two Scans whose calls show the same, or two other statements
+abbrev pub AllShowSame : Chains → Chains → List PatternStatement → List PatternStatement → Type 0
+AllShowSame old new [] [] = ⊤
+AllShowSame old new [] (b ∷ bs) = ⊥
+AllShowSame old new (a ∷ as') [] = ⊥
+AllShowSame old new (Scan p a call line ∷ as') (Scan q b call' line' ∷ bs) = ShowSame old new call call' × AllShowSame old new as' bs
+AllShowSame old new (Scan p a call line ∷ as') (Other q b ∷ bs) = ⊥
+AllShowSame old new (Other p a ∷ as') (Scan q b call' line' ∷ bs) = ⊥
+AllShowSame old new (Other p a ∷ as') (Other q b ∷ bs) = AllShowSame old new as' bs

@@ -1,6 +1,6 @@
 ghost use Rattle.std.specs.Prelude.{◌≡◌, List};
 ghost use Rattle.stil_tester.specs.DeviceLaw.{AnswersAlike};
-ghost use Rattle.stil_tester.specs.Meaning.{HaveSameMeaning, Patterns, Reading};
+ghost use Rattle.stil_tester.specs.Meaning.{AllAlike, AllShowSame, HaveSameMeaning, Patterns, Reading};
 ghost use Rattle.stil_tester.specs.Runs.{play_of};
 ghost use Rattle.stil_tester.specs.Shifting.{HasCells};
 
@@ -12,4 +12,10 @@ use crate::symbol::Symbol;
 /// the same, and leave the same cells and the same device.
 pub fn device_law<D: Device>()
     ensures plays { (reading : Reading) (old new : Patterns) (device : D) (cells : List Symbol) → HaveSameMeaning reading old new → AnswersAlike reading.tokens D.behaviour → HasCells old.chains cells → play_of D.behaviour old.chains old.statements device cells ≡ play_of D.behaviour new.chains new.statements device cells }
+{}
+
+/// Patterns have the same meaning where their statements are alike, the chains hold the same cells,
+/// and each two scan calls show the same from whatever cells.
+pub fn meaning_law()
+    ensures meaning { (reading : Reading) (old new : Patterns) → old.chains.cells ≡ new.chains.cells → AllAlike reading old.statements new.statements → AllShowSame old.chains new.chains old.statements new.statements → HaveSameMeaning reading old new }
 {}

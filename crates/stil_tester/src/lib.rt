@@ -17,7 +17,7 @@ mod symbol;
 
 pub use chains::{ChainBits, Chains};
 pub use device::{Device, Hold, Mix, Told};
-pub use laws::device_law;
+pub use laws::{device_law, meaning_law};
 pub use playing::play;
 pub use results::{PlayLog, ScanResult};
 pub use scan::scan_call;
