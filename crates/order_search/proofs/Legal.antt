@@ -1,10 +1,10 @@
 -- What a legal plan says of its chains, and that another order of their units leaves it legal.
-use Rattle.std.proofs.Common.{◌≡◌, ℕ, ◌+◌, ◌-◌, ◌<◌, ◌≤◌, List, [], ◌∷◌, ◌++◌, length, take, get_or, Option, Some, refl, sym, ap, ◌∙◌, arith, subst, slice_get, inl, inr, IsTrue, eqb, false, suc, zero}
+use Rattle.std.proofs.Common.{◌≡◌, ℕ, ◌+◌, ◌-◌, ◌<◌, ◌≤◌, List, [], ◌∷◌, length, take, get_or, Some, refl, sym, ap, ◌∙◌, arith, subst, inl, inr, IsTrue, eqb, suc}
 use Rattle.std.specs.List.{All, Contains, IsDistinct, concat, flat_map, range_with_len, sum_by}
 use Rattle.std.specs.List.Sorted.{IsPermutation}
 use Rattle.std.proofs.lemmas.Bool.{cases_lt}
 use Rattle.std.proofs.lemmas.Bool.Decides.{nat_tests}
-use Rattle.std.proofs.lemmas.List.{get_or_append_left, get_or-append_right, get_or-append-add, get_or_default, length-append, take_all, take-take}
+use Rattle.std.proofs.lemmas.List.{get_or_append_left, get_or-append_right, get_or_default, length-append, take_all, take-take}
 use Rattle.std.proofs.lemmas.List.Concat.{concat_is, get_or-flat_map, length-flat_map}
 use Rattle.std.proofs.lemmas.List.Elements.{All-contains, All-from_get_or}
 use Rattle.std.proofs.lemmas.List.FromFn.{get_or-range_with_len, length-range_with_len}
@@ -12,10 +12,10 @@ use Rattle.std.proofs.lemmas.List.Sorted.{All-permutation, Contains-permutation,
 use Rattle.std.proofs.lemmas.List.Sums.{sum_by-take-le}
 use Rattle.std.proofs.lemmas.Map.Keys.{IsDistinct-IsPermutation, IsDistinct-from_apart, apart_from_distinct}
 use Rattle.std.proofs.lemmas.Option.{get_or_from_slice_get, slice_get_within}
-use Rattle.chain_rules.specs.Legality.{IsLegal, bits_of, chain_at, last_of, partition_of, rule_at, unit_at}
+use Rattle.chain_rules.specs.Legality.{IsLegal, chain_at, last_of, partition_of, rule_at, unit_at}
 use Rattle.chain_rules.specs.declared.plan.Plan.{Plan}
 use Rattle.chain_rules.specs.declared.unit.Rules.{Rules}
-use Rattle.wire_cost.specs.Lengths.{AreWithin, IsChainAt, IsPlanAt}
+use Rattle.wire_cost.specs.Lengths.{AreWithin, IsPlanAt}
 use Rattle.wire_cost.specs.declared.ends.Ends.{Ends}
 use Rattle.wire_cost.proofs.Plans.{length-concat, units_more}
 use Rattle.order_search.specs.Searches.{AreSearchable}

@@ -1,5 +1,5 @@
 -- A pinned unit under reversed runs.
-use Rattle.std.proofs.Common.{◌≡◌, ℕ, ◌+◌, ◌-◌, ◌<◌, ◌≤◌, List, [], ◌∷◌, ◌++◌, length, take, drop, reverse, get_or, Option, Some, refl, sym, ap, ◌∙◌, arith, subst, slice_get, inl, inr, IsTrue, eqb, false}
+use Rattle.std.proofs.Common.{◌≡◌, ℕ, ◌+◌, ◌-◌, ◌<◌, List, ◌++◌, length, take, drop, reverse, get_or, Some, sym, ap, ◌∙◌, arith, subst, slice_get, inl, inr, IsTrue, eqb, false}
 use Rattle.std.proofs.lemmas.List.{append-nil, drop_all, get_or-append_right, get_or-drop, get_or-reverse, get_or-take, length-drop, length-reverse, length-take-le}
 use Rattle.std.proofs.lemmas.Bool.{cases_lt}
 use Rattle.std.proofs.lemmas.Bool.Decides.{nat_tests}

@@ -1,21 +1,20 @@
 -- A chain whose units are placed one by one, each the nearest of those that are left.
-use Rattle.std.proofs.Common.{◌≡◌, ℕ, ◌+◌, ◌-◌, ◌<◌, ◌≤◌, ◌⊎◌, List, [], ◌∷◌, ◌++◌, length, take, drop, get_or, Option, Some, refl, sym, ap, ◌∙◌, arith, subst, slice_get, inl, inr, IsTrue, eqb, suc}
+use Rattle.std.proofs.Common.{◌≡◌, ℕ, ◌+◌, ◌<◌, ◌≤◌, List, [], ◌∷◌, ◌++◌, length, take, drop, get_or, Option, sym, ap, ◌∙◌, arith, subst, slice_get, inl, inr, IsTrue, eqb}
 use Rattle.std.specs.List.{All, IsDistinct, remove}
 use Rattle.std.specs.List.Sorted.{IsPermutation}
-use Rattle.std.proofs.lemmas.Bool.{cases_eq, cases_lt}
+use Rattle.std.proofs.lemmas.Bool.{cases_lt}
 use Rattle.std.proofs.lemmas.Bool.Decides.{nat_tests}
-use Rattle.std.proofs.lemmas.List.{append-nil, drop-append-le, drop_all, drop_at, drop_more, get_or-append_right, get_or-take, get_or_append_left, get_or_default, get_or_push, length-append, length-drop, length-take-le, length_push, nil_from_length, take-append-drop, take-append-le, take_all}
+use Rattle.std.proofs.lemmas.List.{append-nil, drop-append-le, drop_all, drop_at, drop_more, get_or-take, get_or_append_left, get_or_default, get_or_push, length-append, length-drop, length-take-le, length_push, nil_from_length, take-append-drop, take-append-le, take_all}
 use Rattle.std.proofs.lemmas.List.Edits.{get_or-remove_above, get_or-remove_below, length-remove}
-use Rattle.std.proofs.lemmas.List.Elements.{All-append, All-cons, All-from_get_or, All-nil, All-same, All-weaker}
+use Rattle.std.proofs.lemmas.List.Elements.{All-append, All-cons, All-from_get_or, All-nil, All-same}
 use Rattle.std.proofs.lemmas.List.Sorted.{All-permutation, IsPermutation-append_left, IsPermutation-more, IsPermutation-refl}
 use Rattle.std.proofs.lemmas.List.Sums.{position_or_len_is}
 use Rattle.std.proofs.lemmas.Map.Keys.{apart_from_distinct}
 use Rattle.text_scan.specs.declared.span.Point.{Point}
-use Rattle.chain_rules.specs.Legality.{IsLegal, chain_at, unit_at}
+use Rattle.chain_rules.specs.Legality.{chain_at, unit_at}
 use Rattle.chain_rules.specs.declared.unit.Rules.{Rules}
 use Rattle.wire_cost.specs.declared.ends.Ends.{Ends}
 use Rattle.wire_cost.specs.Lengths.{AreWithin, chain_ends, end_of, link_of}
-use Rattle.wire_cost.proofs.Walks.{end_of_push}
 use Rattle.order_search.specs.Nearest.{IsNearer, IsNearestChain, point_at, read_place}
 use Rattle.order_search.specs.Runs.{IsFreeCount}
 use Rattle.order_search.specs.Steps.{IsPinnedLast}

@@ -1,5 +1,5 @@
 -- The plans that are tried.
-use Rattle.std.proofs.Common.{◌≡◌, ◌≢◌, ℕ, ◌+◌, ◌<◌, ◌≤◌, List, length, ap, ◌∙◌, arith}
+use Rattle.std.proofs.Common.{◌≡◌, ◌≢◌, ℕ, ◌<◌, ◌≤◌, List, length, ap, ◌∙◌, arith}
 use Rattle.std.proofs.lemmas.List.{length-set, set-set}
 use Rattle.std.specs.List.{remove}
 use Rattle.chain_rules.specs.Legality.{chain_at, moved_plan, swapped_plan, taken_out, with_chain}

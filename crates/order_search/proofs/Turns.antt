@@ -1,5 +1,5 @@
 -- What a reversed run changes.
-use Rattle.std.proofs.Common.{◌≡◌, ℕ, ◌+◌, ◌-◌, ◌*◌, ◌^◌, ◌<◌, ◌≤◌, List, [], ◌∷◌, ◌++◌, length, take, drop, reverse, get_or, Option, refl, sym, ap, ◌∙◌, arith, append_assoc, subst, slice_get, inl, inr, suc, zero}
+use Rattle.std.proofs.Common.{◌≡◌, ℕ, ◌+◌, ◌-◌, ◌<◌, ◌≤◌, List, [], ◌∷◌, ◌++◌, length, take, drop, reverse, get_or, Option, refl, sym, ap, ◌∙◌, arith, append_assoc, subst, slice_get, inl, inr, suc, zero}
 use Rattle.std.proofs.lemmas.List.{take_more, reverse-append, take-append-drop, drop-drop, length-take-le, length-drop, get_or-drop, length-reverse}
 use Rattle.std.proofs.lemmas.Bool.{cases_lt}
 use Rattle.std.proofs.lemmas.List.Elements.{All-get_or, All-from_get_or}
@@ -8,7 +8,7 @@ use Rattle.std.proofs.lemmas.Slice.{drop-put_mid}
 use Rattle.std.specs.List.Sorted.{IsPermutation}
 use Rattle.text_scan.specs.declared.span.Point.{Point}
 use Rattle.wire_cost.specs.declared.ends.Ends.{Ends}
-use Rattle.wire_cost.specs.Lengths.{AreWithin, ChainEnds, IsChainAt, chain_ends, chain_length_of, end_of, first_of, length_of, link_of}
+use Rattle.wire_cost.specs.Lengths.{AreWithin, ChainEnds, IsChainAt, end_of, first_of, length_of, link_of}
 use Rattle.wire_cost.proofs.Walks.{entry_at, exit_at, length-walk, walk, walk-after, walk-append}
 use Rattle.order_search.specs.Steps.{reversed_run}
 

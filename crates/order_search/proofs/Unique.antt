@@ -1,6 +1,6 @@
 -- At most one plan is that of nearest neighbours.
-use Rattle.std.proofs.Common.{◌≡◌, ◌≢◌, ℕ, ◌+◌, ◌-◌, ◌<◌, ◌≤◌, ◌⊎◌, List, [], length, take, drop, get_or, Option, Some, Bool, true, false, refl, sym, ap, ◌∙◌, arith, subst, slice_get, inl, inr, IsTrue, eqb, suc, zero}
-use Rattle.std.specs.List.{All, Contains, IsDistinct}
+use Rattle.std.proofs.Common.{◌≡◌, ◌≢◌, ℕ, ◌+◌, ◌-◌, ◌<◌, ◌≤◌, List, [], length, take, drop, get_or, Option, Some, refl, sym, ap, ◌∙◌, arith, subst, inl, inr, IsTrue, eqb, suc, zero}
+use Rattle.std.specs.List.{Contains, IsDistinct}
 use Rattle.std.specs.List.Sorted.{IsPermutation}
 use Rattle.std.proofs.lemmas.Bool.{cases_eq, cases_lt}
 use Rattle.std.proofs.lemmas.Bool.Decides.{nat_tests}
@@ -12,8 +12,8 @@ use Rattle.chain_rules.specs.Legality.{IsLegal, chain_at, last_of, unit_at}
 use Rattle.chain_rules.specs.declared.plan.Plan.{Plan}
 use Rattle.chain_rules.specs.declared.unit.Rules.{Rules}
 use Rattle.wire_cost.specs.declared.ends.Ends.{Ends}
-use Rattle.wire_cost.specs.Lengths.{chain_ends, end_of, link_of}
-use Rattle.order_search.specs.Nearest.{IsNearer, IsNearestChain, IsNearestPlan, point_at, read_place}
+use Rattle.wire_cost.specs.Lengths.{chain_ends, end_of}
+use Rattle.order_search.specs.Nearest.{IsNearer, IsNearestChain, IsNearestPlan, point_at}
 use Rattle.order_search.proofs.Legal.{chain_apart}
 use Rattle.order_search.proofs.Pinned.{last_is_at}
 

@@ -1,5 +1,5 @@
 -- What each search asks of the rules and of the ends.
-use Rattle.std.specs.Prelude.{ℕ, ◌≤◌, length}
+use Rattle.std.specs.Prelude.{◌≤◌, length}
 use Rattle.chain_rules.specs.Legality.{IsLegal}
 use Rattle.chain_rules.specs.declared.unit.Rules.{Rules}
 use Rattle.wire_cost.specs.declared.ends.Ends.{Ends}

@@ -1,9 +1,9 @@
 -- A chain's length as a walk over its units, and walks over joined lists.
-use Rattle.std.proofs.Common.{◌≡◌, ℕ, ◌+◌, ◌-◌, ◌<◌, ◌≤◌, List, [], ◌∷◌, ◌++◌, length, take, drop, get_or, Option, refl, ap, ◌∙◌, arith, slice_get, suc, zero, sum}
+use Rattle.std.proofs.Common.{◌≡◌, ℕ, ◌+◌, ◌-◌, ◌<◌, ◌≤◌, List, [], ◌∷◌, ◌++◌, length, take, get_or, Option, refl, ap, ◌∙◌, arith, slice_get, sum}
 use Rattle.std.proofs.lemmas.List.{take_more}
 use Rattle.std.proofs.lemmas.List.Sums.{sum_by-cons}
 use Rattle.text_scan.specs.declared.span.Point.{Point}
-use Rattle.wire_cost.specs.Lengths.{ChainEnds, link_of, links_from, links_of, length_of, end_of, first_of}
+use Rattle.wire_cost.specs.Lengths.{ChainEnds, link_of, links_from, length_of, end_of, first_of}
 
 abbrev pub entry_at : ChainEnds → ℕ → Option Point
 entry_at w u = slice_get w.entry u

@@ -1,5 +1,5 @@
 -- Links, the length of a chain and of a plan, and the sums of a chain's first links.
-use Rattle.std.specs.Prelude.{◌≡◌, ℕ, ℤ, ◌+◌, ◌^◌, ◌-ℤ◌, ◌<◌, ◌≤◌, List, [], ◌∷◌, length, take, sum, Option, Some, None, slice_get, slice_index_or, unsigned_abs}
+use Rattle.std.specs.Prelude.{ℕ, ◌+◌, ◌^◌, ◌-ℤ◌, ◌<◌, ◌≤◌, List, [], ◌∷◌, length, take, sum, Option, Some, None, slice_get, slice_index_or, unsigned_abs}
 use Rattle.std.specs.List.{concat}
 use Rattle.chain_rules.specs.Legality.{chain_at}
 use Rattle.chain_rules.specs.declared.plan.Plan.{Plan}

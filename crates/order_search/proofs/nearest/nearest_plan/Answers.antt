@@ -1,7 +1,7 @@
-use Rattle.std.proofs.Common.{◌≡◌, ℕ, ◌+◌, ◌<◌, ◌≤◌, List, [], ◌∷◌, ◌++◌, length, get_or, sym, ap, ◌∙◌, arith, subst, inl, inr, map, Vec}
+use Rattle.std.proofs.Common.{◌≡◌, ℕ, ◌+◌, ◌<◌, List, [], ◌∷◌, ◌++◌, length, get_or, sym, ap, ◌∙◌, arith, subst, inl, inr}
 use Rattle.std.proofs.lemmas.Bool.{cases_lt}
 use Rattle.std.proofs.lemmas.List.{get_or_append_left, get_or_push, length-map, length_push, map_push}
-use Rattle.chain_rules.specs.Legality.{IsLegal, chain_at}
+use Rattle.chain_rules.specs.Legality.{IsLegal}
 use Rattle.chain_rules.specs.Plans.{lists_of}
 use Rattle.chain_rules.specs.declared.plan.Plan.{Plan}
 use Rattle.chain_rules.specs.declared.unit.Rules.{Rules}

@@ -1,6 +1,5 @@
-use Rattle.std.proofs.Common.{ℕ, ◌<◌, length}
-use Rattle.chain_rules.specs.Legality.{chain_at}
-use Rattle.order_search.specs.Trials.{NoMoveOf, NoSwapOf}
+use Rattle.std.proofs.Common.{ℕ, ◌<◌}
+use Rattle.order_search.specs.Trials.{NoMoveOf}
 use Rattle.order_search.proofs.plain.has_move_in.Given as goal
 
 abbrev pub invariant-loop-i : goal.invariant-loop-i

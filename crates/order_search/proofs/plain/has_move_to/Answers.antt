@@ -1,4 +1,4 @@
-use Rattle.std.proofs.Common.{refl, arith, ◌<◌, ◌≤◌}
+use Rattle.std.proofs.Common.{refl, arith}
 use Rattle.order_search.proofs.Trials.{move_gain}
 use Rattle.order_search.proofs.plain.has_move_to.Goals as goal
 

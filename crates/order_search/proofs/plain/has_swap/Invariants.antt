@@ -1,6 +1,6 @@
 use Rattle.std.proofs.Common.{ℕ, ◌<◌, length}
 use Rattle.chain_rules.specs.Legality.{chain_at}
-use Rattle.order_search.specs.Trials.{NoMoveOf, NoSwapOf}
+use Rattle.order_search.specs.Trials.{NoSwapOf}
 use Rattle.order_search.proofs.plain.has_swap.Given as goal
 
 abbrev pub invariant-loop-c : goal.invariant-loop-c

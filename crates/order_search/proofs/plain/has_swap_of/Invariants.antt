@@ -1,6 +1,5 @@
-use Rattle.std.proofs.Common.{ℕ, ◌+◌, ◌<◌, ◌≤◌, ◌≢◌, length}
-use Rattle.chain_rules.specs.Legality.{chain_at, moved_plan, swapped_plan}
-use Rattle.order_search.specs.Trials.{IsGain, NoMoveOf, NoMoveTo, NoSwapOf, NoSwapWith, NoTurnAt, at, turned_plan}
+use Rattle.std.proofs.Common.{ℕ, ◌<◌, ◌≢◌}
+use Rattle.order_search.specs.Trials.{NoSwapWith}
 use Rattle.order_search.proofs.plain.has_swap_of.Given as goal
 
 abbrev pub invariant-loop-d : goal.invariant-loop-d

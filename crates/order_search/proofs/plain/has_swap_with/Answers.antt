@@ -1,4 +1,4 @@
-use Rattle.std.proofs.Common.{refl, arith, ap, length, List, ℕ, ◌<◌, ◌≤◌}
+use Rattle.std.proofs.Common.{refl, arith, ap, length, List, ℕ}
 use Rattle.order_search.proofs.Trials.{swap_gain}
 use Rattle.order_search.proofs.plain.has_swap_with.Goals as goal
 

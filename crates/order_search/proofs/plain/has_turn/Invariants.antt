@@ -1,6 +1,6 @@
-use Rattle.std.proofs.Common.{ℕ, ◌+◌, ◌<◌, ◌≤◌, ◌≢◌, length}
-use Rattle.chain_rules.specs.Legality.{chain_at, moved_plan, swapped_plan}
-use Rattle.order_search.specs.Trials.{IsGain, NoMoveOf, NoMoveTo, NoSwapOf, NoSwapWith, NoTurnAt, at, turned_plan}
+use Rattle.std.proofs.Common.{ℕ, ◌<◌, ◌≤◌, length}
+use Rattle.chain_rules.specs.Legality.{chain_at}
+use Rattle.order_search.specs.Trials.{NoTurnAt}
 use Rattle.order_search.proofs.plain.has_turn.Given as goal
 
 abbrev pub invariant-loop-c : goal.invariant-loop-c

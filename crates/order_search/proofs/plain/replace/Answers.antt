@@ -1,4 +1,4 @@
-use Rattle.std.proofs.Common.{◌≡◌, List, ℕ, ap, ◌∙◌, set, refl}
+use Rattle.std.proofs.Common.{List, ℕ, ap, set, refl}
 use Rattle.chain_rules.specs.Legality.{chain_at}
 use Rattle.order_search.proofs.Trials.{put_back}
 use Rattle.order_search.proofs.plain.replace.Goals as goal

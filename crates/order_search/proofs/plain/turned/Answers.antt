@@ -1,11 +1,10 @@
-use Rattle.std.proofs.Common.{◌≡◌, List, ℕ, ap, ◌∙◌, set, [], length}
+use Rattle.std.proofs.Common.{◌≡◌, List, ℕ, ap, ◌∙◌}
 use Rattle.std.specs.Vec.{with_items}
-use Rattle.std.proofs.lemmas.List.{set-set, with_items_is}
+use Rattle.std.proofs.lemmas.List.{with_items_is}
 use Rattle.std.proofs.lemmas.List.Sorted.{length_permutation}
-use Rattle.chain_rules.specs.Legality.{chain_at, with_chain}
+use Rattle.chain_rules.specs.Legality.{chain_at}
 use Rattle.chain_rules.specs.declared.plan.Plan.{Plan}
 use Rattle.order_search.specs.Steps.{reversed_run}
-use Rattle.order_search.specs.Trials.{turned_plan}
 use Rattle.order_search.proofs.Trials.{put_back}
 use Rattle.order_search.proofs.plain.turned.Goals as goal
 

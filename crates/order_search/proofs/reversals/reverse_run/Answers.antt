@@ -1,4 +1,4 @@
-use Rattle.std.proofs.Common.{ap, subst, sym, arith, ◌≡◌, ◌+◌, ◌-◌, ℕ}
+use Rattle.std.proofs.Common.{◌+◌, ◌-◌}
 use Rattle.std.proofs.lemmas.List.Sorted.{IsPermutation-put_mid}
 use Rattle.order_search.proofs.reversals.reverse_run.Goals as goal
 

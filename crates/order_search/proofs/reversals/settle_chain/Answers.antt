@@ -1,5 +1,4 @@
-use Rattle.std.proofs.Common.{arith, ℕ, ◌<◌, ◌≤◌, length, sym, List, eqb}
-use Rattle.wire_cost.specs.Lengths.{AreWithin, IsChainAt}
+use Rattle.std.proofs.Common.{arith, ◌≤◌, length}
 use Rattle.order_search.proofs.Pinned.{chain_settled, pinned_kept}
 use Rattle.order_search.proofs.Different.{few_different}
 use Rattle.order_search.proofs.reversals.settle_chain.Goals as goal

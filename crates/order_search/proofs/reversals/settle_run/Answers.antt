@@ -1,7 +1,6 @@
-use Rattle.std.proofs.Common.{◌≡◌, ℕ, ◌+◌, ◌<◌, ◌≤◌, List, drop, sym, ◌∙◌, ap, arith, true, false, length}
+use Rattle.std.proofs.Common.{ℕ, ◌<◌, List, drop, ◌∙◌, ap, arith}
 use Rattle.std.proofs.lemmas.List.Sorted.{IsPermutation-trans}
 use Rattle.wire_cost.specs.Lengths.{chain_length_of}
-use Rattle.order_search.specs.Steps.{reversed_run}
 use Rattle.order_search.proofs.Turns.{chain_moved, tail_kept}
 use Rattle.order_search.proofs.reversals.settle_run.Goals as goal
 

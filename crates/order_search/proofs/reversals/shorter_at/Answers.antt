@@ -1,7 +1,7 @@
-use Rattle.std.proofs.Common.{◌≡◌, ℕ, ◌+◌, ◌-◌, ◌*◌, ◌^◌, ◌<◌, ◌≤◌, List, length, take, drop, get_or, sym, ◌∙◌, ap, arith, refl, Some, Option}
+use Rattle.std.proofs.Common.{◌≡◌, ℕ, ◌+◌, ◌-◌, List, take, drop, get_or, sym, ◌∙◌, ap, arith, Some}
 use Rattle.wire_cost.specs.Lengths.{ChainEnds, chain_ends, chain_length_of, link_of}
 use Rattle.wire_cost.proofs.Walks.{entry_at, exit_at}
-use Rattle.order_search.proofs.Turns.{IsRun, run_grown, Compared, compared, is_shorter, is_settled, run_first, settled_more, still}
+use Rattle.order_search.proofs.Turns.{IsRun, run_grown, compared, is_shorter, is_settled, run_first, settled_more, still}
 use Rattle.order_search.proofs.reversals.shorter_at.Goals as goal
 
 -- the last unit, by its place

@@ -1,4 +1,4 @@
-use Rattle.std.proofs.Common.{◌≡◌, ℕ, ◌+◌, ◌-◌, ◌*◌, ◌^◌, ◌<◌, ◌≤◌, length, take, drop, get_or}
+use Rattle.std.proofs.Common.{◌≡◌, ℕ, ◌-◌, ◌*◌, ◌^◌, ◌≤◌, take, drop, get_or}
 use Rattle.wire_cost.specs.Lengths.{ChainEnds, IsNearOrNowhere, chain_ends, chain_length_of}
 use Rattle.wire_cost.proofs.Walks.{entry_at, exit_at}
 use Rattle.order_search.specs.Steps.{reversed_run}

@@ -1,5 +1,5 @@
-use Rattle.std.proofs.Common.{rules, ◌≡◌, ℕ, pos, ◌+◌, ◌*◌, ◌^◌, ◌<◌, ◌≤◌, ap, sym, ◌∙◌, arith, subst, length, take, List, [], w64}
-use Rattle.std.specs.List.{concat, sum_by}
+use Rattle.std.proofs.Common.{rules, ℕ, pos, ◌+◌, ◌*◌, ◌^◌, ◌<◌, ◌≤◌, ap, sym, ◌∙◌, arith, subst, length, take, List, w64}
+use Rattle.std.specs.List.{sum_by}
 use Rattle.std.proofs.lemmas.Int.{to_z_pos}
 use Rattle.std.proofs.lemmas.List.Sums.{sum_by-take-le}
 use Rattle.chain_rules.specs.Legality.{chain_at}

@@ -1,4 +1,4 @@
-use Rattle.std.proofs.Common.{◌≡◌, ◌+◌, arith, ap, ◌∙◌, length}
+use Rattle.std.proofs.Common.{arith, ap, ◌∙◌}
 use Rattle.wire_cost.specs.Lengths.{chain_ends, forward_sum}
 use Rattle.wire_cost.proofs.FirstLinks.{forward_step, forward_all}
 use Rattle.wire_cost.proofs.lengths.wire_of.Goals as goal

@@ -1,4 +1,4 @@
-use Rattle.std.proofs.Common.{◌≡◌, ℕ, ℤ, pos, ◌+◌, ◌≤◌, ap, ◌∙◌, arith, length, take}
+use Rattle.std.proofs.Common.{◌≡◌, ℕ, ℤ, pos, ◌+◌, ap, ◌∙◌, arith, length, take}
 use Rattle.std.proofs.lemmas.List.{length-set}
 use Rattle.wire_cost.specs.Lengths.{ChainEnds, forward_sum, end_of}
 use Rattle.wire_cost.proofs.FirstLinks.{forward_step, stored, end_of_more, first_of_at, first_of_none}

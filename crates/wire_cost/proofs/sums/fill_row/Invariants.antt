@@ -1,4 +1,4 @@
-use Rattle.std.proofs.Common.{◌≡◌, ℕ, pos, ◌+◌, ◌≤◌, ◌*◌, ◌^◌, get_or, take}
+use Rattle.std.proofs.Common.{◌≡◌, ℕ, pos, ◌≤◌, ◌*◌, ◌^◌, get_or, take}
 use Rattle.wire_cost.specs.Lengths.{ChainEnds, IsNearOrNowhere, forward_sum, end_of}
 use Rattle.wire_cost.proofs.sums.fill_row.Given as goal
 
