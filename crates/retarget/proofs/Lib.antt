@@ -1,6 +1,10 @@
 pub mod Numbers
 pub mod OneChain
+pub mod Parities
 pub mod AllChains
 pub mod WholeCall
 pub mod SameMeaning
 pub mod Accepted
+pub mod Values
+pub mod FullStrings
+pub mod Moved

@@ -6,5 +6,10 @@
 #![tactic(auto)]
 
 mod judge;
+mod map;
+mod route;
+mod side;
+mod strings;
 
 pub use judge::judge_call;
+pub use map::{Map, map_of};
