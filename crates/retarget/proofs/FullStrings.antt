@@ -6,7 +6,7 @@ use Rattle.std.proofs.lemmas.List.{get_or-reverse, length-reverse, get_or_past}
 use Rattle.retarget.specs.declared.side.Side.{Side}
 use Rattle.retarget.specs.declared.side.Side.TheVariants.{Load, Compare}
 use Rattle.retarget.specs.Retargeting.{flip_character_if}
-use Rattle.retarget.specs.Sides.{filler_of, character_in, index_of, raw_at, IsStringOf}
+use Rattle.retarget.specs.Sides.{filler_of, character_in, index_of, raw_at, IsFullString}
 
 -- the character for a bit stands at its index
 pub character_in_is : (side : Side) (text : List ℕ) (bits shifts j : ℕ) → length text ≡ shifts → bits ≤ shifts → j < bits → character_in side text bits j ≡ get_or text (index_of side shifts bits j) (filler_of side)
@@ -34,13 +34,13 @@ raw_at_some Load text k l differs =
 raw_at_some Compare text k l differs = (k, differs)
 
 -- a string that is written
-pub IsStringOf-some : (side : Side) (values cells : List ℕ) (parities : List Bool) (shifts : ℕ) (given : Bool) (text : List ℕ)
+pub IsFullString-some : (side : Side) (values cells : List ℕ) (parities : List Bool) (shifts : ℕ) (given : Bool) (text : List ℕ)
     → length cells ≤ shifts → length text ≡ shifts
     → ((i : ℕ) → i < length cells → get_or text (index_of side shifts (length cells) i) (filler_of side) ≡ flip_character_if (get_or parities i false) (get_or values (get_or cells i 0) 0))
     → ((m : ℕ) → ((i : ℕ) → i < length cells → index_of side shifts (length cells) i ≢ m) → get_or text m (filler_of side) ≡ filler_of side)
     → IsTrue given ⊎ ((k : ℕ) × (k < length text) × (get_or text k (filler_of side) ≢ filler_of side))
-    → IsStringOf side values cells parities shifts given (Some text)
-IsStringOf-some side values cells parities shifts given text h e bits others why = record {
+    → IsFullString side values cells parities shifts given (Some text)
+IsFullString-some side values cells parities shifts given text h e bits others why = record {
   bits = λ j l. character_in_is side text (length cells) shifts j e h l ∙ bits j l;
   others = λ k g. raw_at_other side text (length cells) shifts k e h g others;
   stands = (λ _. ⊎_elim (λ yes. inl yes) (λ some. inr (raw_at_some side text some.0 some.1 some.2)) why, λ _. refl);

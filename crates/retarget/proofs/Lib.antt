@@ -8,3 +8,4 @@ pub mod Accepted
 pub mod Values
 pub mod FullStrings
 pub mod Moved
+pub mod Retargeted

@@ -7,7 +7,7 @@ use Rattle.stil_tester.specs.declared.chains.Chains.{Chains}
 use Rattle.retarget.specs.declared.side.Side.{Side}
 use Rattle.retarget.specs.Places.{differ, chain_at, bits_at, StandsAt}
 use Rattle.retarget.specs.Retargeting.{flip_character, flip_character_if}
-use Rattle.retarget.specs.Sides.{filler_of, parity_at, text_of, character_in, character_at, raw_at, HasParities, AreValues, IsStringOf, IsMoved}
+use Rattle.retarget.specs.Sides.{filler_of, parity_at, text_of, character_in, character_at, raw_at, HasParities, AreValues, IsFullString, IsMoved}
 
 flip_character_self : (ch : ℕ) → flip_character (flip_character ch) ≡ ch
 flip_character_self ch =
@@ -33,7 +33,7 @@ flip_character-twice false false ch = refl
 -- one string
 pub IsMoved-from : (side : Side) (old new : Chains) (shifts : ℕ) (strings : List (Option (List ℕ))) (n : ℕ) (values cells : List ℕ) (row : List Bool) (given : Bool) (string : Option (List ℕ))
     → AreValues side old strings values → cells ≡ (chain_at new n).cells → HasParities row (bits_at new n) (parity_at side (chain_at new n)) → given ≡ is_some (get_or strings n None)
-    → IsStringOf side values cells row shifts given string → IsMoved side old new shifts strings n string
+    → IsFullString side values cells row shifts given string → IsMoved side old new shifts strings n string
 IsMoved-from side old new shifts strings n values cells row given string full e has g is = record {
   bits = λ cell c i j here there.
       ap (λ q. character_in side (text_of string) (length q) j) (sym e)

@@ -70,7 +70,7 @@ abbrev pub AreApart : List ℕ → Type 0
 AreApart numbers = (i j : ℕ) → i < j → j < length numbers → slice_index_or numbers i 0 ≢ slice_index_or numbers j 0
 
 -- a chain's string at full length, where the cells have these values; given tells whether one stands there in any case
-pub record IsStringOf (side : Side) (values cells : List ℕ) (parities : List Bool) (shifts : ℕ) (given : Bool) (string : Option (List ℕ)) : Type 0 where
+pub record IsFullString (side : Side) (values cells : List ℕ) (parities : List Bool) (shifts : ℕ) (given : Bool) (string : Option (List ℕ)) : Type 0 where
   pub bits : (j : ℕ) → j < length cells → character_in side (text_of string) (length cells) j ≡ flip_character_if (slice_index_or parities j false) (slice_index_or values (slice_index_or cells j 0) 0)
   pub others : (k : ℕ) → length cells ≤ k → raw_at side string k ≡ filler_of side
   pub stands : IsSome string ↔ (IsTrue given ⊎ ((k : ℕ) × (raw_at side string k ≢ filler_of side)))

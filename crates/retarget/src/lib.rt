@@ -5,11 +5,13 @@
 //! ones, for whatever the cells hold before. Begin with `specs/Retargeting.antt`.
 #![tactic(auto)]
 
+mod call;
 mod judge;
 mod map;
 mod route;
 mod side;
 mod strings;
 
+pub use call::retarget_call;
 pub use judge::judge_call;
 pub use map::{Map, map_of};

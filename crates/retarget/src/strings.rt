@@ -1,7 +1,7 @@
 ghost use Rattle.std.specs.Prelude.{◌≡◌, ◌≢◌, ℕ, ◌<◌, ◌≤◌, ◌↔◌, false, length, slice_index_or, IfOk, IsTrue};
 ghost use Rattle.retarget.specs.Places.{longest};
 ghost use Rattle.retarget.specs.Retargeting.{flip_character_if, HaveSameCells};
-ghost use Rattle.retarget.specs.Sides.{filler_of, character_in, index_of, AreValues, AreApart, IsRoute, IsStringOf, AreMoved};
+ghost use Rattle.retarget.specs.Sides.{filler_of, character_in, index_of, AreValues, AreApart, IsRoute, IsFullString, AreMoved};
 
 use crate::route::Route;
 use crate::side::{Side, bytes_of, flipped};
@@ -87,7 +87,7 @@ fn moved_string(
     requires parities { length parities.now ≡ length cells.now }
     requires within { (i : ℕ) → i < length cells.now → slice_index_or cells.now i 0 < length values.now }
     requires shifts { length cells.now ≤ shifts }
-    ensures { IfOk result (IsStringOf side values.now cells.now parities.now shifts given) }
+    ensures { IfOk result (IsFullString side values.now cells.now parities.now shifts given) }
 {
     let text = full_string(alloc, side, values, cells, parities, shifts)?;
     if given || says_something(text.as_slice(), side.filler()) {

@@ -1,7 +1,7 @@
 use Rattle.std.proofs.Common.{◌≡◌, ◌≢◌, ◌<◌, ℕ, ◌⊎◌, inl, inr, length, get_or, arith, ◌∙◌, subst, List, sym, Some, ap}
 use Rattle.std.specs.Prelude.{IsTrue}
-use Rattle.retarget.specs.Sides.{filler_of, IsStringOf}
-use Rattle.retarget.proofs.FullStrings.{IsStringOf-some}
+use Rattle.retarget.specs.Sides.{filler_of, IsFullString}
+use Rattle.retarget.proofs.FullStrings.{IsFullString-some}
 use Rattle.retarget.proofs.strings.moved_string.Goals as goal
 use Rattle.retarget.proofs.strings.moved_string.Goals.{then-given-via-then-given, then-given-via-else-given+then-says_something}
 
@@ -14,6 +14,6 @@ returns-then-given c =
     let text : List ℕ = c.in_ok-text.text.items in
     let why : IsTrue c.args.given ⊎ ((k : ℕ) × (k < length text) × (get_or text k (filler_of c.args.side) ≢ filler_of c.args.side))
     = elim c.then-given.branch [ then-given-via-then-given w ↦ inl w.if-given.true | then-given-via-else-given+then-says_something w ↦ inr (there w.as_slice.result.now text w.filler.result (filler_of c.args.side) w.as_slice.ensures.value w.filler.ensures (w.says_something.ensures.0 w.if-says_something.true)) ] in
-    subst (λ (t : List ℕ). IsStringOf c.args.side c.args.values.now c.args.cells.now c.args.parities.now c.args.shifts c.args.given (Some t)) (sym c.of.ensures.value)
-    (IsStringOf-some c.args.side c.args.values.now c.args.cells.now c.args.parities.now c.args.shifts c.args.given text
+    subst (λ (t : List ℕ). IsFullString c.args.side c.args.values.now c.args.cells.now c.args.parities.now c.args.shifts c.args.given (Some t)) (sym c.of.ensures.value)
+    (IsFullString-some c.args.side c.args.values.now c.args.cells.now c.args.parities.now c.args.shifts c.args.given text
     c.requires.shifts c.in_ok-text.ensures.full c.in_ok-text.ensures.bits c.in_ok-text.ensures.others why)
