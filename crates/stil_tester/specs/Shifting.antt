@@ -1,5 +1,5 @@
 -- Scan chains, one shift of all of them at once, and one scan call (IEEE 1450-1999, ScanStructures and Shift).
-use Rattle.std.specs.Prelude.{◌≡◌, ℕ, ◌-◌, ◌<◌, ◌≤◌, ◌==◌, ◌&&◌, ◌||◌, ◌++◌, ⊤, zero, suc, Bool, true, nat_eq, max, List, [], ◌∷◌, length, map, slice_index_or, slice_set, count_by, All, Option, None, Some}
+use Rattle.std.specs.Prelude.{◌≡◌, ℕ, ◌+◌, ◌-◌, ◌<◌, ◌≤◌, ◌==◌, ◌&&◌, ◌||◌, ◌++◌, ⊤, zero, suc, Bool, true, false, nat_eq, max, List, [], ◌∷◌, length, map, slice_get, slice_index, slice_index_or, slice_set, count_by, All, Option, None, Some}
 use Rattle.std.specs.List.{AllPass, flat_map}
 use Rattle.stil_reader.specs.declared.statement.ScanCall.{ScanCall}
 use Rattle.stil_tester.specs.declared.symbol.Symbol.{Symbol}
@@ -9,7 +9,7 @@ use Rattle.stil_tester.specs.declared.symbol.Expect.TheVariants.{Any}
 use Rattle.stil_tester.specs.declared.chains.ChainBits.{ChainBits}
 use Rattle.stil_tester.specs.declared.chains.Chains.{Chains}
 use Rattle.stil_tester.specs.declared.results.ScanResult.{ScanResult}
-use Rattle.stil_tester.specs.Symbols.{flip_if, meets, padded_load, padded_compare}
+use Rattle.stil_tester.specs.Symbols.{Meets, flip_if, meets, padded_load, padded_compare}
 
 -- the cells of all chains, one chain after the other
 abbrev pub numbers_of : List ChainBits → List ℕ
@@ -72,6 +72,15 @@ shift_step chains cells inputs =
       outs = map (output_of cells) chains.chains;
       cells = with_symbols (numbers_of chains.chains) (all_moved_on chains.chains inputs cells) cells;
     }
+
+-- one shift, bit by bit: the law of shift_step, proved in proofs/ShiftLaws.antt
+pub record MoveOn (chains : Chains) (cells inputs outs after : List Symbol) : Type 0 where
+  -- the first bit of a chain takes what stands at its scan input
+  pub first : (k : ℕ) (chain : ChainBits) → slice_get chains.chains k ≡ Some chain → cell_at after (slice_index chain.cells 0) ≡ flip_if (slice_index_or chain.parity 0 false) (slice_index_or inputs k Unknown)
+  -- each later bit takes what the bit before it held
+  pub later : (k : ℕ) (chain : ChainBits) (bit : ℕ) → slice_get chains.chains k ≡ Some chain → bit + 1 < length chain.cells → cell_at after (slice_index chain.cells (bit + 1)) ≡ flip_if (slice_index_or chain.parity (bit + 1) false) (cell_at cells (slice_index chain.cells bit))
+  -- what the last bit held stands at the scan output
+  pub output : (k : ℕ) (chain : ChainBits) → slice_get chains.chains k ≡ Some chain → slice_index_or outs k Unknown ≡ flip_if chain.out_parity (cell_at cells (slice_index chain.cells (length chain.cells - 1)))
 
 -- the length of a string, and 0 where none is given
 abbrev pub string_length : Option (List ℕ) → ℕ
@@ -138,3 +147,8 @@ scan_call chains cells call =
       loaded = cells_before chains cells call call.shifts;
       passed = met_before chains cells call call.shifts;
     }
+
+-- in each shift of a call each scan output is as expected: the law of a scan call's verdict, proved in proofs/ShiftLaws.antt
+abbrev pub AllMet : Chains → List Symbol → ScanCall → Type 0
+AllMet chains cells call =
+    (k n : ℕ) → k < call.shifts → n < length chains.chains → Meets (slice_index_or (padded_compare call.shifts (slice_index_or call.compares n None)) k Any) (slice_index_or (outputs_at chains cells call k) n Unknown)

@@ -7,9 +7,22 @@
 #![tactic(auto)]
 
 mod chains;
+mod device;
+mod laws;
+mod playing;
 mod results;
+mod scan;
+mod shift;
 mod symbol;
 
 pub use chains::{ChainBits, Chains};
+pub use device::{Device, Hold, Mix, Told};
+pub use laws::device_law;
+pub use playing::play;
 pub use results::{PlayLog, ScanResult};
+pub use scan::scan_call;
+pub use shift::shift_step;
 pub use symbol::{Expect, Symbol};
+
+#[cfg(test)]
+mod tests;
