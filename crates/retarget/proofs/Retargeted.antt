@@ -150,16 +150,16 @@ written_exit_valid old new call written same each keeps d j l m =
     let at : HasPlaces old new d j = places_of old new same d j l m in
     ap is_compare_character (keeps.cells at.cell at.c at.i d j at.here at.there)
     ∙ flips_within is_compare_character compare_flips (differ (parity_after (chain_at old at.c) at.i) (parity_after (chain_at new d) j)) (compare_at call at.c (exit_of old at.c at.i))
-      (compare_valid (get_or call.compares at.c None) (strings_at is_compare_character call.compares each at.c) (exit_of old at.c at.i))
+    (compare_valid (get_or call.compares at.c None) (strings_at is_compare_character call.compares each at.c) (exit_of old at.c at.i))
 
 written_compares_valid : (old new : Chains) (call written : ScanCall) → HaveSameCells old new → All (IsStringOf is_compare_character) call.compares → KeepsCompares old new call written → (d k : ℕ) → d < length new.chains → is_compare_character (compare_at written d k) ≡ true
 written_compares_valid old new call written same each keeps d k l =
     ⊎_elim (λ (inside : k < bits_at new d).
-        let back : exit_of new d (exit_of new d k) ≡ k = omega arith in
-        let valid : is_compare_character (compare_at written d (exit_of new d (exit_of new d k))) ≡ true = written_exit_valid old new call written same each keeps d (exit_of new d k) l (omega arith) in
-        subst (λ (m : ℕ). is_compare_character (compare_at written d m) ≡ true) back valid)
-      (λ (outside : bits_at new d ≤ k). ap is_compare_character (keeps.others d k l outside))
-      (cases_lt k (bits_at new d))
+    let back : exit_of new d (exit_of new d k) ≡ k = omega arith in
+    let valid : is_compare_character (compare_at written d (exit_of new d (exit_of new d k))) ≡ true = written_exit_valid old new call written same each keeps d (exit_of new d k) l (omega arith) in
+    subst (λ (m : ℕ). is_compare_character (compare_at written d m) ≡ true) back valid)
+    (λ (outside : bits_at new d ≤ k). ap is_compare_character (keeps.others d k l outside))
+    (cases_lt k (bits_at new d))
 
 -- ---- the lengths
 
