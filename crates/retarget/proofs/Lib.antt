@@ -1,4 +1,5 @@
 pub mod Numbers
+pub mod Characters
 pub mod OneChain
 pub mod Parities
 pub mod AllChains

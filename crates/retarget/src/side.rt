@@ -1,5 +1,5 @@
 ghost use Rattle.std.specs.Prelude.{◌≡◌, ◌<◌, ◌≤◌};
-ghost use Rattle.retarget.specs.Retargeting.{flip_character_if};
+ghost use Rattle.retarget.specs.Retargeting.{flip_character, flip_character_if};
 ghost use Rattle.retarget.specs.Sides.{filler_of, character_in, index_of, text_of};
 
 use text_scan::Text;
@@ -49,19 +49,23 @@ impl Side {
 }
 
 /// A character, with 0 and 1, and L and H, exchanged where the parity is 1.
+#[inline]
 pub fn flipped(character: u8, parity: bool) -> u8
     ensures { result ≡ flip_character_if parity character }
 {
-    if !parity {
-        return character;
-    }
-    match character {
-        b'0' => b'1',
-        b'1' => b'0',
-        b'L' => b'H',
-        b'H' => b'L',
-        other => other,
-    }
+    let exchanged = exchanged(character);
+    if parity { exchanged } else { character }
+}
+
+/// 0 for 1, 1 for 0, L for H, H for L. Characters follow no pattern, so this computes and doesn't
+/// branch: 0 and 1 differ in one bit, and so do L and H.
+#[inline]
+fn exchanged(character: u8) -> u8
+    ensures { result ≡ flip_character character }
+{
+    let digit = (character == b'0') | (character == b'1');
+    let letter = (character == b'L') | (character == b'H');
+    character ^ (u8::from(digit) + 4 * u8::from(letter))
 }
 
 /// The bytes of a string; none where none is given.
