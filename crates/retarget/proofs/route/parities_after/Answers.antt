@@ -1,0 +1,24 @@
+use Rattle.std.proofs.Common.{◌≡◌, ◌+◌, ◌<◌, ℕ, arith, List, Bool, take, false, sym, ap, ◌∙◌, get_or, rules, [], ◌∷◌, ◌++◌, length}
+use Rattle.stil_tester.specs.declared.chains.ChainBits.{ChainBits}
+use Rattle.retarget.specs.Places.{differ, parity_of, parity_to, parity_after}
+use Rattle.retarget.proofs.Parities.{parity_of-more, parity_after_is, HasParities-push}
+use Rattle.retarget.proofs.route.parities_after.Goals as goal
+
+pub loop-parity-preserved : goal.loop-parity-preserved
+loop-parity-preserved c =
+    let chain : ChainBits = c.args.chain.now in
+    let ps : List Bool = c.args.chain.now.parity in
+    let items : List Bool = c.as_slice-parity-items.result.now in
+    let same : items ≡ ps = c.as_slice-parity-items.ensures.value in
+    let i : ℕ = c.loop-parity.parity-index in
+    let whole : Bool = differ c.sum_of.result c.args.chain.now.out_parity in
+    let within : i < length ps = omega (arith, ap length same) in
+    let more : differ c.loop-parity.sum (get_or items i false) ≡ parity_of (take (i + 1) ps)
+    = ap (λ q. differ q (get_or items i false)) c.loop-parity.invariant.sum ∙ ap (λ q. differ (parity_of (take i ps)) (get_or q i false)) same ∙ sym (parity_of-more ps i false within) in
+    let pushed : c.push.new.self ≡ c.loop-parity.row ++ differ (differ c.loop-parity.sum (get_or items i false)) whole ∷ [] = search rules in
+    record {
+      whole = c.loop-parity.invariant.whole;
+      sum = more;
+      row = HasParities-push c.loop-parity.row c.push.new.self i (parity_after chain) (differ (differ c.loop-parity.sum (get_or items i false)) whole) c.loop-parity.invariant.row pushed
+          (ap (λ q. differ q whole) more ∙ ap (differ (parity_to chain i)) c.loop-parity.invariant.whole ∙ parity_after_is chain i);
+    }

@@ -1,0 +1,4 @@
+pub mod Judging
+pub mod Places
+pub mod Retargeting
+pub mod Sides

@@ -1,0 +1,46 @@
+-- Where the cells stand in the chains, and the parities before and behind them (IEEE 1450-1999, ScanStructures).
+use Rattle.std.specs.Prelude.{◌≡◌, ℕ, ◌+◌, ◌-◌, ◌<◌, Bool, true, false, not, List, [], ◌∷◌, length, max, take, drop, slice_index_or}
+use Rattle.std.specs.Bool.{beq}
+use Rattle.stil_tester.specs.declared.chains.ChainBits.{ChainBits}
+use Rattle.stil_tester.specs.declared.chains.Chains.{Chains}
+
+-- the sum of two parities
+abbrev pub differ : Bool → Bool → Bool
+differ p q = not (beq p q)
+
+-- the sum of the parities of a list
+abbrev pub parity_of : List Bool → Bool
+parity_of [] = false
+parity_of (p ∷ ps) = differ p (parity_of ps)
+
+-- the parity from the scan input up to the bit at a place
+abbrev pub parity_to : ChainBits → ℕ → Bool
+parity_to chain place = parity_of (take (place + 1) chain.parity)
+
+-- the parity from the bit at a place to the scan output
+abbrev pub parity_after : ChainBits → ℕ → Bool
+parity_after chain place = differ (parity_of (drop (place + 1) chain.parity)) chain.out_parity
+
+abbrev pub no_bits : ChainBits
+no_bits = record { cells = []; parity = []; out_parity = false }
+
+-- a chain by its number; one without bits where there is none
+abbrev pub chain_at : Chains → ℕ → ChainBits
+chain_at chains number = slice_index_or chains.chains number no_bits
+
+abbrev pub bits_at : Chains → ℕ → ℕ
+bits_at chains number = length (chain_at chains number).cells
+
+-- the cell is that of the bit at this place of this chain
+pub record StandsAt (chains : Chains) (cell number place : ℕ) : Type 0 where
+  pub is_chain : number < length chains.chains
+  pub is_place : place < bits_at chains number
+  pub is_there : slice_index_or (chain_at chains number).cells place 0 ≡ cell
+
+abbrev pub longest_of : List ChainBits → ℕ
+longest_of [] = 0
+longest_of (chain ∷ chains) = max (length chain.cells) (longest_of chains)
+
+-- the bits of the longest chain
+abbrev pub longest : Chains → ℕ
+longest chains = longest_of chains.chains

@@ -1,0 +1,17 @@
+//! Retargets scan calls: the same cells loaded, and the same verdict, on chains in another order.
+//!
+//! Floor: patterns, on stil_tester.
+//! Contract: what `retarget_call` writes does on the new chains what the read call does on the old
+//! ones, for whatever the cells hold before. Begin with `specs/Retargeting.antt`.
+#![tactic(auto)]
+
+mod call;
+mod judge;
+mod map;
+mod route;
+mod side;
+mod strings;
+
+pub use call::retarget_call;
+pub use judge::judge_call;
+pub use map::{Map, map_of};
