@@ -1,9 +1,14 @@
+pub mod DriverLaw
 pub mod DriverLemmas
 pub mod FeedLemmas
+pub mod Feeding
 pub mod Flat
 pub mod GapLemmas
 pub mod Made
+pub mod Members
 pub mod NameLists
+pub mod Narrow
+pub mod PathLaw
 pub mod Read
 pub mod Spelled
 pub mod Traces

@@ -2,6 +2,7 @@ pub mod Bare
 pub mod Forms
 pub mod Gaps
 pub mod Names
+pub mod Paths
 pub mod Rewiring
 pub mod Rules
 pub mod Spelling
