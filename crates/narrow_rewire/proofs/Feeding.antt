@@ -48,7 +48,7 @@ module _ (out : List ℕ) (m : Module) (w : Rewire) (n : Narrow out m) where
   pin_not_out : (cell pin name : List ℕ) → IsPinOn m cell pin name out → ⊥
   pin_not_out cell pin name p = not_out out m p.instance p.connection n p.there p.wired p.on
 
-  source_not_out : (z : Source) (net : List ℕ) → IsSourceOn m w z net → net ≡ out → ⊥
+  pub source_not_out : (z : Source) (net : List ℕ) → IsSourceOn m w z net → net ≡ out → ⊥
   source_not_out (FromPort p) net s is = n.not_input (subst (λ (x : List ℕ). IsIn x (Rattle.narrow_rewire.specs.Rules.inputs m)) (sym s.2 ∙ is) s.1)
   source_not_out (FromCell u) net s is = pin_not_out w.cell w.out_pin u (subst (IsPinOn m w.cell w.out_pin u) is s)
 

@@ -1,4 +1,5 @@
 pub mod Bare
+pub mod Erased
 pub mod Forms
 pub mod Gaps
 pub mod Names
