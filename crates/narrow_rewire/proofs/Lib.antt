@@ -6,7 +6,7 @@ pub mod Feeding
 pub mod Flat
 pub mod GapLemmas
 pub mod Kept
-pub mod Laws
+pub mod Promises
 pub mod Made
 pub mod Members
 pub mod NameLists

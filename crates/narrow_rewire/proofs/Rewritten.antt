@@ -131,7 +131,7 @@ twice text (s ∷ ss) = ap (λ (l : List (List ℕ)). bytes_of text s ∷ l) (tw
 tokens_texts : (text : List ℕ) → token_texts (tokens_of text (verilog_tokens text)) ≡ texts text
 tokens_texts text = twice text (verilog_tokens text) ∙ sym (texts_law text)
 
-reads : (out text : List ℕ) (m : Module) → module_of (tokens_of text (verilog_tokens text)) ≡ Some m → keeps_rules out m ≡ true → read_module out text ≡ Some m
+pub reads : (out text : List ℕ) (m : Module) → module_of (tokens_of text (verilog_tokens text)) ≡ Some m → keeps_rules out m ≡ true → read_module out text ≡ Some m
 unfolding read_module
 reads out text m is rules = rw (is, rules) refl
 

@@ -2,6 +2,7 @@ pub mod Bare
 pub mod Erased
 pub mod Forms
 pub mod Gaps
+pub mod Laws
 pub mod Names
 pub mod Paths
 pub mod Rewiring
