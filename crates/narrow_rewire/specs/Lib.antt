@@ -1,7 +1,10 @@
 pub mod Bare
+pub mod Erased
 pub mod Forms
 pub mod Gaps
+pub mod Laws
 pub mod Names
+pub mod Paths
 pub mod Rewiring
 pub mod Rules
 pub mod Spelling

@@ -7,6 +7,7 @@ mod drivers;
 mod edits;
 mod feeds;
 mod gaps;
+mod laws;
 mod module;
 mod names;
 mod parser;
@@ -16,5 +17,6 @@ mod rules;
 mod steps;
 mod trace;
 
+pub use laws::{form_law, path_law};
 pub use module::{Assign, Connection, Declared, Instance, Module, Statement};
 pub use rewire::{Rewire, Rewired, rewire_text};

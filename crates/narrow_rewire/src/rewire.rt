@@ -1,6 +1,7 @@
-ghost use Rattle.std.specs.Prelude.{◌≡◌, ◌<◌, ◌^◌, length, IfOk};
+ghost use Rattle.std.specs.Prelude.{◌≡◌, ◌≢◌, ◌<◌, ◌^◌, length, IfOk};
 ghost use Rattle.text_scan.specs.declared.fault.ReadFault.TheVariants as faults;
 ghost use Rattle.text_scan.specs.declared.fault.Spot.TheVariants as spots;
+ghost use Rattle.narrow_rewire.specs.Erased.{AreErasedAlike, HasScanPath};
 ghost use Rattle.narrow_rewire.specs.Texts.{first_fault, written_verilog, moved_count, IsRefused};
 
 use crate::edits::edits_of;
@@ -53,9 +54,14 @@ fn fault(kind: Kind, file: FileKind) -> ReadFault
 /// leads from the scan-in to the scan-out or the words aren't its instances, each once; the first of both decides.
 pub fn rewire_text(alloc: Global, text: &[u8], rewire: &Rewire) -> Result<Rewired, ReadFault>
     requires size { length text.now < 2 ^ 32 }
+    requires pins { rewire.now.in_pin ≢ rewire.now.out_pin }
     ensures refused { IsRefused result (first_fault text.now rewire.now) }
     ensures verilog { IfOk result (λ made. made.verilog ≡ written_verilog text.now rewire.now) }
     ensures moved { IfOk result (λ made. made.moved ≡ moved_count text.now rewire.now) }
+    // Both texts denote modules that are the same where the in pins of the path and the net of the scan-out are blank.
+    ensures erased { IfOk result (λ made. AreErasedAlike rewire.now text.now made.verilog) }
+    // The scan path of the module that the written text denotes has the instances in the order of the words.
+    ensures path { IfOk result (λ made. HasScanPath rewire.now made.verilog rewire.now.units) }
 {
     let read = match narrow_module(alloc, text, rewire.scan_out.bytes()) {
         Ok(read) => read,
