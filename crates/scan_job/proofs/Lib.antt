@@ -1,2 +1,3 @@
 pub mod TopClauses
 pub mod Phases
+pub mod Fits

@@ -18,6 +18,7 @@ use Rattle.scan_words.specs.declared.verb.Verb.{Verb}
 use Rattle.scan_words.specs.declared.verb.Verb.TheVariants as verbs
 use Rattle.scan_job.specs.declared.stop.Stop.{Stop}
 use Rattle.scan_job.specs.declared.stop.Stop.TheVariants.{NoForm, Refused, InputFailed, OutputFailed, NoMemory}
+use Rattle.narrow_rewire.specs.Erased.{AreErasedAlike}
 use Rattle.narrow_rewire.specs.Texts.{first_fault as rewire_fault, written_verilog, moved_count}
 use Rattle.scan_job.specs.Commands.{names_by, names_of, rewire_of}
 use Rattle.scan_job.specs.FirstFault.{size_fault, is_too_large, first_too_large, input_slots, command_fault, or_else, first_fault, fault_text}
@@ -253,6 +254,8 @@ texts_same verbs.Rewire order one other outputs e agree are =
     record {
       verilog = are.verilog ∙ ap (λ (text : List ℕ). written_verilog text (rewire_of order)) same;
       console = are.console ∙ ap (λ (text : List ℕ). rewire_text (moved_count text (rewire_of order))) same;
+      erased = subst (λ (text : List ℕ). AreErasedAlike (rewire_of order) text outputs.verilog) same are.erased;
+      path = are.path;
     }
 
 -- the inputs of an order were taken

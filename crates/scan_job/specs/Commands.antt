@@ -1,5 +1,5 @@
 -- What the words of a command say: its files, and what it is asked to do.
-use Rattle.std.specs.Prelude.{ℕ, List, [], Some, None, slice_index_or}
+use Rattle.std.specs.Prelude.{◌≢◌, ℕ, List, [], Some, None, slice_index_or}
 use Rattle.desk_io.specs.declared.names.Names.{Names}
 use Rattle.scan_words.specs.declared.order.Order.{Order}
 use Rattle.scan_words.specs.declared.verb.Verb.{Verb}
@@ -36,3 +36,10 @@ rewire_of order = record {
   scan_out = value_at order 5;
   units = order.further;
 }
+
+-- the values of an order that the words say: the in pin and the out pin differ
+abbrev pub IsApart : Verb → Order → Type 0
+IsApart verbs.Rewire order = value_at order 2 ≢ value_at order 3
+
+abbrev pub IsFit : Order → Type 0
+IsFit order = IsApart order.verb order

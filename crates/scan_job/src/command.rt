@@ -4,7 +4,7 @@ ghost use Rattle.desk_io.specs.Desk.{AllUnopened, IsUnopened};
 ghost use Rattle.desk_io.specs.Names.{AllowsNames};
 ghost use Rattle.desk_io.specs.Inputs.{input_at};
 ghost use Rattle.desk_io.specs.Outputs.{OutputsUnopened};
-ghost use Rattle.scan_job.specs.Commands.{names_of};
+ghost use Rattle.scan_job.specs.Commands.{names_of, IsFit};
 ghost use Rattle.scan_job.specs.FirstFault.{file_of, size_fault};
 ghost use Rattle.scan_job.specs.Phases.{HasSaid, HasFinished};
 ghost use Rattle.scan_job.specs.Ended.{HasEnded};
@@ -65,6 +65,7 @@ fn finish<D: Desk>(
     desk: &mut D,
 ) -> Result<(), Stop>
     requires named { names.now ≡ names_of order.now }
+    requires fit { IsFit order.now }
     requires small { length (input_at inputs.now Verilog) < 2 ^ 32 }
     requires unopened { OutputsUnopened (D.state desk.old) }
     requires allowed { AllowsNames (names_of order.now) (D.allows desk.old) }
@@ -83,6 +84,7 @@ fn finish<D: Desk>(
 /// Takes the inputs, judges them, and puts the outputs or says the fault.
 fn run_named<D: Desk>(alloc: Global, order: &Order, names: &Names, desk: &mut D) -> Result<(), Stop>
     requires named { names.now ≡ names_of order.now }
+    requires fit { IsFit order.now }
     requires unopened { AllUnopened (D.state desk.old) }
     requires allowed { AllowsNames (names_of order.now) (D.allows desk.old) }
     ensures ended { HasEnded order.now (D.state desk.old) (D.state desk.new) result }
@@ -97,6 +99,7 @@ fn run_named<D: Desk>(alloc: Global, order: &Order, names: &Names, desk: &mut D)
 
 /// Does what an order asks for.
 pub(crate) fn run_order<D: Desk>(alloc: Global, order: &Order, desk: &mut D) -> Result<(), Stop>
+    requires fit { IsFit order.now }
     requires unopened { AllUnopened (D.state desk.old) }
     requires allowed { AllowsNames (names_of order.now) (D.allows desk.old) }
     ensures ended { HasEnded order.now (D.state desk.old) (D.state desk.new) result }

@@ -1,9 +1,9 @@
-ghost use Rattle.std.specs.Prelude.{◌≡◌, ◌<◌, ◌^◌, None, length, IfOk};
+ghost use Rattle.std.specs.Prelude.{◌≡◌, ◌≢◌, ◌<◌, ◌^◌, None, length, IfOk};
 ghost use Rattle.desk_io.specs.declared.slot.Slot.TheVariants.{Verilog};
 ghost use Rattle.desk_io.specs.Inputs.{input_at};
 ghost use Rattle.scan_job.specs.FirstFault.{command_fault, Refuses};
 ghost use Rattle.scan_job.specs.Texts.{AreTexts, AreRewired};
-ghost use Rattle.scan_job.specs.Commands.{rewire_of};
+ghost use Rattle.scan_job.specs.Commands.{value_at, rewire_of, IsFit};
 ghost use Rattle.narrow_rewire.specs.Texts.{first_fault};
 
 use crate::line::rewire_line;
@@ -17,6 +17,7 @@ use text_scan::{ReadFault, Text};
 /// The texts of `rewire`, or the first fault of its file.
 fn judge_rewire(alloc: Global, order: &Order, inputs: &Inputs) -> Result<Outputs, ReadFault>
     requires small { length (input_at inputs.now Verilog) < 2 ^ 32 }
+    requires apart { value_at order.now 2 ≢ value_at order.now 3 }
     ensures no_fault { IfOk result (λ outputs. first_fault (input_at inputs.now Verilog) (rewire_of order.now) ≡ None) }
     ensures texts { IfOk result (AreRewired order.now (input_at inputs.now)) }
     ensures refused { Refuses result (first_fault (input_at inputs.now Verilog) (rewire_of order.now)) }
@@ -34,6 +35,7 @@ fn judge_rewire(alloc: Global, order: &Order, inputs: &Inputs) -> Result<Outputs
 /// The texts of the command, or the first fault that it finds in its files.
 pub(crate) fn judge(alloc: Global, order: &Order, inputs: &Inputs) -> Result<Outputs, ReadFault>
     requires small { length (input_at inputs.now Verilog) < 2 ^ 32 }
+    requires fit { IsFit order.now }
     ensures no_fault { IfOk result (λ outputs. command_fault order.now.verb order.now (input_at inputs.now) ≡ None) }
     ensures texts { IfOk result (AreTexts order.now.verb order.now (input_at inputs.now)) }
     ensures refused { Refuses result (command_fault order.now.verb order.now (input_at inputs.now)) }

@@ -1,11 +1,17 @@
 use Rattle.std.proofs.Common.{◌≡◌, None, refl, sym, ◌∙◌}
 use Rattle.scan_words.specs.Form.{order_in}
+use Rattle.scan_job.proofs.Fits.{fits}
 use Rattle.scan_job.proofs.top.run_words.Goals as goal
 
 pub run_order-requires-clause-allowed : goal.run_order-requires-clause-allowed
 run_order-requires-clause-allowed g c =
     let order = c.in-Ok-Some.order in
     c.requires.allowed order ((c.read_words.ensures.form order).1 (sym c.in-Ok-Some.ensures.value ∙ c.in-Ok-Some.field-0-is))
+
+pub run_order-requires-clause-fit : goal.run_order-requires-clause-fit
+run_order-requires-clause-fit g c =
+    let order = c.in-Ok-Some.order in
+    fits c.args.words.now order ((c.read_words.ensures.form order).1 (sym c.in-Ok-Some.ensures.value ∙ c.in-Ok-Some.field-0-is))
 
 pub returns-in-Ok-None : goal.returns-in-Ok-None
 returns-in-Ok-None g c = record {
