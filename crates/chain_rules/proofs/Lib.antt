@@ -3,3 +3,9 @@ pub mod Positions
 pub mod Outcomes
 pub mod Members
 pub mod LegalParts
+pub mod Distinct
+pub mod Concats
+pub mod Steps
+pub mod Lasts
+pub mod Moved
+pub mod Swapped

@@ -3,3 +3,4 @@ pub mod Legality
 pub mod Stretches
 pub mod ChainFaults
 pub mod Rules
+pub mod Pins

@@ -5,12 +5,16 @@
 //! `specs/Legality.antt`. Begin with `spec.rt` and `unit.rt`.
 #![tactic(auto)]
 
+mod ends;
 mod legal;
+mod moves;
 pub mod plain;
 mod plan;
 mod spec;
 mod unit;
 
+pub use moves::{can_move, can_swap};
+pub use plain::is_legal;
 pub use plan::Plan;
 pub use spec::{ChainSpec, ElementSpec, EndSpec, ListSpec, PathSpec, StepSpec};
 pub use unit::{ChainRule, Position, Rules, Unit};
