@@ -1,1 +1,9 @@
+pub mod Each
 pub mod Faults
+pub mod Lines
+pub mod Names
+pub mod Parsing
+pub mod Pieces
+pub mod Statements
+pub mod Tokens
+pub mod VerilogTokens

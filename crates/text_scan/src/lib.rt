@@ -1,20 +1,34 @@
-//! Types that every reader and writer shares: places, names, texts, faults.
+//! Types that every reader and writer shares: places, names, texts, faults; the lines and tokens of texts.
 //!
 //! Floor: ground, on nothing.
 #![tactic(auto)]
 
+mod escapes;
 mod fault;
 mod kind;
+mod lines;
 mod memory;
 mod name;
+mod number;
+mod parsing;
+mod piece;
 mod rows;
 mod span;
+mod stop;
+mod tokens;
+mod verilog;
 mod word;
 
+pub use escapes::plain_name;
 pub use fault::{Fault, FileKind, ReadFault, Spot};
 pub use kind::Kind;
+pub use lines::{Lines, line_of};
 pub use memory::NoMemory;
 pub use name::{Name, Text};
+pub use piece::Piece;
 pub use rows::Rows;
 pub use span::{Point, Span};
+pub use stop::Stop;
+pub use tokens::{Lexeme, Tokens};
+pub use verilog::verilog_tokens;
 pub use word::Word;

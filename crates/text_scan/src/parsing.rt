@@ -1,0 +1,68 @@
+ghost use Rattle.std.specs.Prelude.{◌≡◌, ◌<◌, ◌==◌, length, OnOk};
+ghost use Rattle.text_scan.specs.Parsing.{Gives, begins_with, word_at, mark_at, goes_on_at};
+
+use crate::stop::Stop;
+use crate::tokens::Tokens;
+
+impl Tokens<'_> {
+    /// Whether no token is left.
+    pub fn is_empty(&self) -> bool
+        ensures value { result ≡ (length self.now == 0) }
+    {
+        self.first().is_none()
+    }
+
+    /// Whether a token with this text stands first.
+    pub fn begins_with(&self, text: &[u8]) -> bool
+        ensures value { result ≡ begins_with text.now self.now }
+    {
+        match self.first() {
+            Some(token) => token.text == text,
+            None => false,
+        }
+    }
+
+    /// Takes a token with this text.
+    #[tactic(auto, unfolding(crate::specs::Parsing::word_at))]
+    pub fn word(&mut self, word: &[u8]) -> Result<(), Stop>
+        ensures value { Gives result self.new (word_at word.now self.old) }
+        ensures shorter { OnOk result (length self.new < length self.old) }
+    {
+        let token = self.next().ok_or(Stop::NoForm)?;
+        if token.text == word {
+            Ok(())
+        } else {
+            Err(Stop::NoForm)
+        }
+    }
+
+    /// Takes a token of this one byte.
+    #[tactic(auto, unfolding(crate::specs::Parsing::mark_at))]
+    pub fn mark(&mut self, mark: u8) -> Result<(), Stop>
+        ensures value { Gives result self.new (mark_at mark self.old) }
+        ensures shorter { OnOk result (length self.new < length self.old) }
+    {
+        let token = self.next().ok_or(Stop::NoForm)?;
+        if token.text == [mark].as_slice() {
+            Ok(())
+        } else {
+            Err(Stop::NoForm)
+        }
+    }
+
+    /// Takes a comma, which is true, or the mark that closes the list.
+    #[tactic(auto, unfolding(crate::specs::Parsing::goes_on_at))]
+    pub fn goes_on(&mut self, closing: u8) -> Result<bool, Stop>
+        ensures value { Gives result self.new (goes_on_at closing self.old) }
+        ensures shorter { OnOk result (length self.new < length self.old) }
+    {
+        let token = self.next().ok_or(Stop::NoForm)?;
+        if token.text == b",".as_slice() {
+            Ok(true)
+        } else if token.text == [closing].as_slice() {
+            Ok(false)
+        } else {
+            Err(Stop::NoForm)
+        }
+    }
+}
