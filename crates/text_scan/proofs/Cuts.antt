@@ -39,7 +39,7 @@ module _ (piece_at : List ℕ → Piece) where
       rw (e, k) (tokens_from-inside (at + 1) n bs)
 
   -- the first piece, and the tokens behind it
-  tokens_from-cons : (at b : ℕ) (bs : List ℕ) → 0 < piece_len (piece_at (b ∷ bs))
+  pub tokens_from-cons : (at b : ℕ) (bs : List ℕ) → 0 < piece_len (piece_at (b ∷ bs))
       → tokens_from piece_at at 0 (b ∷ bs) ≡ span_of at (piece_at (b ∷ bs)) ++ tokens_from piece_at (at + piece_len (piece_at (b ∷ bs))) 0 (drop (piece_len (piece_at (b ∷ bs))) (b ∷ bs))
   unfolding tokens_from
   tokens_from-cons at b bs some = ap (λ (ts : List Span). span_of at (piece_at (b ∷ bs)) ++ ts) (behind at (piece_len (piece_at (b ∷ bs))) b bs some)

@@ -128,3 +128,7 @@ digits_line base bytes at len lt digit line s =
 pub digits_end : (base : ℕ) (bytes : List ℕ) (at len : ℕ) → at < length bytes → is_digit_of base (get_or bytes at 0) ≡ false → eqb (get_or bytes at 0) 95 ≡ false
     → DigitsSoFar base bytes at len → digits_len base bytes ≡ len
 digits_end base bytes at len lt digit line s = s.done (digits_at base bytes at lt ∙ rw (digit, line) refl)
+
+pub number_fits : (bs : List ℕ) → prefix_len is_digit bs + based_len (drop (prefix_len is_digit bs) bs) ≤ length bs
+unfolding number_len
+number_fits bs = number_len-le bs

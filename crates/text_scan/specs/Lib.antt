@@ -4,6 +4,9 @@ pub mod Lines
 pub mod Names
 pub mod Parsing
 pub mod Pieces
+pub mod Seams
+pub mod Splits
 pub mod Statements
 pub mod Tokens
+pub mod VerilogSplit
 pub mod VerilogTokens

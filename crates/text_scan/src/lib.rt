@@ -6,6 +6,7 @@
 mod escapes;
 mod fault;
 mod kind;
+mod laws;
 mod lines;
 mod memory;
 mod name;
@@ -22,6 +23,7 @@ mod word;
 pub use escapes::plain_name;
 pub use fault::{Fault, FileKind, ReadFault, Spot};
 pub use kind::Kind;
+pub use laws::{name_law, seam_law, split_law};
 pub use lines::{Lines, line_of};
 pub use memory::NoMemory;
 pub use name::{Name, Text};
@@ -32,3 +34,6 @@ pub use stop::Stop;
 pub use tokens::{Lexeme, Tokens};
 pub use verilog::verilog_tokens;
 pub use word::Word;
+
+#[cfg(test)]
+mod tests;

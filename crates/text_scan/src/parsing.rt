@@ -1,17 +1,10 @@
-ghost use Rattle.std.specs.Prelude.{◌≡◌, ◌<◌, ◌==◌, length, OnOk};
+ghost use Rattle.std.specs.Prelude.{◌≡◌, ◌<◌, length, OnOk};
 ghost use Rattle.text_scan.specs.Parsing.{Gives, begins_with, word_at, mark_at, goes_on_at};
 
 use crate::stop::Stop;
 use crate::tokens::Tokens;
 
 impl Tokens<'_> {
-    /// Whether no token is left.
-    pub fn is_empty(&self) -> bool
-        ensures value { result ≡ (length self.now == 0) }
-    {
-        self.first().is_none()
-    }
-
     /// Whether a token with this text stands first.
     pub fn begins_with(&self, text: &[u8]) -> bool
         ensures value { result ≡ begins_with text.now self.now }

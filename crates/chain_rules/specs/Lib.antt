@@ -1,0 +1,5 @@
+pub mod Plans
+pub mod Legality
+pub mod Stretches
+pub mod ChainFaults
+pub mod Rules

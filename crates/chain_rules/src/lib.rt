@@ -1,0 +1,16 @@
+//! Units and rules of the chains, and which plans are legal.
+//!
+//! Floor: planning, on text_scan. Plain numbers alone: it knows no name, no netlist and no file.
+//! Contract: `units_of` gives the rules of `specs/Rules.antt`, or the first fault of `specs/ChainFaults.antt`; the tests of a plan are exact by
+//! `specs/Legality.antt`. Begin with `spec.rt` and `unit.rt`.
+#![tactic(auto)]
+
+mod legal;
+pub mod plain;
+mod plan;
+mod spec;
+mod unit;
+
+pub use plan::Plan;
+pub use spec::{ChainSpec, ElementSpec, EndSpec, ListSpec, PathSpec, StepSpec};
+pub use unit::{ChainRule, Position, Rules, Unit};

@@ -1,0 +1,10 @@
+pub mod Causes
+pub mod Desk
+pub mod Files
+pub mod Inputs
+pub mod Memory
+pub mod Names
+pub mod Number
+pub mod Outputs
+pub mod Prefixes
+pub mod Sure

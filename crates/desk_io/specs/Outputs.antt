@@ -1,0 +1,59 @@
+-- The outputs of a command, put one after another.
+use Rattle.std.specs.Prelude.{◌≡◌, ◌<◌, ℕ, List, []}
+use Rattle.desk_io.specs.declared.slot.Slot.{Slot}
+use Rattle.desk_io.specs.declared.slot.Slot.TheVariants.{Table, Lef, Verilog, Def, Stil, OutVerilog, OutDef, OutStil, Console}
+use Rattle.desk_io.specs.declared.names.Names.{Names}
+use Rattle.desk_io.specs.declared.outputs.Outputs.{Outputs}
+use Rattle.desk_io.specs.Desk.{SlotState, IsOutput, IsUnopened, SameElsewhere}
+use Rattle.desk_io.specs.Causes.{HasRisen}
+use Rattle.desk_io.specs.Prefixes.{HasPutFile, HoldsPrefix}
+use Rattle.desk_io.specs.Names.{IsNamed}
+
+-- the text that is to be put at a slot
+abbrev pub output_at : Outputs → Slot → List ℕ
+output_at outputs Table = []
+output_at outputs Lef = []
+output_at outputs Verilog = []
+output_at outputs Def = []
+output_at outputs Stil = []
+output_at outputs OutVerilog = outputs.verilog
+output_at outputs OutDef = outputs.def
+output_at outputs OutStil = outputs.stil
+output_at outputs Console = outputs.console
+
+-- the place of an output in the order in which they are put
+abbrev pub turn : Slot → ℕ
+turn OutStil = 0
+turn OutVerilog = 1
+turn OutDef = 2
+turn Console = 3
+turn Table = 4
+turn Lef = 4
+turn Verilog = 4
+turn Def = 4
+turn Stil = 4
+
+-- no output was opened yet
+abbrev pub OutputsUnopened : (Slot → SlotState) → Type 0
+OutputsUnopened slots = (slot : Slot) → IsOutput slot → IsUnopened (slots slot)
+
+-- the named outputs whose turn is below were put, and no other slot is changed
+pub record HasPutOutputs (names : Names) (outputs : Outputs) (below : ℕ) (old new : Slot → SlotState) : Type 0 where
+  pub put : (slot : Slot) → IsOutput slot → IsNamed names slot → turn slot < below → HasPutFile (output_at outputs slot) (old slot) (new slot)
+  pub others : (slot : Slot) → (IsOutput slot → IsNamed names slot → turn slot < below → ⊥) → new slot ≡ old slot
+
+-- the named outputs before one of them were put, and then a call on it failed: it holds a prefix of its text
+pub record HasStoppedPutting (names : Names) (outputs : Outputs) (old new : Slot → SlotState) : Type 0 where
+  pub slot : Slot
+  pub output : IsOutput slot
+  pub named : IsNamed names slot
+  pub between : Slot → SlotState
+  pub before : HasPutOutputs names outputs (turn slot) old between
+  pub elsewhere : SameElsewhere slot between new
+  pub prefix : HoldsPrefix (output_at outputs slot) (between slot) (new slot)
+  pub risen : HasRisen (between slot).faults (new slot).faults
+  pub unread : (new slot).unread ≡ (between slot).unread
+
+-- each output holds, behind what stood there, a prefix of its text
+abbrev pub HoldsPrefixes : Outputs → (Slot → SlotState) → (Slot → SlotState) → Type 0
+HoldsPrefixes outputs old new = (slot : Slot) → IsOutput slot → HoldsPrefix (output_at outputs slot) (old slot) (new slot)

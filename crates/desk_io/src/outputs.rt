@@ -1,0 +1,80 @@
+ghost use Rattle.std.specs.Prelude.{◌≡◌, ◌<◌, OnOk, OnErr};
+ghost use Rattle.desk_io.specs.Desk.{IsOutput, SameNames};
+ghost use Rattle.desk_io.specs.Causes.{SomeRose, SameCounts};
+ghost use Rattle.desk_io.specs.Names.{AllowsNames, OnlyNamed};
+ghost use Rattle.desk_io.specs.Outputs.{output_at, turn, OutputsUnopened, HasPutOutputs, HasStoppedPutting, HoldsPrefixes};
+
+use crate::desk::Desk;
+use crate::file::put_file;
+use crate::names::{Names, name_of};
+use crate::put::PutFault;
+use crate::slot::Slot;
+use text_scan::Text;
+
+/// How many outputs there are, the console among them.
+const OUTPUTS: usize = 4;
+
+/// The texts of a command's outputs; that of a file that isn't named is not put.
+#[derive(Debug, Drop)]
+pub struct Outputs {
+    pub verilog: Text,
+    pub def: Text,
+    pub stil: Text,
+    pub console: Text,
+}
+
+/// The text of an output slot.
+fn output_text(outputs: &Outputs, slot: Slot) -> &[u8]
+    ensures value { result.now ≡ output_at outputs.now slot }
+{
+    match slot {
+        Slot::OutVerilog => outputs.verilog.bytes(),
+        Slot::OutDef => outputs.def.bytes(),
+        Slot::OutStil => outputs.stil.bytes(),
+        Slot::Console => outputs.console.bytes(),
+        _ => &[],
+    }
+}
+
+/// The output slot whose turn it is.
+fn output_slot(at: usize) -> Slot
+    requires { at < OUTPUTS }
+    ensures turn { turn result ≡ at }
+    ensures output { IsOutput result }
+{
+    match at {
+        0 => Slot::OutStil,
+        1 => Slot::OutVerilog,
+        2 => Slot::OutDef,
+        _ => Slot::Console,
+    }
+}
+
+/// Puts each output that is named, in the order STIL, Verilog, DEF, console: opens it, writes it whole, closes it.
+///
+/// After the first call that fails no other is made. It takes no memory.
+pub fn put_outputs<D: Desk>(names: &Names, outputs: &Outputs, desk: &mut D) -> Result<(), PutFault>
+    requires unopened { OutputsUnopened (D.state desk.old) }
+    requires allowed { AllowsNames names.now (D.allows desk.old) }
+
+    ensures ok { OnOk result (HasPutOutputs names.now outputs.now OUTPUTS (D.state desk.old) (D.state desk.new)) }
+    ensures failed { OnErr result (HasStoppedPutting names.now outputs.now (D.state desk.old) (D.state desk.new)) }
+
+    // Each output holds a prefix of its text, whatever is answered.
+    ensures prefixes { HoldsPrefixes outputs.now (D.state desk.old) (D.state desk.new) }
+
+    // A count rises only where a fault is answered, and that of an output then.
+    ensures write { OnErr result (SomeRose IsOutput (D.state desk.old) (D.state desk.new)) }
+    ensures counts { OnOk result (SameCounts (D.state desk.old) (D.state desk.new)) }
+
+    ensures elsewhere { OnlyNamed names.now IsOutput (D.state desk.old) (D.state desk.new) }
+    ensures names { SameNames (D.allows desk.old) (D.allows desk.new) }
+{
+    for at in 0..OUTPUTS {
+        let slot = output_slot(at);
+        if let Some(name) = name_of(names, slot) {
+            put_file(desk, slot, name, output_text(outputs, slot))?;
+        }
+    }
+    Ok(())
+}

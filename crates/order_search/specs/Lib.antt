@@ -1,0 +1,5 @@
+pub mod Steps
+pub mod Runs
+pub mod Searches
+pub mod Nearest
+pub mod Trials

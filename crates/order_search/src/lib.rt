@@ -1,0 +1,22 @@
+//! Orders the units within their chains: the plan of nearest neighbours, and plans that no reversed run makes shorter.
+//!
+//! Floor: planning, on wire_cost and chain_rules.
+//! Contract: `nearest_plan` gives what `specs/Nearest.antt` defines; a settled plan is what `specs/Steps.antt` says, for
+//! every search of this and of the crates above. Begin with `reversals.rt`.
+#![tactic(auto)]
+
+mod effort;
+mod nearest;
+mod order;
+pub mod plain;
+mod reversals;
+mod searchable;
+
+pub use effort::Effort;
+pub use nearest::nearest_plan;
+pub use order::settle_order;
+pub use reversals::settle_chain;
+pub use searchable::are_searchable;
+
+#[cfg(test)]
+mod tests;

@@ -1,0 +1,50 @@
+//! Settles the order of the units in every chain of a plan.
+ghost use Rattle.std.specs.Prelude.{◌≡◌, ℕ, ◌<◌, ◌≤◌, [], length, OnErr, OnOk, IsPermutation, slice_index_or};
+ghost use Rattle.chain_rules.specs.Legality.{IsLegal, chain_at};
+ghost use Rattle.wire_cost.specs.Lengths.{plan_length_of};
+ghost use Rattle.order_search.specs.Searches.{AreSearchable};
+ghost use Rattle.order_search.specs.Steps.{IsSettled};
+ghost use Rattle.order_search.specs.declared.effort.Effort.TheVariants.{Order};
+
+use crate::reversals::settle_chain;
+use chain_rules::{Plan, Rules};
+use std::alloc::Global;
+use text_scan::NoMemory;
+use wire_cost::{Ends, Sums};
+
+// The number of units in the longest chain.
+fn longest_chain(plan: &Plan) -> usize
+    ensures longest { (c : ℕ) → c < length plan.now.chains → length (chain_at plan.now c) ≤ result }
+{
+    let mut longest = 0;
+    for c in 0..plan.len() {
+        longest = longest.max(plan.chain(c).len());
+    }
+    longest
+}
+
+/// Reverses runs of units within the chains of a plan until none makes it shorter. After want of memory the plan is as
+/// before; its room is taken before the first step.
+pub fn settle_order(
+    alloc: Global,
+    rules: &Rules,
+    ends: &Ends,
+    plan: &mut Plan,
+) -> Result<(), NoMemory>
+    requires searchable { AreSearchable rules.now ends.now }
+    requires legal { IsLegal rules.now plan.old }
+    ensures legal { OnOk result (IsLegal rules.now plan.new) }
+    ensures members { OnOk result ((c : ℕ) → c < length plan.old.chains → IsPermutation (chain_at plan.old c) (chain_at plan.new c)) }
+    ensures no_longer { OnOk result (plan_length_of ends.now plan.new ≤ plan_length_of ends.now plan.old) }
+    ensures settled { OnOk result (IsSettled Order rules.now ends.now plan.new) }
+    ensures unchanged { OnErr result (plan.new ≡ plan.old) }
+{
+    let mut sums = Sums::make(alloc, longest_chain(plan))?;
+    let mut units = Vec::new(alloc);
+    for c in 0..plan.len() {
+        plan.exchange(c, &mut units);
+        settle_chain(rules, ends, c as u32, units.as_mut_slice(), &mut sums);
+        plan.exchange(c, &mut units);
+    }
+    Ok(())
+}

@@ -1,0 +1,36 @@
+use text_scan::{Rows, Text};
+
+/// The data of one scan call: one place for each scan chain, in the order of the ScanChain blocks
+/// (IEEE 1450-1999, ScanStructures and Shift).
+#[derive(Debug, Drop)]
+pub struct ScanCall {
+    /// How often the call shifts: the length of its longest string.
+    pub shifts: usize,
+    /// For each chain the string given to its ScanIn, of `0`, `1` and `N`, with repeats written out.
+    pub loads: Rows<Option<Text>>,
+    /// For each chain the string given to its ScanOut, of `L`, `H` and `X`, with repeats written out.
+    pub compares: Rows<Option<Text>>,
+}
+
+/// A statement of a Pattern (IEEE 1450-1999, Pattern statements).
+#[derive(Debug, Drop)]
+pub enum PatternStatement {
+    /// A Call or Macro of a scan procedure, with its data.
+    Scan {
+        /// The number of its Pattern in the file, from 0.
+        pattern: u32,
+        /// The bytes of the statement.
+        text: Text,
+        /// What is shifted in and compared.
+        call: ScanCall,
+        /// The line of its first token, from 1.
+        line: u64,
+    },
+    /// A statement that passes unread.
+    Other {
+        /// The number of its Pattern in the file, from 0.
+        pattern: u32,
+        /// The bytes of the statement.
+        text: Text,
+    },
+}

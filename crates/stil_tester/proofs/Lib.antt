@@ -1,0 +1,8 @@
+pub mod Strings
+pub mod WellFormed
+pub mod DeviceLaws
+pub mod Plays
+pub mod ShiftLaws
+pub mod Shifts
+mod Examples
+pub mod Lengths

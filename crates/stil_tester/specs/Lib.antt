@@ -1,0 +1,6 @@
+pub mod DeviceLaw
+pub mod Devices
+pub mod Meaning
+pub mod Runs
+pub mod Shifting
+pub mod Symbols

@@ -1,0 +1,28 @@
+//! Shifts scan chains and plays patterns, cell by cell.
+//!
+//! Floor: patterns, on text_scan and stil_reader.
+//! Contract: `shift_step`, `scan_call` and `play` do what `specs/Shifting.antt` and
+//! `specs/Runs.antt` say, and `device_law` says that no device tells patterns of the same
+//! meaning apart. Begin with `specs/Symbols.antt`.
+#![tactic(auto)]
+
+mod chains;
+mod device;
+mod laws;
+mod playing;
+mod results;
+mod scan;
+mod shift;
+mod symbol;
+
+pub use chains::{ChainBits, Chains};
+pub use device::{Device, Hold, Mix, Told};
+pub use laws::device_law;
+pub use playing::play;
+pub use results::{PlayLog, ScanResult};
+pub use scan::scan_call;
+pub use shift::shift_step;
+pub use symbol::{Expect, Symbol};
+
+#[cfg(test)]
+mod tests;

@@ -1,0 +1,20 @@
+//! Measures chains: the link between two places, the length of a chain and of a plan, and the sums of a chain's first links.
+//!
+//! Floor: planning, on text_scan and chain_rules.
+//! Contract: every number is the one that `specs/Lengths.antt` defines. Begin with `ends.rt`.
+#![tactic(auto)]
+
+mod ends;
+mod lengths;
+mod links;
+mod ranges;
+mod sums;
+
+pub use ends::Ends;
+pub use lengths::{chain_length, plan_length, wire_of};
+pub use links::{entry_of, exit_of, link, point_after, point_before, wire};
+pub use ranges::{are_placed, are_within, is_chain_at};
+pub use sums::Sums;
+
+#[cfg(test)]
+mod tests;
