@@ -5,8 +5,13 @@
 //! `netlist.rt`.
 #![tactic(auto)]
 
+mod classes;
 mod netlist;
+mod pins;
+pub mod plain;
 
+pub use classes::{Classes, classes_of};
 pub use netlist::{
     Assign, Bit, Connection, Direction, Expr, Instance, NetId, NetName, Netlist, Port,
 };
+pub use pins::net_of;
