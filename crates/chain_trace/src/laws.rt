@@ -1,0 +1,13 @@
+//! What holds of every path.
+ghost use Rattle.std.specs.Prelude.{◌≡◌};
+ghost use Rattle.netlist_core.specs.declared.netlist.NetId.{NetId};
+ghost use Rattle.netlist_core.specs.declared.netlist.Netlist.{Netlist};
+ghost use Rattle.cell_table.specs.Cells.{Cells};
+ghost use Rattle.chain_trace.specs.declared.path.Path.{Path};
+ghost use Rattle.chain_trace.specs.Paths.{IsScanPath};
+
+/// A scan output has at most one path. The call does nothing; its contract is the law.
+#[tactic(auto, using(crate::proofs::Unique::path_unique))]
+pub fn path_law()
+    ensures only { (n : Netlist) (cells : Cells) (output : NetId) (p q : Path) → IsScanPath n cells output p → IsScanPath n cells output q → p ≡ q }
+{}

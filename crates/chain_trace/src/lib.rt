@@ -1,0 +1,15 @@
+//! Traces the scan path of a scan output through a netlist, and tells its bits and their parities.
+//!
+//! Floor: paths, on netlist_core, cell_table and text_scan.
+//! Contract: `trace` gives the only path that `specs/Paths.antt` allows, or the fault that `specs/Faults.antt` says is
+//! met first. Begin with `path.rt`.
+#![tactic(auto)]
+
+mod bits;
+mod entry;
+mod laws;
+mod path;
+
+pub use bits::bits_of;
+pub use laws::path_law;
+pub use path::{BitId, Path, PathBits, Sink, Source, Step};

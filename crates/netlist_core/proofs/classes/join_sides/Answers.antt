@@ -1,0 +1,23 @@
+use Rattle.std.proofs.Common.{◌≡◌, ◌∙◌, ◌++◌, List, length, take, refl, arith}
+use Rattle.std.proofs.lemmas.List.{get_or_default}
+use Rattle.netlist_core.specs.declared.netlist.Bit.{Bit}
+use Rattle.netlist_core.specs.Netlists.{pairs}
+use Rattle.netlist_core.specs.Forests.{IsForest}
+use Rattle.netlist_core.proofs.Sides.{bits_more, bits_all}
+use Rattle.netlist_core.proofs.classes.join_sides.Goals as goal
+
+pub loop-i-preserved : goal.loop-i-preserved
+loop-i-preserved c = record {
+  len = c.join_bits.ensures.len ∙ c.loop-i.invariant.len;
+  falls = c.join_bits.ensures.falls;
+  joined = λ ps f.
+      bits_more IsForest (length c.args.parents.now.items) (length c.loop-i.parents.items) c.args.left.now c.args.right.now c.loop-i.i _ _ ps c.loop-i.parents.items c.join_bits.new.parents.items
+      c.loop-i.invariant.len c.loop-i-test.true c.requires.widths
+      (get_or_default c.args.left.now c.loop-i.i _ _ c.loop-i-test.true) (get_or_default c.args.right.now c.loop-i.i _ _ (omega (arith, c.requires.widths)))
+      c.join_bits.ensures.joined (c.loop-i.invariant.joined ps f);
+}
+
+pub returns-clause-joined : goal.returns-clause-joined
+returns-clause-joined c ps f =
+    bits_all (λ (qs : List (Bit × Bit)). IsForest (length c.args.parents.now.items) qs c.loop-i.parents.items) c.args.left.now c.args.right.now c.loop-i.i ps
+    c.loop-i-test.false c.requires.widths (c.loop-i.invariant.joined ps f)

@@ -1,0 +1,17 @@
+//! A flat netlist: nets, ports, assigns and instances, and which nets are joined (IEEE 1364-2005, in this profile).
+//!
+//! Floor: readers, on text_scan.
+//! Contract: two nets have one class exactly where `specs/Joining.antt` says that they are joined. Begin with
+//! `netlist.rt`.
+#![tactic(auto)]
+
+mod classes;
+mod netlist;
+mod pins;
+pub mod plain;
+
+pub use classes::{Classes, classes_of};
+pub use netlist::{
+    Assign, Bit, Connection, Direction, Expr, Instance, NetId, NetName, Netlist, Port,
+};
+pub use pins::net_of;

@@ -1,0 +1,95 @@
+use text_scan::{Name, Rows, Span};
+
+/// The number of a net bit: its place in the netlist's list of nets.
+#[derive(Clone, Copy, Debug, PartialEq, Eq)]
+pub struct NetId(pub u32);
+
+/// One bit of an expression.
+#[derive(Clone, Copy, Debug, PartialEq, Eq)]
+pub enum Bit {
+    /// A net bit.
+    Net(NetId),
+    /// A bit 0 of a constant.
+    Zero,
+    /// A bit 1 of a constant.
+    One,
+    /// A bit `x` or `z` of a constant.
+    Unknown,
+}
+
+/// An expression: its bits from the left, and where it stands.
+#[derive(Debug, Drop)]
+pub struct Expr {
+    pub bits: Rows<Bit>,
+    /// From the first token to the last; in `.pin()` empty, at the closing parenthesis.
+    pub span: Span,
+}
+
+/// The direction of a port (IEEE 1364-2005, 12.3.3).
+#[derive(Clone, Copy, Debug, PartialEq, Eq)]
+pub enum Direction {
+    Input,
+    Output,
+    Inout,
+}
+
+/// One bit of a port.
+#[derive(Clone, Copy, Debug, PartialEq, Eq)]
+pub struct Port {
+    pub net: NetId,
+    pub direction: Direction,
+    /// The line of the statement that declares the direction, from 1.
+    pub line: u64,
+}
+
+/// A continuous assignment (IEEE 1364-2005, 6.1): both sides have equally many bits.
+#[derive(Debug, Drop)]
+pub struct Assign {
+    pub left: Expr,
+    pub right: Expr,
+    /// The line of the statement, from 1.
+    pub line: u64,
+}
+
+/// A pin of an instance and what it is connected to; no bits in `.pin()`.
+#[derive(Debug, Drop)]
+pub struct Connection {
+    pub pin: Name,
+    pub expr: Expr,
+}
+
+/// An instance of a cell (IEEE 1364-2005, 12.1.2).
+#[derive(Debug, Drop)]
+pub struct Instance {
+    /// The plain name.
+    pub name: Name,
+    pub cell: Name,
+    pub connections: Rows<Connection>,
+    /// The line of the statement, from 1.
+    pub line: u64,
+}
+
+/// How a net bit is named.
+#[derive(Debug, Drop)]
+pub struct NetName {
+    /// The name without an escape, followed by `[i]` for a bit of a vector.
+    pub plain: Name,
+    /// The Verilog text of the net bit.
+    pub text: Name,
+}
+
+/// A module.
+#[derive(Debug, Drop)]
+pub struct Netlist {
+    pub module: Name,
+    /// The line of `module`, from 1.
+    pub line: u64,
+    /// The net bits by their numbers.
+    pub nets: Rows<NetName>,
+    /// The port bits, in the order of their direction statements, those of a vector from the left.
+    pub ports: Rows<Port>,
+    /// The assigns, in file order.
+    pub assigns: Rows<Assign>,
+    /// The instances, in file order.
+    pub instances: Rows<Instance>,
+}
