@@ -1,9 +1,10 @@
 //! Retargeting beside plain shifting, on all small chains.
 //!
-//! Two chains of one to three bits; every parity of the old chains; three orders of the cells, each
-//! cut in two at every place that leaves at most three bits on each side. On each of these, each of
-//! the four strings goes twice through all of at most four characters and through none given; which
-//! of them stand together, and the parities of the new chains, go on in steps.
+//! Two chains of one to three bits; every parity of the old chains, and four of the new ones with
+//! each, so that all come in turn; three orders of the cells, each cut in two at every place that
+//! leaves at most three bits on each side. On each of these, each of the four strings goes four times
+//! through all of at most four characters and through none given; which of them stand together goes
+//! on in steps.
 ghost use Rattle.std.specs.Prelude.{◌≡◌, IfOk};
 ghost use Rattle.stil_tester.specs.Shifting.{AreChains};
 
@@ -149,7 +150,7 @@ fn is_retargeted(
     }
 }
 
-/// Goes through the strings twice on two chains as read and as written, and counts the calls.
+/// Goes through the strings four times on two chains as read and as written, and counts the calls.
 fn count_retargeted(
     rt: &impl Abort,
     alloc: Global,
@@ -163,7 +164,7 @@ fn count_retargeted(
     assert_eq!(rt; new.chains.as_slice().len(), old.chains.as_slice().len());
     let map = map_of(alloc, old, new)?;
     let mut count = 0usize;
-    for step in 0..2 * STRINGS {
+    for step in 0..4 * STRINGS {
         if is_retargeted(rt, alloc, old, new, &map, step)? {
             count = count.wrapping_add(1);
         }
@@ -184,9 +185,14 @@ fn count_of_sizes(
     for order in 0..3 {
         for parities in 0..all {
             let old = two_chains(rt, alloc, read, 0, parities)?;
-            let others = parities.wrapping_mul(5).wrapping_add(order) % all;
-            let new = two_chains(rt, alloc, written, order, others)?;
-            count = count.wrapping_add(count_retargeted(rt, alloc, &old, &new)?);
+            for turn in 0..4usize {
+                let others = turn
+                    .wrapping_mul(all / 4)
+                    .wrapping_add(parities.wrapping_mul(5))
+                    % all;
+                let new = two_chains(rt, alloc, written, order, others)?;
+                count = count.wrapping_add(count_retargeted(rt, alloc, &old, &new)?);
+            }
         }
     }
     Ok(count)
@@ -207,6 +213,6 @@ fn small_chains(rt: HostRuntime) -> Result<(), Fail> {
             }
         }
     }
-    assert!(rt; count > 100_000, "{count} calls");
+    assert!(rt; count > 1_000_000, "{count} calls");
     Ok(())
 }
