@@ -1,13 +1,12 @@
 -- What a call does that is refused for nothing.
-use Rattle.std.proofs.Common.{◌≡◌, ℕ, ◌+◌, ◌-◌, ◌<◌, ◌≤◌, List, length, true, false, refl, sym, ap, ◌∙◌, arith, get_or, ⊎_elim}
+use Rattle.std.proofs.Common.{◌≡◌, ℕ, ◌<◌, ◌≤◌, length, true, false, sym, ap, ◌∙◌, arith, ⊎_elim}
 use Rattle.std.proofs.lemmas.Bool.{cases_lt, cases_Bool}
 use Rattle.stil_reader.specs.declared.statement.ScanCall.{ScanCall}
-use Rattle.stil_tester.specs.declared.symbol.Symbol.{Symbol}
 use Rattle.stil_tester.specs.declared.symbol.Expect.TheVariants.{Any}
 use Rattle.stil_tester.specs.declared.chains.Chains.{Chains}
 use Rattle.stil_tester.specs.Symbols.{flip_if, meets, expect_of}
-use Rattle.stil_tester.specs.Shifting.{AreChains, HasCells, cell_at, IsCallFor, scan_call}
-use Rattle.retarget.specs.Places.{parity_after, chain_at, bits_at, StandsAt, longest}
+use Rattle.stil_tester.specs.Shifting.{AreChains, cell_at, IsCallFor}
+use Rattle.retarget.specs.Places.{parity_after, chain_at, bits_at, longest}
 use Rattle.retarget.specs.Judging.{compare_at, exit_of, is_expectation, IsShortLoad, IsLongCompare, IsAccepted, LoadsCells, ComparesCells}
 use Rattle.retarget.proofs.WholeCall.{loaded_is, passed_at, passed_from}
 use Rattle.retarget.proofs.SameMeaning.{bits_within, expect_of_quiet}

@@ -1,17 +1,16 @@
 -- All chains at once: each cell stands at one place, and a shift of all chains moves each chain on as if it were alone.
-use Rattle.std.proofs.Common.{◌≡◌, ℕ, ◌+◌, ◌-◌, ◌<◌, ◌≤◌, List, [], ◌∷◌, ◌++◌, length, take, Bool, true, false, cond, refl, sym, ap, ◌∙◌, arith, suc, zero, get_or, ◌⊎◌, inl, inr, ⊎_elim, subst, zero-add}
-use Rattle.std.specs.Prelude.{nat_eq, count_by, slice_set, map, All}
-use Rattle.std.specs.List.{flat_map}
+use Rattle.std.proofs.Common.{◌≡◌, ℕ, ◌+◌, ◌-◌, ◌<◌, ◌≤◌, List, [], ◌∷◌, ◌++◌, length, take, Bool, cond, refl, sym, ap, ◌∙◌, arith, suc, zero, get_or, ⊎_elim, zero-add}
+use Rattle.std.specs.Prelude.{nat_eq}
 use Rattle.std.proofs.lemmas.Bool.{cases_lt}
-use Rattle.std.proofs.lemmas.List.{get_or_append_left, get_or-append-add, get_or-append_right, length-append, length-map, get_or-map, same_lists, get_or_default}
+use Rattle.std.proofs.lemmas.List.{get_or_append_left, get_or-append_right, length-append, length-map, get_or-map, same_lists, get_or_default}
 use Rattle.std.proofs.lemmas.List.Concat.{get_or-flat_map}
 use Rattle.std.proofs.lemmas.List.Sums.{sum_by-append}
 use Rattle.stil_tester.specs.declared.symbol.Symbol.{Symbol}
-use Rattle.stil_tester.specs.declared.symbol.Symbol.TheVariants.{Zero, One, Unknown}
+use Rattle.stil_tester.specs.declared.symbol.Symbol.TheVariants.{Unknown}
 use Rattle.stil_tester.specs.declared.chains.ChainBits.{ChainBits}
 use Rattle.stil_tester.specs.declared.chains.Chains.{Chains}
-use Rattle.stil_tester.specs.Shifting.{numbers_of, IsChain, AreChains, HasCells, cell_at, held_by, moved_on, all_moved_on, with_symbols, shift_step}
-use Rattle.retarget.specs.Places.{no_bits, chain_at, bits_at, StandsAt}
+use Rattle.stil_tester.specs.Shifting.{numbers_of, IsChain, AreChains, HasCells, cell_at, held_by, moved_on, all_moved_on, shift_step}
+use Rattle.retarget.specs.Places.{no_bits, chain_at, StandsAt}
 use Rattle.retarget.proofs.Numbers.{count_of, found, apart, with_symbols_at, with_symbols_other, length-with_symbols}
 
 -- where the bits of a chain begin among all of them

@@ -1,5 +1,5 @@
 -- Characters that are exchanged by their bits.
-use Rattle.std.proofs.Common.{◌≡◌, ℕ, ◌+◌, ◌*◌, Bool, false, cond, refl, sym, ap, ◌∙◌, ⊎_elim, subst, eqb}
+use Rattle.std.proofs.Common.{◌≡◌, ℕ, ◌+◌, ◌*◌, false, cond, refl, sym, ap, ◌∙◌, ⊎_elim, subst, eqb}
 use Rattle.std.specs.Prelude.{bit_xor, ◌||◌}
 use Rattle.std.specs.Int.{from_bool}
 use Rattle.std.specs.Int.Bits.{xor_zero_r}

@@ -1,5 +1,5 @@
 -- One chain's string at full length.
-use Rattle.std.proofs.Common.{◌≡◌, ◌≢◌, ℕ, ◌+◌, ◌-◌, ◌<◌, ◌≤◌, List, length, reverse, Bool, true, false, refl, sym, ap, ◌∙◌, arith, get_or, ◌⊎◌, inl, inr, ⊎_elim, Option, Some, None}
+use Rattle.std.proofs.Common.{◌≡◌, ◌≢◌, ℕ, ◌-◌, ◌<◌, ◌≤◌, List, length, reverse, Bool, false, refl, sym, ap, ◌∙◌, arith, get_or, ◌⊎◌, inl, inr, ⊎_elim, Some}
 use Rattle.std.specs.Prelude.{IsTrue}
 use Rattle.std.proofs.lemmas.Bool.{cases_lt}
 use Rattle.std.proofs.lemmas.List.{get_or-reverse, length-reverse, get_or_past}

@@ -1,11 +1,11 @@
 -- Strings of the new chains, from the characters at their cells.
-use Rattle.std.proofs.Common.{◌≡◌, ◌≢◌, ℕ, ◌+◌, ◌-◌, ◌<◌, ◌≤◌, List, [], ◌∷◌, ◌++◌, length, Bool, true, false, cond, refl, sym, ap, ◌∙◌, arith, get_or, ◌⊎◌, inl, inr, ⊎_elim, Option, None, subst, eqb}
+use Rattle.std.proofs.Common.{◌≡◌, ◌≢◌, ℕ, ◌+◌, ◌<◌, ◌≤◌, List, [], ◌∷◌, ◌++◌, length, Bool, true, false, cond, refl, sym, ap, ◌∙◌, arith, get_or, inl, inr, ⊎_elim, Option, None, subst, eqb}
 use Rattle.std.specs.Prelude.{IsTrue, IsSome, is_some}
 use Rattle.std.proofs.lemmas.Bool.{cases_lt, cases_eq, ne_eqb}
-use Rattle.std.proofs.lemmas.List.{get_or_append_left, get_or_push, length_push}
+use Rattle.std.proofs.lemmas.List.{get_or_append_left, get_or_push}
 use Rattle.stil_tester.specs.declared.chains.Chains.{Chains}
 use Rattle.retarget.specs.declared.side.Side.{Side}
-use Rattle.retarget.specs.Places.{differ, chain_at, bits_at, StandsAt}
+use Rattle.retarget.specs.Places.{differ, chain_at, bits_at}
 use Rattle.retarget.specs.Retargeting.{flip_character, flip_character_if}
 use Rattle.retarget.specs.Sides.{filler_of, parity_at, text_of, character_in, character_at, raw_at, HasParities, AreValues, IsFullString, IsMoved}
 

@@ -1,8 +1,7 @@
 -- One chain: what shifts leave in its bits, and what comes out, in closed form.
 -- A history is the list of the symbols shifted in, the newest first. What the bits of a chain hold is what some
 -- history shows, each symbol flipped by the parities up to its place.
-use Rattle.std.proofs.Common.{◌≡◌, ℕ, ◌+◌, ◌-◌, ◌<◌, ◌≤◌, List, [], ◌∷◌, ◌++◌, length, reverse, take, drop, Bool, true, false, not, refl, sym, ap, ◌∙◌, arith, suc, zero, append_assoc, get_or}
-use Rattle.std.specs.Bool.{beq}
+use Rattle.std.proofs.Common.{◌≡◌, ℕ, ◌-◌, ◌<◌, ◌≤◌, List, [], ◌∷◌, ◌++◌, length, reverse, take, Bool, true, false, refl, sym, ap, ◌∙◌, arith, suc, zero, append_assoc, get_or}
 use Rattle.std.proofs.lemmas.List.{reverse-append, length-reverse, length-take-le, length-append, get_or-append_right, get_or-reverse}
 use Rattle.stil_tester.specs.declared.symbol.Symbol.{Symbol}
 use Rattle.stil_tester.specs.declared.symbol.Symbol.TheVariants.{Zero, One, Unknown}

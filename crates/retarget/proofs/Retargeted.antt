@@ -1,23 +1,21 @@
 -- A call whose strings were moved to the new chains is the retargeted call.
-use Rattle.std.proofs.Common.{◌≡◌, ◌≢◌, ℕ, ◌+◌, ◌-◌, ◌<◌, ◌≤◌, List, [], ◌∷◌, length, reverse, Bool, true, false, refl, sym, ap, ◌∙◌, arith, suc, zero, get_or, ◌⊎◌, inl, inr, ⊎_elim, Option, Some, None, subst, eqb, Result, Ok, Err}
+use Rattle.std.proofs.Common.{◌≡◌, ℕ, ◌-◌, ◌<◌, ◌≤◌, List, [], ◌∷◌, length, reverse, Bool, true, false, refl, sym, ap, ◌∙◌, arith, suc, get_or, inl, ⊎_elim, Option, Some, None, subst, eqb, Result, Ok, Err}
 use Rattle.std.specs.Prelude.{max, All, IsSome, IfSome, IfOk, ◌||◌}
-use Rattle.std.specs.List.{AllPass}
 use Rattle.std.proofs.lemmas.Bool.{cases_lt, eqb-true, or_cases, false≢true}
 use Rattle.std.proofs.lemmas.List.{get_or_past, get_or_default, get_or-reverse, length-reverse}
 use Rattle.stil_reader.specs.declared.statement.ScanCall.{ScanCall}
 use Rattle.stil_tester.specs.declared.symbol.Symbol.{Symbol}
 use Rattle.stil_tester.specs.declared.chains.Chains.{Chains}
-use Rattle.stil_tester.specs.Shifting.{AreChains, HasCells, string_length, longest_string, is_load_character, is_compare_character, IsStringOf, IsCallFor, scan_call}
+use Rattle.stil_tester.specs.Shifting.{HasCells, string_length, longest_string, is_load_character, is_compare_character, IsStringOf, IsCallFor, scan_call}
 use Rattle.retarget.specs.declared.route.Route.{Route}
-use Rattle.retarget.specs.declared.side.Side.{Side}
 use Rattle.retarget.specs.declared.side.Side.TheVariants.{Load, Compare}
 use Rattle.retarget.specs.Places.{differ, parity_to, parity_after, chain_at, bits_at, StandsAt, longest}
-use Rattle.retarget.specs.Judging.{load_character, compare_character, load_at, compare_at, exit_of, is_expectation, IsShortLoad, IsLongCompare, IsAccepted}
-use Rattle.retarget.specs.Retargeting.{flip_character, flip_character_if, HaveSameCells, KeepsLoads, KeepsCompares, WritesLoads, WritesCompares, AreFull}
+use Rattle.retarget.specs.Judging.{load_character, compare_character, load_at, compare_at, exit_of, is_expectation, IsAccepted}
+use Rattle.retarget.specs.Retargeting.{flip_character, flip_character_if, HaveSameCells, KeepsLoads, KeepsCompares, AreFull}
 use Rattle.retarget.specs.Sides.{text_of, IsMap, AreMoved}
 use Rattle.retarget.proofs.AllChains.{standing}
 use Rattle.retarget.proofs.WholeCall.{string_within}
-use Rattle.retarget.proofs.SameMeaning.{bits_within, cell_within, same_call, still_call}
+use Rattle.retarget.proofs.SameMeaning.{cell_within, same_call}
 use Rattle.retarget.proofs.Accepted.{long_enough, quiet_from}
 
 -- ---- the characters

@@ -1,8 +1,7 @@
 -- A call that keeps the loads and the compares of all cells does on the new chains what the old one does on the old ones.
-use Rattle.std.proofs.Common.{◌≡◌, ℕ, ◌+◌, ◌-◌, ◌<◌, ◌≤◌, List, [], ◌∷◌, length, Bool, true, false, cond, refl, sym, ap, ◌∙◌, arith, suc, zero, get_or, ◌⊎◌, ⊎_elim, Option, Some, None, subst, eqb}
-use Rattle.std.specs.Prelude.{max, ◌||◌}
-use Rattle.std.proofs.lemmas.Bool.{cases_lt, cases_eq, ne_eqb, cases_Bool, or_parts, cond-false}
-use Rattle.std.proofs.lemmas.List.{ext_get_or, get_or_past}
+use Rattle.std.proofs.Common.{◌≡◌, ℕ, ◌+◌, ◌<◌, ◌≤◌, List, [], ◌∷◌, length, Bool, true, false, cond, refl, sym, ap, ◌∙◌, arith, suc, zero, get_or, ⊎_elim, subst, eqb}
+use Rattle.std.proofs.lemmas.Bool.{cases_lt, cases_eq, ne_eqb, or_parts}
+use Rattle.std.proofs.lemmas.List.{ext_get_or}
 use Rattle.stil_reader.specs.declared.statement.ScanCall.{ScanCall}
 use Rattle.stil_tester.specs.declared.symbol.Symbol.{Symbol}
 use Rattle.stil_tester.specs.declared.symbol.Symbol.TheVariants.{Zero, One, Unknown}
@@ -10,13 +9,12 @@ use Rattle.stil_tester.specs.declared.symbol.Expect.{Expect}
 use Rattle.stil_tester.specs.declared.symbol.Expect.TheVariants.{Low, High, Any}
 use Rattle.stil_tester.specs.declared.chains.ChainBits.{ChainBits}
 use Rattle.stil_tester.specs.declared.chains.Chains.{Chains}
-use Rattle.stil_tester.specs.declared.results.ScanResult.{ScanResult}
 use Rattle.stil_tester.specs.Symbols.{flip, flip_if, meets, symbol_of, expect_of}
 use Rattle.stil_tester.specs.Shifting.{AreChains, HasCells, cell_at, IsCallFor, cells_before, met_before, scan_call}
 use Rattle.retarget.specs.Places.{differ, parity_to, parity_after, no_bits, chain_at, bits_at, StandsAt, longest_of, longest}
 use Rattle.retarget.specs.Judging.{load_at, compare_at, exit_of, is_expectation}
 use Rattle.retarget.specs.Retargeting.{flip_character, flip_character_if, HaveSameCells, KeepsLoads, KeepsCompares}
-use Rattle.retarget.proofs.OneChain.{flip_if-flip_if, differ_comm, differ_twice, flip-flip}
+use Rattle.retarget.proofs.OneChain.{flip-flip}
 use Rattle.retarget.proofs.AllChains.{standing, start_of, number_at, number_within}
 use Rattle.retarget.proofs.WholeCall.{length-cells_before, other_before, loaded_is, passed_at, passed_from}
 

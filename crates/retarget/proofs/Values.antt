@@ -1,12 +1,12 @@
 -- The characters of all strings, each at its cell.
-use Rattle.std.proofs.Common.{◌≡◌, ◌≢◌, ℕ, ◌+◌, ◌-◌, ◌<◌, ◌≤◌, List, [], ◌∷◌, ◌++◌, length, take, drop, Bool, true, false, refl, sym, ap, ◌∙◌, arith, suc, zero, get_or, ⊎_elim, Option, None, subst}
+use Rattle.std.proofs.Common.{◌≡◌, ◌≢◌, ℕ, ◌+◌, ◌<◌, ◌≤◌, List, [], ◌∷◌, length, take, Bool, false, refl, sym, ap, ◌∙◌, arith, suc, zero, get_or, ⊎_elim, Option, None, subst}
 use Rattle.std.proofs.lemmas.Bool.{cases_lt}
 use Rattle.std.proofs.lemmas.List.{length-append}
 use Rattle.stil_tester.specs.declared.chains.ChainBits.{ChainBits}
 use Rattle.stil_tester.specs.declared.chains.Chains.{Chains}
 use Rattle.stil_tester.specs.Shifting.{numbers_of, AreChains}
 use Rattle.retarget.specs.declared.side.Side.{Side}
-use Rattle.retarget.specs.Places.{no_bits, chain_at, bits_at, StandsAt}
+use Rattle.retarget.specs.Places.{no_bits, chain_at, bits_at}
 use Rattle.retarget.specs.Retargeting.{flip_character_if}
 use Rattle.retarget.specs.Sides.{parity_at, text_of, character_in, character_at, HasParities, AreApart, AreValues}
 use Rattle.retarget.proofs.AllChains.{start_of, number_at, number_within, all_apart}

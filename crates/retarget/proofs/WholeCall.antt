@@ -1,21 +1,20 @@
 -- A whole scan call: which character each cell takes, and which cell each character of a compare is held against.
-use Rattle.std.proofs.Common.{◌≡◌, ℕ, ◌+◌, ◌-◌, ◌<◌, ◌≤◌, List, [], ◌∷◌, ◌++◌, length, take, drop, map, reverse, Bool, true, false, cond, refl, sym, ap, ◌∙◌, arith, suc, zero, get_or, ◌⊎◌, inl, inr, ⊎_elim, Option, Some, None, add-one, replicate}
-use Rattle.std.specs.Prelude.{max, ◌&&◌}
-use Rattle.std.proofs.lemmas.Bool.{cases_lt, and_parts, and_from, or_parts, cases_Bool, cond-false}
+use Rattle.std.proofs.Common.{◌≡◌, ℕ, ◌+◌, ◌-◌, ◌<◌, ◌≤◌, List, [], ◌∷◌, length, take, drop, map, reverse, Bool, true, false, refl, sym, ap, ◌∙◌, arith, suc, zero, get_or, ⊎_elim, Option, Some, None, add-one, replicate}
+use Rattle.std.proofs.lemmas.Bool.{cases_lt, and_parts, and_from}
 use Rattle.std.proofs.lemmas.List.{get_or_append_left, get_or-append_right, length-append, length-map, get_or-map, get_or_past, get_or-reverse, length-reverse, length-replicate, get_or-replicate, take_all, take-append-drop}
 use Rattle.std.proofs.Math.Seq.{take-suc}
 use Rattle.stil_reader.specs.declared.statement.ScanCall.{ScanCall}
 use Rattle.stil_tester.specs.declared.symbol.Symbol.{Symbol}
-use Rattle.stil_tester.specs.declared.symbol.Symbol.TheVariants.{Zero, One, Unknown}
+use Rattle.stil_tester.specs.declared.symbol.Symbol.TheVariants.{Unknown}
 use Rattle.stil_tester.specs.declared.symbol.Expect.{Expect}
-use Rattle.stil_tester.specs.declared.symbol.Expect.TheVariants.{Low, High, Any}
+use Rattle.stil_tester.specs.declared.symbol.Expect.TheVariants.{Any}
 use Rattle.stil_tester.specs.declared.chains.ChainBits.{ChainBits}
 use Rattle.stil_tester.specs.declared.chains.Chains.{Chains}
 use Rattle.stil_tester.specs.Symbols.{flip, flip_if, meets, symbol_of, expect_of, padded_load, padded_compare}
-use Rattle.stil_tester.specs.Shifting.{IsChain, AreChains, HasCells, cell_at, held_by, output_of, moved_on, shift_step, string_length, longest_string, IsCallFor, inputs_at, expects_at, cells_before, outputs_at, all_met, met_before, scan_call}
+use Rattle.stil_tester.specs.Shifting.{AreChains, HasCells, cell_at, held_by, output_of, moved_on, string_length, longest_string, IsCallFor, inputs_at, expects_at, cells_before, outputs_at, all_met, met_before, scan_call}
 use Rattle.retarget.specs.Places.{differ, parity_of, parity_to, parity_after, no_bits, chain_at, bits_at, StandsAt}
-use Rattle.retarget.specs.Judging.{load_character, compare_character, load_at, compare_at, exit_of}
-use Rattle.retarget.proofs.OneChain.{flip-flip, differ_assoc, moved_all, moved_all-push, loaded_bit, last_bit, parity_of-append}
+use Rattle.retarget.specs.Judging.{load_character, compare_character, load_at, compare_at}
+use Rattle.retarget.proofs.OneChain.{flip-flip, moved_all, moved_all-push, loaded_bit, last_bit, parity_of-append}
 use Rattle.retarget.proofs.AllChains.{length-held_by, chain_is, length-step, held-step, other-step}
 
 -- ---- the strings

@@ -1,10 +1,10 @@
 -- Which scan call does on new chains what another one does on old chains of the same cells.
-use Rattle.std.specs.Prelude.{◌≡◌, ◌≢◌, ℕ, ◌<◌, ◌≤◌, ◌==◌, ◌↔◌, ◌⊎◌, Bool, if◌then◌else◌, List, length, slice_index_or, Option, None, IsSome, IfSome}
+use Rattle.std.specs.Prelude.{◌≡◌, ◌≢◌, ℕ, ◌<◌, ◌≤◌, ◌==◌, ◌↔◌, ◌⊎◌, Bool, if◌then◌else◌, length, slice_index_or, None, IsSome, IfSome}
 use Rattle.stil_reader.specs.declared.statement.ScanCall.{ScanCall}
 use Rattle.stil_tester.specs.declared.chains.Chains.{Chains}
 use Rattle.stil_tester.specs.Shifting.{AreChains}
-use Rattle.retarget.specs.Places.{differ, parity_to, parity_after, chain_at, bits_at, StandsAt, longest}
-use Rattle.retarget.specs.Judging.{load_character, compare_character, load_at, compare_at, exit_of}
+use Rattle.retarget.specs.Places.{differ, parity_to, parity_after, chain_at, bits_at, StandsAt}
+use Rattle.retarget.specs.Judging.{load_at, compare_at, exit_of}
 
 -- 0 and 1, and L and H, are exchanged (48 and 49, 76 and 72)
 abbrev pub flip_character : ℕ → ℕ

@@ -10,6 +10,10 @@ ghost use Rattle.stil_tester.specs.Shifting.{AreChains, IsCallFor};
 
 mod made;
 mod plain;
+#[cfg(test)]
+mod sweep;
+#[cfg(test)]
+mod tests;
 
 use anyhow::{Context, Result, bail, ensure};
 use call_checks::{are_chains, is_call_for};
@@ -137,7 +141,7 @@ fn one_round(
         0
     } else {
         usize::from(
-            agree(rt.alloc(), old, new, call, &written)
+            agree(rt.alloc(), old, new, call, &written, 0)
                 .ok()
                 .context("out of memory")?,
         )

@@ -9,12 +9,14 @@ use stil_tester::{Chains, Symbol, scan_call};
 use text_scan::NoMemory;
 
 /// Whether both calls, shifted step by step, leave the same in the cells and have the same verdict.
+/// What the cells hold before goes by their numbers from `start` on.
 pub fn agree(
     alloc: Global,
     old: &Chains,
     new: &Chains,
     read: &ScanCall,
     written: &ScanCall,
+    start: usize,
 ) -> Result<bool, NoMemory>
     requires old { AreChains old.now }
     requires new { AreChains new.now }
@@ -24,7 +26,7 @@ pub fn agree(
 {
     let mut as_read = vec![in alloc; Symbol::Unknown; old.cells as usize]?;
     for (place, cell) in as_read.iter_mut().enumerate() {
-        *cell = match place % 5 {
+        *cell = match place.wrapping_add(start) % 5 {
             0 | 3 => Symbol::Zero,
             1 | 4 => Symbol::One,
             _ => Symbol::Unknown,

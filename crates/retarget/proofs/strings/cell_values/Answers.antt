@@ -1,9 +1,9 @@
 use Rattle.std.proofs.Common.{◌≡◌, ◌++◌, ◌<◌, ℕ, arith, List, Bool, Option, None, sym, ap, ◌∙◌, subst, get_or, length, [], drop, take}
-use Rattle.std.proofs.lemmas.List.{get_or_read, take_at, length-append}
+use Rattle.std.proofs.lemmas.List.{get_or_read, take_at}
 use Rattle.stil_tester.specs.declared.chains.ChainBits.{ChainBits}
 use Rattle.retarget.specs.Places.{chain_at, no_bits, bits_at}
 use Rattle.retarget.specs.Sides.{text_of, parity_at, HasParities}
-use Rattle.retarget.proofs.Values.{AreDone, chain_apart, bit_within, values_more}
+use Rattle.retarget.proofs.Values.{chain_apart, bit_within, values_more}
 use Rattle.retarget.proofs.strings.cell_values.Goals as goal
 
 pub put_characters-requires-clause-within : goal.put_characters-requires-clause-within

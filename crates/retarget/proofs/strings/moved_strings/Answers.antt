@@ -3,7 +3,7 @@ use Rattle.std.specs.Prelude.{is_some}
 use Rattle.std.proofs.lemmas.List.{get_or_read, length_push}
 use Rattle.stil_tester.specs.declared.chains.ChainBits.{ChainBits}
 use Rattle.retarget.specs.Places.{chain_at, no_bits, bits_at}
-use Rattle.retarget.specs.Sides.{parity_at, HasParities, IsMoved}
+use Rattle.retarget.specs.Sides.{parity_at, HasParities}
 use Rattle.retarget.proofs.SameMeaning.{bits_within}
 use Rattle.retarget.proofs.Values.{bit_within}
 use Rattle.retarget.proofs.Moved.{IsMoved-from, moved_more}
