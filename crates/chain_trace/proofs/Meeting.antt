@@ -1,6 +1,6 @@
 -- A trace that has met a sink: one more step, its end, and what each fault excludes.
 use Rattle.std.proofs.Common.{◌≡◌, ◌≢◌, ℕ, ◌+◌, ◌-◌, ◌<◌, ◌≤◌, List, [], ◌∷◌, ◌++◌, length, get_or, ◌⊎◌, inl, inr, refl, sym, ap, ◌∙◌, subst, arith}
-use Rattle.std.specs.Prelude.{reverse}
+use Rattle.std.specs.Prelude.{reverse, Result, Ok, Err}
 use Rattle.std.proofs.lemmas.Bool.{cases_lt}
 use Rattle.std.proofs.lemmas.List.{length-append, length-reverse, get_or-reverse, get_or_append_left, get_or_at, get_or_default, length_push}
 use Rattle.netlist_core.specs.declared.netlist.NetId.{NetId}
@@ -13,7 +13,13 @@ use Rattle.chain_trace.specs.declared.path.Source.TheVariants as sources
 use Rattle.chain_trace.specs.declared.path.Sink.{Sink}
 use Rattle.chain_trace.specs.declared.path.Sink.TheVariants as sinks
 use Rattle.chain_trace.specs.Paths.{Feeds, IsOnlySource, Leads, AreOfOnePath, StandOnce, IsScanPath}
-use Rattle.chain_trace.specs.Faults.{Meets, IsMet, HasNoSource, HasTwoSources, IsAmong}
+use Rattle.chain_trace.specs.Faults.{Meets, IsMet, HasNoSource, HasTwoSources, IsAmong, IsTraceFault, IfFault}
+use Rattle.chain_trace.specs.Drivers.{Says}
+use Rattle.chain_trace.specs.declared.drivers.Found.{Found}
+use Rattle.chain_trace.specs.declared.drivers.Found.TheVariants.{Only}
+use Rattle.text_scan.specs.declared.fault.Fault.{Fault}
+use Rattle.text_scan.specs.declared.fault.ReadFault.{ReadFault}
+use Rattle.text_scan.specs.declared.fault.ReadFault.TheVariants as faults
 use Rattle.chain_trace.proofs.Unique.{Backs, backs, leads, same_step, not_both}
 
 meets_push : (n : Netlist) (cells : Cells) (steps : List Step) (from sink : Sink) (step : Step)
@@ -150,3 +156,17 @@ pub no_path_loop : (n : Netlist) (cells : Cells) (output : NetId) (steps : List 
 no_path_loop n cells output steps sink step m only again q p =
     let g = path_goes n cells output steps sink q m p in
     again_backs n cells sink steps g.rest step q.input only again (subst StandOnce g.splits (once_reverse q.steps p.once)) g.backs
+
+-- a fault excludes every path
+pub no_path : (n : Netlist) (cells : Cells) (output : NetId) (fault : Fault) → IsTraceFault n cells output fault → (q : Path) → IsScanPath n cells output q → ⊥
+no_path n cells output fault (inl f) q p = no_path_none n cells output f.steps f.sink f.met f.none q p
+no_path n cells output fault (inr (inl f)) q p = no_path_two n cells output f.steps f.sink f.met f.two q p
+no_path n cells output fault (inr (inr f)) q p = no_path_loop n cells output f.steps f.sink f.step f.met f.only f.again q p
+
+pub fault_then : {X : Type 0} (r : Result X ReadFault) (P Q : Fault → Type 0) → ((fault : Fault) → P fault → Q fault) → IfFault r P → IfFault r Q
+fault_then (Ok x) P Q f h = h
+fault_then (Err (faults.Fault fault)) P Q f h = f fault h
+fault_then (Err faults.NoMemory) P Q f h = h
+
+pub source_of : (n : Netlist) (cells : Cells) (sink : Sink) (found : Found) (source : Source) → found ≡ Only source → Says n cells sink found → IsOnlySource n cells source sink
+source_of n cells sink found source e says = subst (Says n cells sink) e says

@@ -1,3 +1,4 @@
 pub mod Paths
 pub mod Parities
 pub mod Faults
+pub mod Drivers

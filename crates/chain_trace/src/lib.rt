@@ -6,10 +6,15 @@
 #![tactic(auto)]
 
 mod bits;
+mod drivers;
 mod entry;
 mod laws;
+mod lines;
 mod path;
+mod tracing;
+mod walking;
 
 pub use bits::bits_of;
 pub use laws::path_law;
 pub use path::{BitId, Path, PathBits, Sink, Source, Step};
+pub use tracing::trace;
