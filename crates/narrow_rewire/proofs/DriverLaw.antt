@@ -107,9 +107,9 @@ step_at [] n net d i = absurd i
 step_at (s ∷ all) n net d i =
     let later : IsIn (net, d) (step_drives (n + 1) all) → StepAt (s ∷ all) n net d
     = λ j.
-      let r = step_at all (n + 1) net d j in
-      let k : n + 1 + r.index ≡ n + suc r.index = omega arith in
-      record { index = suc r.index; step = r.step; there = r.there; drives = r.drives; is = r.is ∙ ap (λ (m : ℕ). drivers.Step m) k }
+    let r = step_at all (n + 1) net d j in
+    let k : n + 1 + r.index ≡ n + suc r.index = omega arith in
+    record { index = suc r.index; step = r.step; there = r.there; drives = r.drives; is = r.is ∙ ap (λ (m : ℕ). drivers.Step m) k }
     in
     let cases : (o : Option (List ℕ)) → s.output ≡ o → IsIn (net, d) (step_drive n o ++ step_drives (n + 1) all) → StepAt (s ∷ all) n net d
     = λ o. elim o as (λ o. s.output ≡ o → IsIn (net, d) (step_drive n o ++ step_drives (n + 1) all) → StepAt (s ∷ all) n net d) [
@@ -248,8 +248,14 @@ module _ (out : List ℕ) (m : Module) (w : Rewire) (n : Narrow out m) where
       let o = step_from m w s i in
       let p = net_pin w.out_pin o.instance.connections net (ap (λ (y : Step). y.output) (sym o.is) ∙ e) in
       record {
-        instance = o.instance; connection = p.connection; there = o.there; of_cell = o.of_cell; named = ap (λ (y : Step). y.name) (sym o.is);
-        wired = p.there; by_pin = p.by_pin; on = p.on;
+        instance = o.instance;
+        connection = p.connection;
+        there = o.there;
+        of_cell = o.of_cell;
+        named = ap (λ (y : Step). y.name) (sym o.is);
+        wired = p.there;
+        by_pin = p.by_pin;
+        on = p.on;
       }
 
   pub step_in_pin : (s : Step) (net : List ℕ) → IsIn s all → s.input ≡ Some net → IsPinOn m w.cell w.in_pin s.name net
@@ -257,8 +263,14 @@ module _ (out : List ℕ) (m : Module) (w : Rewire) (n : Narrow out m) where
       let o = step_from m w s i in
       let p = net_pin w.in_pin o.instance.connections net (ap (λ (y : Step). y.input) (sym o.is) ∙ e) in
       record {
-        instance = o.instance; connection = p.connection; there = o.there; of_cell = o.of_cell; named = ap (λ (y : Step). y.name) (sym o.is);
-        wired = p.there; by_pin = p.by_pin; on = p.on;
+        instance = o.instance;
+        connection = p.connection;
+        there = o.there;
+        of_cell = o.of_cell;
+        named = ap (λ (y : Step). y.name) (sym o.is);
+        wired = p.there;
+        by_pin = p.by_pin;
+        on = p.on;
       }
 
   -- an instance of the cell with a pin on a net is a step

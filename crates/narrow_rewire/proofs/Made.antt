@@ -57,10 +57,10 @@ slot_made o c span net new =
     = λ t. elim t as (λ t. is_net new net ≡ t → Made (cond t [] (record { span = span; text = new } ∷ [])) (Slot o span (net_texts net) c ∷ []) (Slot o span (new ∷ []) c ∷ [])) [
       | true ↦ λ e. record { made = Slot o span (net_texts net) c ∷ []; edits = refl; same = λ w. ap (λ (ws : List (List ℕ)). Slot o span ws c ∷ []) (net_is new net e) }
       | false ↦ λ e. record {
-          made = Slot o span (texts new) c ∷ [];
-          edits = edit_one o c (record { span = span; text = new }) (net_texts net);
-          same = λ w. ap (λ (ws : List (List ℕ)). Slot o span ws c ∷ []) w.0;
-        }
+        made = Slot o span (texts new) c ∷ [];
+        edits = edit_one o c (record { span = span; text = new }) (net_texts net);
+        same = λ w. ap (λ (ws : List (List ℕ)). Slot o span ws c ∷ []) w.0;
+      }
     ]
     in cases (is_net new net) refl
 

@@ -171,10 +171,10 @@ apart_new before [] each apart = refl
 apart_new before (x ∷ xs) each apart =
     true_and (not (has x before)) (are_new (before ++ x ∷ []) xs) (not_true (has x before) (λ e. each x (inl refl) (has_in x before e)))
     (apart_new (before ++ x ∷ []) xs
-      (λ y i j. elim (in_split y before (x ∷ []) j) [
-        | inl a ↦ each y (inr i) a
-        | inr b ↦ elim b [ inl is ↦ apart.0 (subst (λ (u : List ℕ). IsIn u xs) is i) | inr none ↦ absurd none ]
-      ]) apart.1)
+    (λ y i j. elim (in_split y before (x ∷ []) j) [
+      | inl a ↦ each y (inr i) a
+      | inr b ↦ elim b [ inl is ↦ apart.0 (subst (λ (u : List ℕ). IsIn u xs) is i) | inr none ↦ absurd none ]
+    ]) apart.1)
 
 pub apart_distinct : (xs : List (List ℕ)) → AreApart xs → are_distinct xs ≡ true
 apart_distinct xs apart = apart_new [] xs (λ x i j. j) apart

@@ -95,9 +95,12 @@ module _ (pin : List ℕ) where
       → (d : Connection) × IsIn d (rewired_instance pin o i).connections × (d.pin ≡ pin) × (d.net ≡ Some new)
   connection_fed None new i c e there is = absurd cc
   connection_fed (Some other) new i c e there is =
-      let same : other ≡ new = cc in
-      (rewired_connection pin other c, in_map (rewired_connection pin other) i.connections c there, is,
-      ap (λ (t : Bool). cond t (Some other) c.net) (name_same c.pin pin is) ∙ ap (λ (x : List ℕ). Some x) same)
+      let same : other ≡ new = cc in (
+        rewired_connection pin other c,
+        in_map (rewired_connection pin other) i.connections c there,
+        is,
+        ap (λ (t : Bool). cond t (Some other) c.net) (name_same c.pin pin is) ∙ ap (λ (x : List ℕ). Some x) same,
+      )
 
   cell_kept : (o : Option (List ℕ)) (i : Instance) → (rewired_instance pin o i).cell ≡ i.cell
   cell_kept None i = refl
@@ -226,9 +229,10 @@ module _ (m : Module) (w : Rewire) where
       order_leads x from (u ∷ us) a found units end =
           let is = units u (inl refl) in
           let q = unit m w n good f u is in
-          let pin = to_pin w.in_pin u from (pin_fed u q.old from found.0 q.pin) in
-          (alone_cell w.scan_out r.value w valued x u from (alone_new x from a) pin,
-          order_leads (FromCell u) (or_nil (lookup all u)) us (unit_out m w n good f u is) found.1 (λ v i. units v (inr i)) end)
+          let pin = to_pin w.in_pin u from (pin_fed u q.old from found.0 q.pin) in (
+            alone_cell w.scan_out r.value w valued x u from (alone_new x from a) pin,
+            order_leads (FromCell u) (or_nil (lookup all u)) us (unit_out m w n good f u is) found.1 (λ v i. units v (inr i)) end,
+          )
 
       pub new_path : IsScanPath r.value w w.units
       new_path = record {

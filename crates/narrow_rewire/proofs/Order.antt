@@ -82,9 +82,10 @@ all_found all from (u ∷ us) a =
     let later = all_found all (or_nil (lookup all u)) us a.1 in
     let other : (v : List ℕ) → IsIn v us → bytes_eq u v ≡ false
     = λ v i. elim (names u v) [ Same is ↦ absurd (a.0 (subst (λ (x : List ℕ). IsIn x us) (sym is) i)) | Other other no_is ↦ other ]
-    in
-    (ap (λ (t : Bool). cond t (Some from) (lookup (feeds all (or_nil (lookup all u)) us) u)) (name_same u u refl),
-    found_more (u, from) (feeds all (or_nil (lookup all u)) us) all (or_nil (lookup all u)) us other later)
+    in (
+      ap (λ (t : Bool). cond t (Some from) (lookup (feeds all (or_nil (lookup all u)) us) u)) (name_same u u refl),
+      found_more (u, from) (feeds all (or_nil (lookup all u)) us) all (or_nil (lookup all u)) us other later,
+    )
 
 -- who is fed is a unit
 pub fed_unit : (all : List Pair) (from : List ℕ) (us : List (List ℕ)) (name new : List ℕ) → lookup (feeds all from us) name ≡ Some new → IsIn name us

@@ -156,13 +156,13 @@ module _ (m : Module) (w : Rewire) (n : Narrow w.scan_out m) where
       let h = pin_step w.scan_out m w n w.in_pin u c.net c.pin in
       let here : BackOf (FromCell u) (u ∷ us)
       = λ net k a less.
-        elim (k) as (λ k. length (u ∷ us) < k → goes k net ≡ Some (u ∷ us)) [
-          | zero ↦ λ less. absurd (omega arith)
-          | suc j ↦ λ less.
-              let d = source_driver w.scan_out m w n net (FromCell u) a in
-              let step : driver_back (goes j) all w.scan_in net (found net) ≡ Some (u ∷ us) = by_cell j net u d.driver d.by d.is c.net us (back c.net j c.alone (omega arith)) h.step h.named h.there (ap (λ (y : Step). y.input) h.is ∙ h.net_is) in
-              step
-        ] less
+      elim (k) as (λ k. length (u ∷ us) < k → goes k net ≡ Some (u ∷ us)) [
+        | zero ↦ λ less. absurd (omega arith)
+        | suc j ↦ λ less.
+            let d = source_driver w.scan_out m w n net (FromCell u) a in
+            let step : driver_back (goes j) all w.scan_in net (found net) ≡ Some (u ∷ us) = by_cell j net u d.driver d.by d.is c.net us (back c.net j c.alone (omega arith)) h.step h.named h.there (ap (λ (y : Step). y.input) h.is ∙ h.net_is) in
+            step
+      ] less
       in
       let more = complete (FromCell u) path (u ∷ us) leads.1 here most (omega arith) in
       more ∙ ap (λ (l : List (List ℕ)). Some l) (sym (append_assoc (back_of path) (u ∷ []) us))
@@ -213,10 +213,10 @@ no_more [] ys a each = omega arith
 no_more (x ∷ xs) ys a each =
     let s = split_at x ys (each x (inl refl)) in
     let more = no_more xs (s.front ++ s.behind) a.1
-        (λ y i. elim (in_split y s.front (x ∷ s.behind) (subst (IsIn y) s.is (each y (inr i)))) [
-          | inl j ↦ in_left y s.front s.behind j
-          | inr j ↦ elim j [ inl is ↦ absurd (a.0 (subst (λ (u : List ℕ). IsIn u xs) is i)) | inr k ↦ in_right y s.front s.behind k ]
-        ]) in
+    (λ y i. elim (in_split y s.front (x ∷ s.behind) (subst (IsIn y) s.is (each y (inr i)))) [
+      | inl j ↦ in_left y s.front s.behind j
+      | inr j ↦ elim j [ inl is ↦ absurd (a.0 (subst (λ (u : List ℕ). IsIn u xs) is i)) | inr k ↦ in_right y s.front s.behind k ]
+    ]) in
     let l = ap length s.is in
     let p = length-append s.front (x ∷ s.behind) in
     let q = length-append s.front s.behind in
@@ -281,7 +281,7 @@ true_fits m w n f =
     let is : traced_back m w ≡ Some back = path_traced m w n f.path f.is.leads (suc (length w.units)) (omega arith) in
     ap (are_units w.units) is
     ∙ true_and (are_distinct w.units && are_distinct back && have_all back w.units) (have_all w.units back)
-        (true_and (are_distinct w.units && are_distinct back) (have_all back w.units)
-          (true_and (are_distinct w.units) (are_distinct back) (apart_distinct w.units units) (apart_distinct back (apart_back f.path path)))
-          (each_have back w.units (λ x i. in_back x f.path (to x i))))
-        (each_have w.units back (λ x i. from x (back_in x f.path i)))
+    (true_and (are_distinct w.units && are_distinct back) (have_all back w.units)
+    (true_and (are_distinct w.units) (are_distinct back) (apart_distinct w.units units) (apart_distinct back (apart_back f.path path)))
+    (each_have back w.units (λ x i. in_back x f.path (to x i))))
+    (each_have w.units back (λ x i. from x (back_in x f.path i)))

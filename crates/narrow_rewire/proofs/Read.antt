@@ -139,9 +139,8 @@ record GetsList {X Y : Type 0} (item : List Token → Option (X × List Token)) 
   pub texts : token_texts behind ≡ ws
 
 module _ {X Y : Type 0} (item : List Token → Option (X × List Token)) (bare : X → Y) (parts : X → List Part) (Good : X → Type 0)
-  (law : (x : X) (ws : List (List ℕ)) (ts : List Token) → Good x → token_texts ts ≡ spelled (parts x) ++ ws → Gets item bare x ws ts)
-  (closing : ℕ) (apart : eqb closing 44 ≡ false) where
-
+    (law : (x : X) (ws : List (List ℕ)) (ts : List Token) → Good x → token_texts ts ≡ spelled (parts x) ++ ws → Gets item bare x ws ts)
+    (closing : ℕ) (apart : eqb closing 44 ≡ false) where
   comma-gets : (ws : List (List ℕ)) (ts : List Token) → (f : First (44 ∷ []) ws ts) → goes_on_at closing ts ≡ Some (true, f.behind)
   unfolding goes_on_at
   comma-gets ws ts f = rw (f.is, f.text) refl
@@ -259,10 +258,9 @@ free w good =
 
 -- items up to a closing parenthesis, also none
 module _ {X Y : Type 0} (item : List Token → Option (X × List Token)) (bare_item : X → Y) (parts : X → List Part) (Good : X → Type 0)
-  (law : (x : X) (ws : List (List ℕ)) (ts : List Token) → Good x → token_texts ts ≡ spelled (parts x) ++ ws → Gets item bare_item x ws ts)
-  (open_no : (x : X) (ws : List (List ℕ)) (ts : List Token) (t : Token) → Good x → token_texts (t ∷ ts) ≡ spelled (parts x) ++ ws → bytes_eq t.text (41 ∷ []) ≡ false)
-  (some : (x : X) (ws : List (List ℕ)) → Good x → [] ≡ spelled (parts x) ++ ws → ⊥) where
-
+    (law : (x : X) (ws : List (List ℕ)) (ts : List Token) → Good x → token_texts ts ≡ spelled (parts x) ++ ws → Gets item bare_item x ws ts)
+    (open_no : (x : X) (ws : List (List ℕ)) (ts : List Token) (t : Token) → Good x → token_texts (t ∷ ts) ≡ spelled (parts x) ++ ws → bytes_eq t.text (41 ∷ []) ≡ false)
+    (some : (x : X) (ws : List (List ℕ)) → Good x → [] ≡ spelled (parts x) ++ ws → ⊥) where
   abbrev Cut : X → List X → List (List ℕ) → Type 0
   Cut x xs ws = (rest : List (List ℕ)) × (spelled (list_parts parts 41 (x ∷ xs)) ++ ws ≡ spelled (parts x) ++ rest)
 

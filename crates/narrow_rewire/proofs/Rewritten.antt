@@ -154,7 +154,7 @@ rewritten text m w d fits =
     let written = spliced text (edits m w) in
     let spelled_so : texts written ≡ spelled (module_parts (rewired m w))
     = written_spelled text (edits m w) (module_parts m) made.made (marked_module m) (each_map IsNamed (λ (e : Edit). IsReady e.text) (edits m w) (λ e g. name_ready e.text g) named) d.spells.fits made.edits
-        ∙ ap spelled (made.same (each_map IsNamed IsWord (edits m w) (λ e g. name_word e.text g) named))
+    ∙ ap spelled (made.same (each_map IsNamed IsWord (edits m w) (λ e g. name_word e.text g) named))
     in
     let rewired_good : IsGoodModule (rewired m w)
     = record { name = good.name; ports = good.ports; statements = statements_good w.in_pin (fed_by m w) (last_by m w) m.statements are_names end.name good.statements }
@@ -162,6 +162,6 @@ rewritten text m w d fits =
     let got = module-gets (rewired m w) (tokens_of written (verilog_tokens written)) rewired_good (tokens_texts written ∙ spelled_so) in
     let rules : keeps_rules w.scan_out got.value ≡ true
     = sym (rules_bare w.scan_out got.value) ∙ ap (keeps_rules w.scan_out) got.same ∙ rules_bare w.scan_out (rewired m w)
-        ∙ rules_new w.scan_out w.in_pin (fed_by m w) (last_by m w) m (λ name net e. (new name net e).apart) end.apart d.rules
+    ∙ rules_new w.scan_out w.in_pin (fed_by m w) (last_by m w) m (λ name net e. (new name net e).apart) end.apart d.rules
     in
     record { value = got.value; is = reads w.scan_out written got.value got.is rules; rules = rules; same = got.same }

@@ -85,19 +85,40 @@ net-slot o c More ts (t ∷ us) vs r first e close f =
     (λ name k.
     let is = same_Some _ _ k in
     subst (λ (r : Net). Took (c ∷ []) vs r.1 → FitsSlot o r.0.1 (net_texts r.0.0) c ts More × IsGoodNet r.0.0) is
-    (λ close. (record {
-      mark = first.token; run = t ∷ []; next = close.token; behind = vs; is = first.is ∙ ap (λ (l : List Token). first.token ∷ t ∷ l) close.is;
-      opens = first.text; closes = close.text; texts = refl; placed = (refl, refl); more = f;
-    }, name)) close)
+    (λ close. (
+      record {
+        mark = first.token;
+        run = t ∷ [];
+        next = close.token;
+        behind = vs;
+        is = first.is ∙ ap (λ (l : List Token). first.token ∷ t ∷ l) close.is;
+        opens = first.text;
+        closes = close.text;
+        texts = refl;
+        placed = (refl, refl);
+        more = f;
+      },
+      name,
+    )) close)
     (λ no k.
     let is = same_Some _ _ k in
     subst (λ (r : Net). Took (c ∷ []) vs r.1 → FitsSlot o r.0.1 (net_texts r.0.0) c ts More × IsGoodNet r.0.0) is
     (λ close.
-    let same : t ≡ close.token = let k = close.is in cc in
-    (record {
-      mark = first.token; run = []; next = close.token; behind = vs; is = first.is ∙ ap (λ (l : List Token). first.token ∷ l) close.is;
-      opens = first.text; closes = close.text; texts = refl; placed = (ap (λ (t : Token). t.start) same, ap (λ (t : Token). t.start) same); more = f;
-    }, tt)) close)
+    let same : t ≡ close.token = let k = close.is in cc in (
+      record {
+        mark = first.token;
+        run = [];
+        next = close.token;
+        behind = vs;
+        is = first.is ∙ ap (λ (l : List Token). first.token ∷ l) close.is;
+        opens = first.text;
+        closes = close.text;
+        texts = refl;
+        placed = (ap (λ (t : Token). t.start) same, ap (λ (t : Token). t.start) same);
+        more = f;
+      },
+      tt,
+    )) close)
 
 placed-slot : (o c : ℕ) (More : List Token → Type 0) (ts us vs : List Token) (r : (List ℕ × Span) × List Token) → Took (o ∷ []) us ts → placed_name_at us ≡ Some r → Took (c ∷ []) vs r.1 → More vs
     → FitsSlot o r.0.1 (r.0.0 ∷ []) c ts More × IsName r.0.0
@@ -106,10 +127,21 @@ placed-slot o c More ts [] vs r first e close f = absurd cc
 placed-slot o c More ts (t ∷ us) vs r first e close f =
     let k = cond_some (is_name t.text) ((t.text, record { start = t.start; end = t.end }), us) r e in
     subst (λ (r : (List ℕ × Span) × List Token). Took (c ∷ []) vs r.1 → FitsSlot o r.0.1 (r.0.0 ∷ []) c ts More × IsName r.0.0) k.1
-    (λ close. (record {
-      mark = first.token; run = t ∷ []; next = close.token; behind = vs; is = first.is ∙ ap (λ (l : List Token). first.token ∷ t ∷ l) close.is;
-      opens = first.text; closes = close.text; texts = refl; placed = (refl, refl); more = f;
-    }, k.0)) close
+    (λ close. (
+      record {
+        mark = first.token;
+        run = t ∷ [];
+        next = close.token;
+        behind = vs;
+        is = first.is ∙ ap (λ (l : List Token). first.token ∷ t ∷ l) close.is;
+        opens = first.text;
+        closes = close.text;
+        texts = refl;
+        placed = (refl, refl);
+        more = f;
+      },
+      k.0,
+    )) close
 
 connection-spells : (ts : List Token) (r : Connection × List Token) → connection_at ts ≡ Some r → Spells connection_parts IsGoodConnection r.0 r.1 ts
 unfolding connection_at
@@ -142,7 +174,7 @@ more_parts parts closing x [] some = absurd (omega arith)
 more_parts parts closing x (y ∷ ys) some = refl
 
 module _ {X : Type 0} (item : List Token → Option (X × List Token)) (parts : X → List Part) (Good : X → Type 0)
-  (law : (ts : List Token) (r : X × List Token) → item ts ≡ Some r → Spells parts Good r.0 r.1 ts) (closing : ℕ) where
+    (law : (ts : List Token) (r : X × List Token) → item ts ≡ Some r → Spells parts Good r.0 r.1 ts) (closing : ℕ) where
   within-spells : (n : ℕ) (ts : List Token) (r : List X × List Token) → list_within item closing n ts ≡ Some r → SpellsList parts Good closing r.0 r.1 ts
   unfolding list_within
   within-spells zero ts r e = absurd cc

@@ -29,8 +29,7 @@ back_more front name (Some x) = ap (λ (xs : Names). Some xs) (sym (append_assoc
 back_more front name None = refl
 
 module _ (find : List ℕ → Option Driver) (all : List Step) (from : List ℕ) (most k : ℕ) (front : Names) (net : List ℕ) (total : Option Names) (lt : k < most)
-  (so_far : with_back front (traced find all from (most - k) net) ≡ total) where
-
+    (so_far : with_back front (traced find all from (most - k) net) ≡ total) where
   abbrev back : List ℕ → Option Names
   back = traced find all from (most - (k + 1))
 

@@ -42,10 +42,7 @@ pub fn net_beside<'a>(nets: &HashMap<&'a [u8], &'a [u8]>, name: &'a [u8]) -> Opt
 }
 
 /// Each step's out net.
-fn outs_of<'a>(
-    alloc: Global,
-    steps: &[Step<'a>],
-) -> Result<HashMap<&'a [u8], &'a [u8]>, NoMemory>
+fn outs_of<'a>(alloc: Global, steps: &[Step<'a>]) -> Result<HashMap<&'a [u8], &'a [u8]>, NoMemory>
     ensures value { IfOk result (λ nets. (q : Bor (List ℕ)) → option_map (λ n. n.now) (get (λ x y. bytes_eq x.now y.now) nets q) ≡ lookup (outs steps.now) q.now) }
 {
     let mut nets = HashMap::new(alloc);

@@ -35,10 +35,7 @@ pub struct Assign {
 /// A statement of a module.
 #[derive(Debug, Drop)]
 pub enum Statement {
-    Declare {
-        kind: Declared,
-        names: Rows<Name>,
-    },
+    Declare { kind: Declared, names: Rows<Name> },
     Assign(Assign),
     Instance(Instance),
 }

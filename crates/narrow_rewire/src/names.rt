@@ -97,11 +97,7 @@ fn set_of<'a>(alloc: Global, names: &[&'a [u8]]) -> Result<HashSet<&'a [u8]>, No
     Ok(set)
 }
 
-fn shared<'a>(
-    alloc: Global,
-    names: &[&'a [u8]],
-    others: &[&'a [u8]],
-) -> Result<Names<'a>, NoMemory>
+fn shared<'a>(alloc: Global, names: &[&'a [u8]], others: &[&'a [u8]]) -> Result<Names<'a>, NoMemory>
     ensures value { IfOk result (λ found. found ≡ filter (λ name. has name (now_of others.now)) (now_of names.now)) }
 {
     let set = set_of(alloc, others)?;
@@ -126,11 +122,7 @@ fn are_distinct(alloc: Global, names: &[&[u8]]) -> Result<bool, NoMemory>
     Ok(true)
 }
 
-fn have_all<'a>(
-    alloc: Global,
-    names: &[&'a [u8]],
-    others: &[&'a [u8]],
-) -> Result<bool, NoMemory>
+fn have_all<'a>(alloc: Global, names: &[&'a [u8]], others: &[&'a [u8]]) -> Result<bool, NoMemory>
     ensures value { IfOk result (λ all. all ≡ have_all (now_of names.now) (now_of others.now)) }
 {
     let set = set_of(alloc, names)?;

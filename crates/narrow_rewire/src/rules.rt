@@ -134,8 +134,10 @@ fn keeps_out(alloc: Global, out: &[u8], statement: &Statement) -> Result<bool, N
     match statement {
         Statement::Declare { .. } => Ok(true),
         Statement::Assign(assign) => Ok(assign.left.bytes() == out && assign.right.bytes() != out),
-        Statement::Instance(instance) => Ok(pins(alloc, instance)?.are_distinct(alloc)?
-            && spare(instance.connections.as_slice(), out)),
+        Statement::Instance(instance) => Ok(
+            pins(alloc, instance)?.are_distinct(alloc)?
+                && spare(instance.connections.as_slice(), out),
+        ),
     }
 }
 
@@ -202,11 +204,13 @@ pub fn keeps_rules(alloc: Global, out: &[u8], read: &Module) -> Result<bool, NoM
     ensures value { IfOk result (λ keeps. keeps ≡ keeps_rules out.now read.now) }
 {
     let statements = read.statements.as_slice();
-    Ok(keep_out(alloc, out, statements)?
-        && assign_count(statements) == 1
-        && has(read.ports.as_slice(), out)
-        && has_output(statements, out)
-        && is_header_declared(alloc, read)?
-        && declared(alloc, statements)?.are_distinct(alloc)?
-        && instance_names(alloc, statements)?.are_distinct(alloc)?)
+    Ok(
+        keep_out(alloc, out, statements)?
+            && assign_count(statements) == 1
+            && has(read.ports.as_slice(), out)
+            && has_output(statements, out)
+            && is_header_declared(alloc, read)?
+            && declared(alloc, statements)?.are_distinct(alloc)?
+            && instance_names(alloc, statements)?.are_distinct(alloc)?,
+    )
 }

@@ -8,20 +8,26 @@ const HEAD: &[u8] = b"module top ( clk, se, si, so, d0, d1, d2 );
   output so;
   wire qa, qb, qc;
 ";
+
 const A: &[u8] = b"  SDF a ( .D(d0), .CK(clk), .SE(se), .SI(si), .Q(qa) );
 ";
+
 const B: &[u8] = b"  SDF b ( .D(d1), .CK(clk), .SE(se), .SI(qa), .Q(qb) );
 ";
+
 const C: &[u8] = b"  SDF c ( .D(d2), .CK(clk), .SE(se), .SI(qb), .Q(qc) );
 ";
+
 const TAIL: &[u8] = b"  assign so = qc;
 endmodule
 ";
 /// The chain in the order a, c, b.
 const B_LAST: &[u8] = b"  SDF b ( .D(d1), .CK(clk), .SE(se), .SI(qc), .Q(qb) );
 ";
+
 const C_SECOND: &[u8] = b"  SDF c ( .D(d2), .CK(clk), .SE(se), .SI(qa), .Q(qc) );
 ";
+
 const TAIL_B: &[u8] = b"  assign so = qb;
 endmodule
 ";
@@ -71,8 +77,10 @@ fn the_order_of_the_words(rt: HostRuntime) -> Result<(), Fail> {
     let alloc = rt.alloc();
     let read = joined(alloc, &[HEAD, A, B, C, TAIL])?;
     let swapped = joined(alloc, &[HEAD, A, B_LAST, C_SECOND, TAIL_B])?;
-    let rows: [(&[&[u8]], &[u8], u64); 2] =
-        [(&[b"a", b"c", b"b"], &swapped, 3), (&[b"a", b"b", b"c"], &read, 0)];
+    let rows: [(&[&[u8]], &[u8], u64); 2] = [
+        (&[b"a", b"c", b"b"], &swapped, 3),
+        (&[b"a", b"b", b"c"], &read, 0),
+    ];
     for (units, want, moved) in rows {
         match answer(alloc, &read, units)? {
             Ok(made) => {
@@ -103,7 +111,12 @@ fn refusals(rt: HostRuntime) -> Result<(), Fail> {
         (open_pin, b"", abc, None),
         (A, reader, abc, None),
         (A, b"", &[b"a", b"c"], Some(Kind::NotPermutation)),
-        (A, b"", &[b"a", b"c", b"b", b"a"], Some(Kind::NotPermutation)),
+        (
+            A,
+            b"",
+            &[b"a", b"c", b"b", b"a"],
+            Some(Kind::NotPermutation),
+        ),
         (A, driver, abc, Some(Kind::NotPermutation)),
         (looped, b"", abc, Some(Kind::NotPermutation)),
         (constant, b"", abc, Some(Kind::VerilogSyntax)),

@@ -91,17 +91,26 @@ fn traced_back<'a>(
     let ports = input_ports(alloc, read)?;
     let drivers = drivers_of(alloc, &ports, steps)?;
     let most = units.len() + 1;
-    traced(alloc, &drivers, steps, rewire.scan_in.bytes(), most, right_of(statements))
+    traced(
+        alloc,
+        &drivers,
+        steps,
+        rewire.scan_in.bytes(),
+        most,
+        right_of(statements),
+    )
 }
 
 /// Whether the names are those of a list, each once.
 fn rearranges<'a>(alloc: Global, names: &Names<'a>, others: &Names<'a>) -> Result<bool, NoMemory>
     ensures value { IfOk result (λ is. is ≡ rearranges names.now others.now) }
 {
-    Ok(names.are_distinct(alloc)?
-        && others.are_distinct(alloc)?
-        && others.have_all(alloc, names)?
-        && names.have_all(alloc, others)?)
+    Ok(
+        names.are_distinct(alloc)?
+            && others.are_distinct(alloc)?
+            && others.have_all(alloc, names)?
+            && names.have_all(alloc, others)?,
+    )
 }
 
 /// Whether a scan path leads from the scan-in to the scan-out, and the words are its instances, each once.

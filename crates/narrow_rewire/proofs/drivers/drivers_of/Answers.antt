@@ -19,5 +19,5 @@ loop-i-preserved c = λ q.
           ap (λ m. get (λ x y. bytes_eq x.now y.now) m q) w.drivers-is
           ∙ c.loop-i.invariant q
           ∙ ap (λ (ds : List Drive). driver ds q.now)
-              (sym (append-nil _) ∙ step_more c.args.ports.now c.args.steps.now c.loop-i.i c.index-steps-i.result None c.loop-i-test.true (w.in_default.ensures.value ∙ here))
+          (sym (append-nil _) ∙ step_more c.args.ports.now c.args.steps.now c.loop-i.i c.index-steps-i.result None c.loop-i-test.true (w.in_default.ensures.value ∙ here))
     ]
