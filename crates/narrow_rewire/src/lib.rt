@@ -20,3 +20,6 @@ mod trace;
 pub use laws::{form_law, path_law};
 pub use module::{Assign, Connection, Declared, Instance, Module, Statement};
 pub use rewire::{Rewire, Rewired, rewire_text};
+
+#[cfg(test)]
+mod tests;
