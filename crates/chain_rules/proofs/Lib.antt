@@ -9,3 +9,4 @@ pub mod Steps
 pub mod Lasts
 pub mod Moved
 pub mod Swapped
+pub mod Stretched

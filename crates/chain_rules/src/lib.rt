@@ -6,11 +6,13 @@
 #![tactic(auto)]
 
 mod ends;
+mod index;
 mod legal;
 mod moves;
 pub mod plain;
 mod plan;
 mod spec;
+mod stretch;
 mod unit;
 
 pub use moves::{can_move, can_swap};
