@@ -10,3 +10,4 @@ pub mod Lasts
 pub mod Moved
 pub mod Swapped
 pub mod Stretched
+pub mod Meeting

@@ -2,14 +2,16 @@
 use Rattle.std.proofs.Common.{◌≡◌, ℕ, ◌+◌, ◌-◌, ◌<◌, ◌≤◌, List, [], ◌∷◌, ◌++◌, length, get_or, All, Contains, refl, sym, ◌∙◌, ap, subst, arith, zero, suc, Some, None, Option}
 use Rattle.std.specs.List.{flat_map}
 use Rattle.std.proofs.lemmas.List.{get_or_default}
-use Rattle.std.proofs.lemmas.List.Elements.{All-contains, All-append, All-cons, All-nil, All-head, All-tail, Contains-append_left, Contains-append_right}
+use Rattle.std.proofs.lemmas.List.Elements.{All-contains, All-append, All-cons, All-nil, All-head, All-tail, Contains-append_left, Contains-append_right, Contains-get_or}
 use Rattle.chain_rules.specs.declared.spec.StepSpec.{StepSpec}
 use Rattle.chain_rules.specs.declared.spec.PathSpec.{PathSpec}
 use Rattle.chain_rules.specs.declared.spec.EndSpec.{EndSpec}
 use Rattle.chain_rules.specs.declared.spec.EndSpec.TheVariants.{Port, Cell}
 use Rattle.chain_rules.specs.declared.spec.ElementSpec.{ElementSpec}
+use Rattle.chain_rules.specs.declared.spec.ListSpec.{ListSpec}
+use Rattle.chain_rules.specs.declared.spec.ListSpec.TheVariants.{Ordered}
 use Rattle.chain_rules.specs.declared.spec.ChainSpec.{ChainSpec}
-use Rattle.chain_rules.specs.Stretches.{path_at, step_at, IsOf, Names, elements_in, elements_of, Stretch, IsInside, BeginsAt, EndsAt, StandsIn, IsStretch, IsPlace, StepsOnce, HasStretch}
+use Rattle.chain_rules.specs.Stretches.{path_at, step_at, IsOf, Names, elements_in, elements_of, Stretch, IsInside, BeginsAt, EndsAt, StandsIn, IsStretch, IsPlace, StepsOnce, HasStretch, HasElements, no_element}
 
 -- what holds of each element of each list holds of each element
 pub All-flat_map : {X Y : Type 0} (P : Y → Type 0) (f : X → List Y) (xs : List X) → All (λ x. All P (f x)) xs → All P (flat_map f xs)
@@ -119,3 +121,22 @@ stretch_is paths once chain n f t st b e s is =
 pub no_stretch_outside : (paths : List PathSpec) → StepsOnce paths → (chain : ChainSpec) (n f t : ℕ) → Stands paths chain n → BeginsAt (path_at paths n) chain.start f → EndsAt (path_at paths n) chain.stop t → ¬ All (StandsIn (path_at paths n) (record { path = n; from = f; to = t })) (elements_of chain) → ¬ HasStretch paths chain
 no_stretch_outside paths once chain n f t st b e none (s, is) =
     none (subst (λ (r : Stretch). All (StandsIn (path_at paths r.path) r) (elements_of chain)) (stretch_is paths once chain n f t st b e s is) is.elements)
+
+-- a chain with an element has one stretch at most
+pub stretch_unique : (paths : List PathSpec) → StepsOnce paths → (chain : ChainSpec) (e : ElementSpec) → Contains (elements_of chain) e → (s t : Stretch) → IsStretch paths chain s → IsStretch paths chain t → s ≡ t
+stretch_unique paths once chain e m s t is_s is_t =
+    let stands = All-contains (StandsIn (path_at paths t.path) t) (elements_of chain) e is_t.elements m in
+    stretch_is paths once chain t.path t.from t.to (record { element = e; of_chain = m; place = stands.0; is_place = inside_place paths chain t stands.0 is_t stands.1; names = stands.2 }) is_t.begins is_t.ends s is_s
+
+pub element_of : (chain : ChainSpec) → HasElements chain → (e : ElementSpec) × Contains (elements_of chain) e
+element_of chain has =
+    let list = get_or chain.lists 0 no_list in
+    let some = has.each 0 no_list has.list in
+    let e = get_or (elements_in list) 0 no_element in
+    (e, Contains-flat_map elements_in chain.lists list e (Contains-get_or chain.lists 0 no_list has.list) (Contains-get_or (elements_in list) 0 no_element some))
+  where
+    no_list : ListSpec
+    no_list = Ordered []
+
+pub only_stretch : (paths : List PathSpec) → StepsOnce paths → (chain : ChainSpec) → HasElements chain → (s t : Stretch) → IsStretch paths chain s → IsStretch paths chain t → s ≡ t
+only_stretch paths once chain has s t a b = let e = element_of chain has in stretch_unique paths once chain e.0 e.1 s t a b

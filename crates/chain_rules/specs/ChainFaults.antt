@@ -12,10 +12,15 @@ use Rattle.text_scan.specs.declared.kind.Kind.TheVariants.{NotAStretch, Unlisted
 use Rattle.text_scan.specs.Faults.{number_of}
 use Rattle.chain_rules.specs.Stretches.{path_at, step_at, spec_at, bits_between, Names, groups_of, IsListed, Stretch, IsInside, IsStretch, HasStretch, Disturbs}
 
+-- the stretches of two chains meet, or one holds the other's START or STOP cell
+abbrev pub Meet : List PathSpec → List ChainSpec → ℕ → ℕ → Type 0
+Meet paths chains c d =
+    (d ≢ c) × (Disturbs paths (spec_at chains c) (spec_at chains d) ⊎ Disturbs paths (spec_at chains d) (spec_at chains c))
+
 -- the chain has no stretch, or its stretch and another chain's meet
 abbrev pub IsNotAStretch : List PathSpec → List ChainSpec → ℕ → Type 0
 IsNotAStretch paths chains c =
-    ¬ HasStretch paths (spec_at chains c) ⊎ ((d : ℕ) × (d < length chains) × (d ≢ c) × (Disturbs paths (spec_at chains c) (spec_at chains d) ⊎ Disturbs paths (spec_at chains d) (spec_at chains c)))
+    ¬ HasStretch paths (spec_at chains c) ⊎ ((d : ℕ) × (d < length chains) × Meet paths chains c d)
 
 -- an unlisted step inside the stretch has a bit
 abbrev pub IsUnlistedBits : List PathSpec → ChainSpec → Type 0

@@ -8,6 +8,8 @@
 mod ends;
 mod index;
 mod legal;
+mod marks;
+mod meets;
 mod moves;
 pub mod plain;
 mod plan;
