@@ -11,3 +11,4 @@ pub mod Moved
 pub mod Swapped
 pub mod Stretched
 pub mod Meeting
+pub mod Marking
