@@ -12,3 +12,4 @@ pub mod Swapped
 pub mod Stretched
 pub mod Meeting
 pub mod Marking
+pub mod Listed

@@ -1,10 +1,11 @@
 -- Stretches as the code holds them.
-use Rattle.std.specs.Prelude.{◌≡◌, ℕ, ◌+◌, ◌-◌, ◌<◌, List, [], length, slice_index_or, Option, None, MatchOption}
+use Rattle.std.specs.Prelude.{◌≡◌, ℕ, ◌+◌, ◌-◌, ◌<◌, ◌≤◌, ◌⊎◌, List, [], length, slice_index_or, Option, None, MatchOption}
 use Rattle.chain_rules.specs.declared.stretch.Run.{Run}
+use Rattle.chain_rules.specs.declared.listing.Listing.{Listing}
 use Rattle.chain_rules.specs.declared.spec.PathSpec.{PathSpec}
 use Rattle.chain_rules.specs.declared.spec.ElementSpec.{ElementSpec}
 use Rattle.chain_rules.specs.declared.spec.ChainSpec.{ChainSpec}
-use Rattle.chain_rules.specs.Stretches.{spec_at, step_at, IsInside, IsNamedBy, Stretch, IsStretch, HasStretch}
+use Rattle.chain_rules.specs.Stretches.{spec_at, path_at, step_at, groups_of, Names, no_element, IsInside, IsNamedBy, Stretch, IsStretch, HasStretch}
 
 abbrev pub stretch : Run → Stretch
 stretch run = record { path = run.path; from = run.from; to = run.to }
@@ -29,3 +30,29 @@ pub record AreMarks (path : PathSpec) (s : Stretch) (groups : List (List Element
   pub long : length marks ≡ s.to - s.from
   pub named : (k g : ℕ) → IsInside s k → mark_at s marks k ≡ g + 1 → (g < length groups) × IsNamedBy (slice_index_or groups g []) (step_at path k)
   pub marked : (k g : ℕ) → IsInside s k → g < length groups → IsNamedBy (slice_index_or groups g []) (step_at path k) → 0 < mark_at s marks k
+
+-- the stretch of a chain with its marks
+pub record IsListingOf (paths : List PathSpec) (chain : ChainSpec) (listing : Listing) : Type 0 where
+  pub is_stretch : IsStretch paths chain (stretch listing.run)
+  pub are_marks : AreMarks (path_at paths listing.run.path) (stretch listing.run) (groups_of chain) listing.marks.items
+
+pub record AreListingsOf (paths : List PathSpec) (chains : List ChainSpec) (listings : List Listing) : Type 0 where
+  pub long : length listings ≡ length chains
+  pub each : (c : ℕ) (d : Listing) → c < length chains → IsListingOf paths (spec_at chains c) (slice_index_or listings c d)
+
+-- a step of the stretch without a mark has a bit
+abbrev pub HasUnmarkedBit : PathSpec → Stretch → List ℕ → Type 0
+HasUnmarkedBit path s marks = (k : ℕ) × IsInside s k × (mark_at s marks k ≡ 0) × (0 < (step_at path k).bits)
+
+-- two elements, at places a and b, don't stand in their order with only steps without a mark between
+pub record IsBreakBetween (path : PathSpec) (s : Stretch) (marks : List ℕ) (one other : ElementSpec) (a b : ℕ) : Type 0 where
+  pub first_inside : IsInside s a
+  pub second_inside : IsInside s b
+  pub first : Names one (step_at path a)
+  pub second : Names other (step_at path b)
+  pub broken : (b ≤ a) ⊎ ((k : ℕ) × (a < k) × (k < b) × (0 < mark_at s marks k))
+
+-- two neighbours of the list are so
+abbrev pub HasBreak : PathSpec → Stretch → List ℕ → List ElementSpec → Type 0
+HasBreak path s marks elements =
+    (i : ℕ) × (i + 1 < length elements) × (a : ℕ) × (b : ℕ) × IsBreakBetween path s marks (slice_index_or elements i no_element) (slice_index_or elements (i + 1) no_element) a b

@@ -8,6 +8,7 @@
 mod ends;
 mod index;
 mod legal;
+mod listing;
 mod marks;
 mod meets;
 mod moves;
