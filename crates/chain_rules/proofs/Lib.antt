@@ -13,3 +13,5 @@ pub mod Stretched
 pub mod Meeting
 pub mod Marking
 pub mod Listed
+pub mod Sums
+pub mod Faulty

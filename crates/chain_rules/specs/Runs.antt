@@ -4,6 +4,8 @@ use Rattle.chain_rules.specs.declared.stretch.Run.{Run}
 use Rattle.chain_rules.specs.declared.listing.Listing.{Listing}
 use Rattle.chain_rules.specs.declared.spec.PathSpec.{PathSpec}
 use Rattle.chain_rules.specs.declared.spec.ElementSpec.{ElementSpec}
+use Rattle.chain_rules.specs.declared.spec.ListSpec.{ListSpec}
+use Rattle.chain_rules.specs.declared.spec.ListSpec.TheVariants.{Floating, Ordered}
 use Rattle.chain_rules.specs.declared.spec.ChainSpec.{ChainSpec}
 use Rattle.chain_rules.specs.Stretches.{spec_at, path_at, step_at, groups_of, Names, no_element, IsInside, IsNamedBy, Stretch, IsStretch, HasStretch}
 
@@ -56,3 +58,11 @@ pub record IsBreakBetween (path : PathSpec) (s : Stretch) (marks : List ℕ) (on
 abbrev pub HasBreak : PathSpec → Stretch → List ℕ → List ElementSpec → Type 0
 HasBreak path s marks elements =
     (i : ℕ) × (i + 1 < length elements) × (a : ℕ) × (b : ℕ) × IsBreakBetween path s marks (slice_index_or elements i no_element) (slice_index_or elements (i + 1) no_element) a b
+
+-- an ORDERED list is so
+abbrev pub ListHasBreak : PathSpec → Stretch → List ℕ → ListSpec → Type 0
+ListHasBreak path s marks (Floating elements) = ⊥
+ListHasBreak path s marks (Ordered elements) = HasBreak path s marks elements
+
+abbrev pub no_list : ListSpec
+no_list = Floating []

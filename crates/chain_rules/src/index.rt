@@ -1,6 +1,6 @@
 //! Where the scan paths of instances stand on the read paths.
-ghost use Rattle.std.specs.Prelude.{◌≡◌, ◌<◌, ◌↔◌, ℕ, length, IsTrue, IfSome, IfNone};
-ghost use Rattle.chain_rules.specs.Stretches.{path_at, step_at, IsOf, IsPlace, LeavesBy};
+ghost use Rattle.std.specs.Prelude.{◌≡◌, ◌^◌, ◌<◌, ◌≤◌, ◌↔◌, ℕ, length, sum_by, IsTrue, IfSome, IfNone};
+ghost use Rattle.chain_rules.specs.Stretches.{path_at, step_at, bits_between, IsOf, IsPlace, LeavesBy};
 
 use crate::spec::{PathSpec, StepSpec};
 use std::marker::Model;
@@ -40,6 +40,26 @@ impl<'a> Index<'a> {
         self.paths
     }
 
+    // The steps of a path.
+    pub fn steps(&self, path: usize) -> &[StepSpec]
+        requires path { path < length self.now }
+        ensures value { result.now ≡ (path_at self.now path).steps }
+    {
+        let paths = self.paths;
+        paths[path].steps.as_slice()
+    }
+
+    // The bits of the steps of a path from one place up to and without another.
+    pub fn bits(&self, path: usize, from: usize, to: usize) -> u32
+        requires path { path < length self.now }
+        requires from { from ≤ to }
+        requires to { to ≤ length (path_at self.now path).steps }
+        requires small { sum_by (λ s. s.bits) (path_at self.now path).steps < 2 ^ 32 }
+        ensures value { result ≡ bits_between (path_at self.now path) from to }
+    {
+        sum_bits(&self.steps(path)[from..to])
+    }
+
     // The place of a scan path of an instance.
     pub fn find(&self, instance: u32, scan: u32) -> Option<Place>
         ensures found { IfSome result (λ p. IsPlace self.now p.path p.place × IsOf (step_at (path_at self.now p.path) p.place) instance scan) }
@@ -67,6 +87,14 @@ fn place_on(path: &PathSpec, instance: u32, scan: u32) -> Option<usize>
         }
     }
     None
+}
+
+// The bits of some steps together.
+fn sum_bits(steps: &[StepSpec]) -> u32
+    requires bound { sum_by (λ s. s.bits) steps.now < 2 ^ 32 }
+    ensures value { result ≡ sum_by (λ s. s.bits) steps.now }
+{
+    steps.iter().map(|step| step.bits).sum()
 }
 
 // Whether a step is left by an out pin, where one is named.

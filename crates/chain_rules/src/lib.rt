@@ -6,6 +6,7 @@
 #![tactic(auto)]
 
 mod ends;
+mod faults;
 mod index;
 mod legal;
 mod listing;

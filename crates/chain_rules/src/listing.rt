@@ -6,7 +6,7 @@ ghost use Rattle.chain_rules.specs.Runs.{stretch, mark_at, AreRunsOf, AreListing
 
 use crate::index::Index;
 use crate::marks::marks_of;
-use crate::spec::{ChainSpec, ElementSpec, StepSpec};
+use crate::spec::{ChainSpec, ElementSpec};
 use crate::stretch::Run;
 use std::alloc::Global;
 use text_scan::NoMemory;
@@ -43,7 +43,7 @@ pub(crate) fn listings_of(
 }
 
 // Whether a step of a stretch without a mark has a bit.
-fn has_unmarked_bit(index: &Index<'_>, listing: &Listing) -> bool
+pub(crate) fn has_unmarked_bit(index: &Index<'_>, listing: &Listing) -> bool
     requires path { listing.now.run.path < length index.now }
     requires within { listing.now.run.to ≤ length (path_at index.now listing.now.run.path).steps }
     requires room { length listing.now.marks.items ≡ listing.now.run.to - listing.now.run.from }
@@ -77,7 +77,7 @@ fn has_mark_between(listing: &Listing, low: usize, high: usize) -> bool
 }
 
 // Whether a list isn't found in its order with only steps without a mark between.
-fn has_break(index: &Index<'_>, listing: &Listing, elements: &[ElementSpec]) -> bool
+pub(crate) fn has_break(index: &Index<'_>, listing: &Listing, elements: &[ElementSpec]) -> bool
     requires once { StepsOnce index.now }
     requires path { listing.now.run.path < length index.now }
     requires within { listing.now.run.to ≤ length (path_at index.now listing.now.run.path).steps }
