@@ -14,4 +14,5 @@ pub mod Meeting
 pub mod Marking
 pub mod Listed
 pub mod Sums
+pub mod Counting
 pub mod Faulty
