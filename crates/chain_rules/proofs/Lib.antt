@@ -15,4 +15,6 @@ pub mod Marking
 pub mod Listed
 pub mod Sums
 pub mod Counting
+pub mod Cutting
+pub mod Together
 pub mod Faulty

@@ -1,6 +1,7 @@
 -- Stretches as the code holds them.
-use Rattle.std.specs.Prelude.{◌≡◌, ℕ, ◌+◌, ◌-◌, ◌<◌, ◌≤◌, ◌⊎◌, List, [], length, slice_index_or, Option, None, MatchOption}
+use Rattle.std.specs.Prelude.{◌≡◌, ℕ, ◌+◌, ◌-◌, ◌<◌, ◌≤◌, ◌⊎◌, List, [], ◌∷◌, All, length, slice_index_or, Option, None, MatchOption}
 use Rattle.chain_rules.specs.declared.stretch.Run.{Run}
+use Rattle.chain_rules.specs.declared.cuts.Cut.{Cut}
 use Rattle.chain_rules.specs.declared.listing.Listing.{Listing}
 use Rattle.chain_rules.specs.declared.spec.PathSpec.{PathSpec}
 use Rattle.chain_rules.specs.declared.spec.ElementSpec.{ElementSpec}
@@ -66,3 +67,41 @@ ListHasBreak path s marks (Ordered elements) = HasBreak path s marks elements
 
 abbrev pub no_list : ListSpec
 no_list = Floating []
+
+-- between two steps of one group stand no steps of another
+abbrev pub AreTogether : Stretch → List ℕ → Type 0
+AreTogether s marks =
+    (i j k : ℕ) → IsInside s i → IsInside s k → i < j → j < k → mark_at s marks i ≡ mark_at s marks k → 0 < mark_at s marks i → 0 < mark_at s marks j → mark_at s marks j ≡ mark_at s marks i
+
+-- the steps of one group, from its first one up to the next group
+pub record IsCut (s : Stretch) (marks : List ℕ) (cut : Cut) : Type 0 where
+  pub first : IsInside s cut.first
+  pub last : IsInside s cut.last
+  pub order : cut.first ≤ cut.last
+  pub begins : 0 < mark_at s marks cut.first
+  pub within : (k : ℕ) → cut.first ≤ k → k ≤ cut.last → 0 < mark_at s marks k → mark_at s marks k ≡ mark_at s marks cut.first
+  pub all : (k : ℕ) → IsInside s k → mark_at s marks k ≡ mark_at s marks cut.first → (cut.first ≤ k) × (k ≤ cut.last)
+
+-- the cuts follow one another without a gap
+abbrev pub CutsCover : List Cut → ℕ → ℕ → Type 0
+CutsCover [] from to = from ≡ to
+CutsCover (c ∷ cs) from to = (c.first ≡ from) × CutsCover cs (c.last + 1) to
+
+-- the cuts of a stretch: from its first marked step to its last one
+pub record AreCuts (s : Stretch) (marks : List ℕ) (cuts : List Cut) (first last : ℕ) : Type 0 where
+  pub some : 0 < length cuts
+  pub first_inside : IsInside s first
+  pub last_inside : IsInside s last
+  pub begins : 0 < mark_at s marks first
+  pub ends : 0 < mark_at s marks last
+  pub head : (k : ℕ) → IsInside s k → k < first → mark_at s marks k ≡ 0
+  pub tail : (k : ℕ) → IsInside s k → last < k → mark_at s marks k ≡ 0
+  pub cover : CutsCover cuts first (last + 1)
+  pub each : All (IsCut s marks) cuts
+
+abbrev pub no_cut : Cut
+no_cut = record { first = 0; last = 0 }
+
+-- where the last cut ends
+abbrev pub end_of_cuts : List Cut → ℕ
+end_of_cuts cuts = (slice_index_or cuts (length cuts - 1) no_cut).last

@@ -6,6 +6,7 @@
 #![tactic(auto)]
 
 mod counts;
+mod cuts;
 mod ends;
 mod faults;
 mod index;
