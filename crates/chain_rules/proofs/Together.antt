@@ -15,7 +15,7 @@ use Rattle.chain_rules.specs.declared.spec.ChainSpec.{ChainSpec}
 use Rattle.chain_rules.specs.Stretches.{path_at, spec_at, step_at, no_element, IsOf, Names, IsNamedBy, IsListed, IsInside, Stretch, IsStretch, StandsIn, elements_in, elements_of, groups_in, groups_of, IsPlace, NamesAt, NamedOnce, StepsOnce}
 use Rattle.chain_rules.specs.ChainFaults.{IsOrderBroken, IsBrokenAt}
 use Rattle.chain_rules.specs.Runs.{mark_at, AreMarks, AreTogether}
-use Rattle.chain_rules.proofs.Stretched.{inside_place, stretch_within}
+use Rattle.chain_rules.proofs.Stretched.{inside_place, stretch_within, All-each}
 use Rattle.chain_rules.proofs.Marking.{names_one, NamesOne}
 use Rattle.chain_rules.proofs.Listed.{joined, joined-groups, listed_by, listed_from, listed_by_mark}
 
@@ -115,3 +115,60 @@ between path s chain es un stand one i (suc n) a b within in_a in_b first second
 
     below_of : (k b : ℕ) → k ≤ b → k ≢ b → k < b
     below_of k b h other = ⊎_elim (λ (l : k < b). l) (λ (g : b ≤ k). absurd (other (omega arith))) (cases_lt k b)
+
+named_single : (e : ElementSpec) (step : StepSpec) → IsNamedBy (e ∷ []) step → Names e step
+named_single e step (zero, x, within, is, names) = subst (λ (y : ElementSpec). Names y step) (sym is) names
+named_single e step (suc k, x, within, is, names) = absurd (omega arith)
+
+single_group : (es : List ElementSpec) (gr : List ElementSpec) → Contains (map (λ e. e ∷ []) es) gr → (e : ElementSpec) × (gr ≡ e ∷ [])
+single_group es gr (q, within, is) =
+    let e = get_or es q no_element in
+    (get_or es q no_element, sym is ∙ get_or-map (λ (x : ElementSpec). x ∷ []) es q no_element gr (omega (arith, length-map es (λ (x : ElementSpec). x ∷ []))))
+
+whole_group : (es : List ElementSpec) (gr : List ElementSpec) → Contains (es ∷ []) gr → gr ≡ es
+whole_group es gr (zero, within, is) = sym is
+whole_group es gr (suc k, within, is) = absurd (omega arith)
+
+-- the steps of a list that isn't broken have no other listed step between
+spanned : (path : PathSpec) (s : Stretch) (chain : ChainSpec) (es : List ElementSpec) → IsUnbroken path s chain es → All (StandsIn path s) es → NamesOne path s → (a b : ℕ) → IsInside s a → IsInside s b → a < b → IsNamedBy es (step_at path a) → IsNamedBy es (step_at path b) → (k : ℕ) → a < k → k < b → IsListed chain (step_at path k) → IsNamedBy es (step_at path k)
+spanned path s chain es un stand one a b in_a in_b order (p, e, p_in, e_is, first) (q, f, q_in, f_is, second) k low high listed =
+    let first_at : Names (get_or es p no_element) (step_at path a) = subst (λ (x : ElementSpec). Names x (step_at path a)) (sym (get_or_default es p no_element e p_in ∙ e_is)) first in
+    let second_at : Names (get_or es q no_element) (step_at path b) = subst (λ (x : ElementSpec). Names x (step_at path b)) (sym (get_or_default es q no_element f q_in ∙ f_is)) second in
+    ⊎_elim
+      (λ (back : q < p).
+        let w = between path s chain es un stand one q (p - q) b a (omega arith) in_b in_a second_at (subst (λ (j : ℕ). Names (get_or es j no_element) (step_at path a)) (omega arith) first_at) in
+        let h = w.0 in
+        absurd (omega arith))
+      (λ (forth : p ≤ q).
+        let w = between path s chain es un stand one p (q - p) a b (omega arith) in_a in_b first_at (subst (λ (j : ℕ). Names (get_or es j no_element) (step_at path b)) (omega arith) second_at) in
+        w.1 k (omega arith) (omega arith) listed)
+      (cases_lt q p)
+
+pub are_together : (paths : List PathSpec) (chains : List ChainSpec) → StepsOnce paths → NamedOnce paths chains → (c : ℕ) → c < length chains → (s : Stretch) → IsStretch paths (spec_at chains c) s → ¬ IsOrderBroken paths (spec_at chains c) → (marks : List ℕ) → AreMarks (path_at paths s.path) s (groups_of (spec_at chains c)) marks → AreTogether s marks
+are_together paths chains once named c within s is whole marks are i j k in_i in_k low high same some other =
+    let chain = spec_at chains c in
+    let path = path_at paths s.path in
+    let one = names_one paths once s is.path (stretch_within paths (spec_at chains c) s is) in
+    let in_j : IsInside s j = let a = in_i.low in let b = in_k.high in record { low = omega arith; high = omega arith } in
+    let by_i = are.named i (mark_at s marks i - 1) in_i (omega arith) in
+    let by_k = are.named k (mark_at s marks i - 1) in_k (omega arith) in
+    let by_j = are.named j (mark_at s marks j - 1) in_j (omega arith) in
+    let w = list_of_group (spec_at chains c).lists (get_or (groups_of (spec_at chains c)) (mark_at s marks i - 1) []) (Contains-get_or (groups_of (spec_at chains c)) (mark_at s marks i - 1) [] by_i.0) in
+    let listed = listed_by_mark (path_at paths s.path) s (spec_at chains c) marks are j in_j other in
+    let named_too : IsNamedBy (get_or (groups_of (spec_at chains c)) (mark_at s marks i - 1) []) (step_at (path_at paths s.path) j) = by_list w.0 (get_or (groups_of (spec_at chains c)) (mark_at s marks i - 1) []) w.1 w.2 one in_j by_i.1 by_k.1 listed in
+    let g = one_group paths chains named c within s.path j (mark_at s marks j - 1) (mark_at s marks i - 1) (inside_place paths (spec_at chains c) s j is in_j) by_j.0 by_i.0 by_j.1 named_too in
+    omega arith
+  where
+    by_list : (list : ListSpec) (gr : List ElementSpec) → Contains (spec_at chains c).lists list → Contains (groups_in list) gr → NamesOne (path_at paths s.path) s → IsInside s j → IsNamedBy gr (step_at (path_at paths s.path) i) → IsNamedBy gr (step_at (path_at paths s.path) k) → IsListed (spec_at chains c) (step_at (path_at paths s.path) j) → IsNamedBy gr (step_at (path_at paths s.path) j)
+    by_list (Floating es) gr m n one in_j by_i by_k listed =
+      let e = single_group es gr n in
+      let first = named_single e.0 (step_at (path_at paths s.path) i) (subst (λ (xs : List ElementSpec). IsNamedBy xs (step_at (path_at paths s.path) i)) e.1 by_i) in
+      let second = named_single e.0 (step_at (path_at paths s.path) k) (subst (λ (xs : List ElementSpec). IsNamedBy xs (step_at (path_at paths s.path) k)) e.1 by_k) in
+      let twice = one e.0 i k in_i in_k first second in
+      absurd (omega arith)
+    by_list (Ordered es) gr m n one in_j by_i by_k listed =
+      let e = whole_group es gr n in
+      let stand = All-each (StandsIn (path_at paths s.path) s) elements_in (spec_at chains c).lists (Ordered es) m is.elements in
+      subst (λ (xs : List ElementSpec). IsNamedBy xs (step_at (path_at paths s.path) j)) (sym e)
+        (spanned (path_at paths s.path) s (spec_at chains c) es (unbroken paths (spec_at chains c) s is whole es m) stand one i k in_i in_k (omega arith)
+          (subst (λ (xs : List ElementSpec). IsNamedBy xs (step_at (path_at paths s.path) i)) e by_i) (subst (λ (xs : List ElementSpec). IsNamedBy xs (step_at (path_at paths s.path) k)) e by_k) j low high listed)
