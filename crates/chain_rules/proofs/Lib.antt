@@ -17,4 +17,5 @@ pub mod Sums
 pub mod Counting
 pub mod Cutting
 pub mod Together
+pub mod Built
 pub mod Faulty

@@ -1,5 +1,5 @@
 -- Stretches as the code holds them.
-use Rattle.std.specs.Prelude.{◌≡◌, ℕ, ◌+◌, ◌-◌, ◌<◌, ◌≤◌, ◌⊎◌, List, [], ◌∷◌, All, length, slice_index_or, Option, None, MatchOption}
+use Rattle.std.specs.Prelude.{◌≡◌, ℕ, ◌+◌, ◌-◌, ◌<◌, ◌≤◌, ◌⊎◌, ◌↔◌, nat_lt, IsTrue, if◌then◌else◌, List, [], ◌∷◌, All, length, slice_index_or, Option, None, MatchOption}
 use Rattle.chain_rules.specs.declared.stretch.Run.{Run}
 use Rattle.chain_rules.specs.declared.cuts.Cut.{Cut}
 use Rattle.chain_rules.specs.declared.listing.Listing.{Listing}
@@ -8,7 +8,10 @@ use Rattle.chain_rules.specs.declared.spec.ElementSpec.{ElementSpec}
 use Rattle.chain_rules.specs.declared.spec.ListSpec.{ListSpec}
 use Rattle.chain_rules.specs.declared.spec.ListSpec.TheVariants.{Floating, Ordered}
 use Rattle.chain_rules.specs.declared.spec.ChainSpec.{ChainSpec}
-use Rattle.chain_rules.specs.Stretches.{spec_at, path_at, step_at, groups_of, Names, no_element, IsInside, IsNamedBy, Stretch, IsStretch, HasStretch}
+use Rattle.chain_rules.specs.declared.unit.Unit.{Unit as MovedUnit}
+use Rattle.chain_rules.specs.declared.unit.ChainRule.{ChainRule}
+use Rattle.chain_rules.specs.Rules.{PinsLast}
+use Rattle.chain_rules.specs.Stretches.{bits_between, spec_at, path_at, step_at, groups_of, Names, no_element, IsInside, IsNamedBy, Stretch, IsStretch, HasStretch}
 
 abbrev pub stretch : Run → Stretch
 stretch run = record { path = run.path; from = run.from; to = run.to }
@@ -105,3 +108,20 @@ no_cut = record { first = 0; last = 0 }
 -- where the last cut ends
 abbrev pub end_of_cuts : List Cut → ℕ
 end_of_cuts cuts = (slice_index_or cuts (length cuts - 1) no_cut).last
+
+-- the unit is that of the cut, in a chain whose last unit ends at this place
+pub record IsUnitOfCut (path : PathSpec) (chain : ChainSpec) (run : Run) (cut : Cut) (last : ℕ) (u : MovedUnit) : Type 0 where
+  pub on : u.path ≡ run.path
+  pub first : u.first ≡ cut.first
+  pub end : u.last ≡ cut.last
+  pub bits : u.bits ≡ bits_between path cut.first (cut.last + 1)
+  pub pinned : IsTrue u.pinned ↔ ((cut.last ≡ last) × PinsLast path chain run.to last)
+
+-- the rule is that of the chain, whose units stand from one place to another
+pub record IsRuleOfRun (path : PathSpec) (chain : ChainSpec) (run : Run) (first last : ℕ) (r : ChainRule) : Type 0 where
+  pub on : r.path ≡ run.path
+  pub begins : r.first ≡ first
+  pub ends : r.last ≡ last
+  pub partition : r.partition ≡ chain.partition
+  pub bound : r.bound ≡ (if nat_lt 0 chain.max_bits then chain.max_bits else bits_between path first (last + 1))
+  pub keeps_bit : IsTrue r.keeps_bit ↔ (0 < bits_between path first (last + 1))

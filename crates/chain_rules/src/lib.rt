@@ -5,6 +5,7 @@
 //! `specs/Legality.antt`. Begin with `spec.rt` and `unit.rt`.
 #![tactic(auto)]
 
+mod build;
 mod counts;
 mod cuts;
 mod ends;
