@@ -18,4 +18,5 @@ pub mod Counting
 pub mod Cutting
 pub mod Together
 pub mod Built
+pub mod Assembled
 pub mod Faulty

@@ -1,19 +1,20 @@
 //! The units and rules of the chains.
-ghost use Rattle.std.specs.Prelude.{◌≡◌, ◌+◌, ◌^◌, ◌<◌, ◌≤◌, ◌↔◌, nat_lt, length, sum_by, IsTrue, IfOk, if◌then◌else◌, All};
-ghost use Rattle.std.specs.List.{AllZip, range_with_len};
+ghost use Rattle.std.specs.Prelude.{◌≡◌, ◌+◌, ◌^◌, ◌<◌, ◌≤◌, ◌↔◌, ℕ, nat_lt, length, sum_by, IsTrue, IfOk, if◌then◌else◌, All};
+ghost use Rattle.std.specs.List.{AllZip, concat, range_with_len};
 ghost use Rattle.chain_rules.specs.Stretches.{path_at, spec_at, groups_of, bits_between, AreChains};
 ghost use Rattle.chain_rules.specs.ChainFaults.{IsOrderBroken};
-ghost use Rattle.chain_rules.specs.Rules.{PinsLast, IsReadChain};
+ghost use Rattle.chain_rules.specs.Rules.{PinsLast, IsReadChain, AreRulesOf};
 ghost use Rattle.chain_rules.specs.Runs.{AreListingsOf, IsUnitOfCut, IsRuleOfRun};
 
 use crate::cuts::{Cut, cuts_of};
 use crate::index::Index;
 use crate::listing::Listing;
+use crate::plan::Plan;
 use crate::spec::{ChainSpec, EndSpec};
 use crate::stretch::Run;
-use crate::unit::{ChainRule, Unit};
+use crate::unit::{ChainRule, Rules, Unit};
 use std::alloc::Global;
-use text_scan::NoMemory;
+use text_scan::{NoMemory, Rows};
 
 // Whether the last unit of a chain is pinned, where it ends at this place.
 fn pins_last(index: &Index<'_>, chain: &ChainSpec, run: Run, last: usize) -> bool
@@ -141,4 +142,34 @@ fn built_chain(
     let rule = rule_of(index, spec, listing.run, first, last);
     let units = units_of_cuts(alloc, index, spec, listing.run, cuts.as_slice(), last)?;
     Ok(Built { rule, units })
+}
+
+// The rules of the chains.
+pub(crate) fn rules_of(
+    alloc: Global,
+    index: &Index<'_>,
+    chains: &[ChainSpec],
+    listings: &[Listing],
+) -> Result<Rules, NoMemory>
+    requires chains { AreChains index.now chains.now }
+    requires listings { AreListingsOf index.now chains.now listings.now }
+    requires whole { (c : ℕ) → c < length chains.now → ¬ IsOrderBroken index.now (spec_at chains.now c) }
+    ensures value { IfOk result (λ rules. AreRulesOf index.now chains.now rules) }
+    ensures numbered { IfOk result (λ rules. concat rules.read.chains ≡ range_with_len 0 (length rules.units)) }
+{
+    let mut units = Vec::new(alloc);
+    let mut rules = Vec::with_capacity(alloc, chains.len())?;
+    let mut read = Vec::with_capacity(alloc, chains.len())?;
+    for chain in 0..chains.len() {
+        let built = built_chain(alloc, index, chains, listings, chain)?;
+        let order = numbers(alloc, units.len(), built.units.len())?;
+        units.extend_from_slice(built.units.as_slice())?;
+        rules.push(built.rule)?;
+        read.push(order)?;
+    }
+    Ok(Rules {
+        units: Rows::of(units),
+        chains: Rows::of(rules),
+        read: Plan::of(read),
+    })
 }
