@@ -1,11 +1,10 @@
 -- The rules of the first chains, one chain more.
-use Rattle.std.proofs.Common.{◌≡◌, ◌≢◌, ◌⊎◌, ℕ, ◌+◌, ◌-◌, ◌^◌, ◌<◌, ◌≤◌, List, [], ◌∷◌, ◌++◌, length, get_or, map, take, All, sum_by, refl, sym, ◌∙◌, ap, subst, arith, zero, suc, inl, inr, ⊎_elim, length-append}
+use Rattle.std.proofs.Common.{◌≡◌, ◌≢◌, ℕ, ◌+◌, ◌<◌, ◌≤◌, List, [], ◌∷◌, ◌++◌, length, get_or, map, take, All, sum_by, refl, sym, ◌∙◌, ap, subst, arith, zero, suc, ⊎_elim, length-append}
 use Rattle.std.specs.List.{concat, flat_map, range_with_len}
 use Rattle.std.proofs.lemmas.List.{get_or_append_left, get_or_push, get_or_at, length_push, append-nil, append_assoc, length-map}
-use Rattle.std.proofs.lemmas.List.Elements.{All-cons, All-nil, All-head, All-tail, All-get_or}
+use Rattle.std.proofs.lemmas.List.Elements.{All-cons, All-nil, All-head, All-tail}
 use Rattle.std.proofs.lemmas.List.Folds.{concat-append}
-use Rattle.std.proofs.lemmas.List.Sums.{sum_by_more, sum_by-take-le, sum_by-cons}
-use Rattle.std.proofs.lemmas.List.FromFn.{length-range_with_len}
+use Rattle.std.proofs.lemmas.List.Sums.{sum_by_more, sum_by-cons}
 use Rattle.std.proofs.lemmas.Bool.{cases_eq}
 use Rattle.chain_rules.specs.declared.spec.PathSpec.{PathSpec}
 use Rattle.chain_rules.specs.declared.spec.ElementSpec.{ElementSpec}
@@ -38,7 +37,7 @@ map-behind xs (y ∷ ys) n e =
     let long : length (xs ++ y ∷ []) ≡ n + 1 = omega (arith, length_push xs y) in
     let rest = map-behind (xs ++ y ∷ []) ys (n + 1) long in
     ap (λ z. z ∷ map (λ u. get_or (xs ++ y ∷ ys) u no_unit) (range_with_len (n + 1) (length ys))) (get_or_at xs y ys no_unit n e)
-      ∙ ap (λ (zs : List MovedUnit). y ∷ zs) (ap (λ (us : List MovedUnit). map (λ u. get_or us u no_unit) (range_with_len (n + 1) (length ys))) (sym moved) ∙ rest)
+    ∙ ap (λ (zs : List MovedUnit). y ∷ zs) (ap (λ (us : List MovedUnit). map (λ u. get_or us u no_unit) (range_with_len (n + 1) (length ys))) (sym moved) ∙ rest)
 
 range_below : (a n : ℕ) → All (λ u. u < a + n) (range_with_len a n)
 range_below a zero = All-nil (λ (u : ℕ). u < a + 0)
@@ -73,32 +72,32 @@ first_rules_more paths chains units rules read i within are rule us is few =
       rule_count = omega (arith, length_push rules rule, are.rule_count);
       read_count = omega (arith, length_push read (range_with_len (length units) (length us)), are.read_count);
       numbered = concat-append read (range_with_len (length units) (length us) ∷ [])
-        ∙ (ap (λ (xs : List ℕ). concat read ++ xs) (append-nil (range_with_len (length units) (length us)))
-        ∙ (ap (λ (xs : List ℕ). xs ++ range_with_len (length units) (length us)) are.numbered
-        ∙ (ap (λ (k : ℕ). range_with_len 0 (length units) ++ range_with_len k (length us)) (omega arith)
-        ∙ (sym (range-append 0 (length units) (length us)) ∙ ap (λ (k : ℕ). range_with_len 0 k) (sym (length-append units us))))));
+          ∙ (ap (λ (xs : List ℕ). concat read ++ xs) (append-nil (range_with_len (length units) (length us)))
+          ∙ (ap (λ (xs : List ℕ). xs ++ range_with_len (length units) (length us)) are.numbered
+          ∙ (ap (λ (k : ℕ). range_with_len 0 (length units) ++ range_with_len k (length us)) (omega arith)
+          ∙ (sym (range-append 0 (length units) (length us)) ∙ ap (λ (k : ℕ). range_with_len 0 k) (sym (length-append units us))))));
       each = λ c h. ⊎_elim
-        (λ (e : c ≡ i). subst (λ (x : ℕ). IsReadChain paths (spec_at chains x) (get_or (rules ++ rule ∷ []) x no_rule) (map (λ u. get_or (units ++ us) u no_unit) (get_or (read ++ range_with_len (length units) (length us) ∷ []) x []))) (sym e) last)
-        (λ (e : c ≢ i). earlier c (omega arith))
-        (cases_eq c i);
+          (λ (e : c ≡ i). subst (λ (x : ℕ). IsReadChain paths (spec_at chains x) (get_or (rules ++ rule ∷ []) x no_rule) (map (λ u. get_or (units ++ us) u no_unit) (get_or (read ++ range_with_len (length units) (length us) ∷ []) x []))) (sym e) last)
+          (λ (e : c ≢ i). earlier c (omega arith))
+          (cases_eq c i);
       few = omega (arith, length-append units us, are.few, sum_by_more (λ (c : ChainSpec). length (groups_of c)) chains i no_chain within);
     }
   where
     last : IsReadChain paths (spec_at chains i) (get_or (rules ++ rule ∷ []) i no_rule) (map (λ u. get_or (units ++ us) u no_unit) (get_or (read ++ range_with_len (length units) (length us) ∷ []) i []))
     last =
-      subst (λ (r : ChainRule). IsReadChain paths (spec_at chains i) r (map (λ u. get_or (units ++ us) u no_unit) (get_or (read ++ range_with_len (length units) (length us) ∷ []) i []))) (sym (get_or_push rules rule no_rule i are.rule_count))
+        subst (λ (r : ChainRule). IsReadChain paths (spec_at chains i) r (map (λ u. get_or (units ++ us) u no_unit) (get_or (read ++ range_with_len (length units) (length us) ∷ []) i []))) (sym (get_or_push rules rule no_rule i are.rule_count))
         (subst (λ (ns : List ℕ). IsReadChain paths (spec_at chains i) rule (map (λ u. get_or (units ++ us) u no_unit) ns)) (sym (get_or_push read (range_with_len (length units) (length us)) [] i are.read_count))
-          (subst (λ (ws : List MovedUnit). IsReadChain paths (spec_at chains i) rule ws) (sym (map-behind units us (length units) refl)) is))
+        (subst (λ (ws : List MovedUnit). IsReadChain paths (spec_at chains i) rule ws) (sym (map-behind units us (length units) refl)) is))
 
     earlier : (c : ℕ) → c < i → IsReadChain paths (spec_at chains c) (get_or (rules ++ rule ∷ []) c no_rule) (map (λ u. get_or (units ++ us) u no_unit) (get_or (read ++ range_with_len (length units) (length us) ∷ []) c []))
     earlier c h =
-      let in_rules : c < length rules = omega (arith, are.rule_count) in
-      let in_read : c < length read = omega (arith, are.read_count) in
-      let below = All-concat_at (λ (u : ℕ). u < 0 + length units) read c in_read (subst (λ (xs : List ℕ). All (λ u. u < 0 + length units) xs) (sym are.numbered) (range_below 0 (length units))) in
-      let same = map-agree (λ (u : ℕ). get_or (units ++ us) u no_unit) (λ (u : ℕ). get_or units u no_unit) (get_or read c []) (λ k d w. get_or_append_left units us no_unit (get_or (get_or read c []) k d) (let b = below k d w in omega arith)) in
-      subst (λ (r : ChainRule). IsReadChain paths (spec_at chains c) r (map (λ u. get_or (units ++ us) u no_unit) (get_or (read ++ range_with_len (length units) (length us) ∷ []) c []))) (sym (get_or_append_left rules (rule ∷ []) no_rule c in_rules))
+        let in_rules : c < length rules = omega (arith, are.rule_count) in
+        let in_read : c < length read = omega (arith, are.read_count) in
+        let below = All-concat_at (λ (u : ℕ). u < 0 + length units) read c in_read (subst (λ (xs : List ℕ). All (λ u. u < 0 + length units) xs) (sym are.numbered) (range_below 0 (length units))) in
+        let same = map-agree (λ (u : ℕ). get_or (units ++ us) u no_unit) (λ (u : ℕ). get_or units u no_unit) (get_or read c []) (λ k d w. get_or_append_left units us no_unit (get_or (get_or read c []) k d) (let b = below k d w in omega arith)) in
+        subst (λ (r : ChainRule). IsReadChain paths (spec_at chains c) r (map (λ u. get_or (units ++ us) u no_unit) (get_or (read ++ range_with_len (length units) (length us) ∷ []) c []))) (sym (get_or_append_left rules (rule ∷ []) no_rule c in_rules))
         (subst (λ (ns : List ℕ). IsReadChain paths (spec_at chains c) (get_or rules c no_rule) (map (λ u. get_or (units ++ us) u no_unit) ns)) (sym (get_or_append_left read (range_with_len (length units) (length us) ∷ []) [] c in_read))
-          (subst (λ (ws : List MovedUnit). IsReadChain paths (spec_at chains c) (get_or rules c no_rule) ws) (sym same) (are.each c h)))
+        (subst (λ (ws : List MovedUnit). IsReadChain paths (spec_at chains c) (get_or rules c no_rule) ws) (sym same) (are.each c h)))
 
 -- There are no more groups than elements
 

@@ -19,4 +19,6 @@ pub mod Cutting
 pub mod Together
 pub mod Built
 pub mod Assembled
+pub mod ReadPlan
+pub mod Refused
 pub mod Faulty

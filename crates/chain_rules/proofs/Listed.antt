@@ -1,5 +1,5 @@
 -- Marks tell which steps the chain lists.
-use Rattle.std.proofs.Common.{◌≡◌, ◌≢◌, ◌⊎◌, ◌↔◌, ℕ, ◌+◌, ◌-◌, ◌<◌, ◌≤◌, List, [], ◌∷◌, ◌++◌, length, get_or, map, Any, All, Contains, refl, sym, ◌∙◌, ap, subst, arith, zero, suc, inl, inr, ⊎_elim, length-append}
+use Rattle.std.proofs.Common.{◌≡◌, ◌≢◌, ◌⊎◌, ℕ, ◌+◌, ◌-◌, ◌<◌, ◌≤◌, List, [], ◌∷◌, ◌++◌, length, get_or, map, refl, sym, ◌∙◌, ap, subst, arith, zero, suc, inl, inr, ⊎_elim, length-append}
 use Rattle.std.specs.List.{flat_map}
 use Rattle.std.proofs.lemmas.List.{get_or_append_left, get_or-append_right, get_or_push, append-nil, length_push}
 use Rattle.std.proofs.lemmas.Bool.{cases_eq, cases_lt}
@@ -11,8 +11,8 @@ use Rattle.chain_rules.specs.declared.spec.ElementSpec.{ElementSpec}
 use Rattle.chain_rules.specs.declared.spec.ListSpec.{ListSpec}
 use Rattle.chain_rules.specs.declared.spec.ListSpec.TheVariants.{Floating, Ordered}
 use Rattle.chain_rules.specs.declared.spec.ChainSpec.{ChainSpec}
-use Rattle.chain_rules.specs.Stretches.{path_at, spec_at, step_at, IsOf, Names, IsNamedBy, IsListed, IsInside, Stretch, elements_in, elements_of, groups_in, groups_of}
-use Rattle.chain_rules.specs.Runs.{stretch, mark_at, AreMarks, IsListingOf}
+use Rattle.chain_rules.specs.Stretches.{spec_at, step_at, IsNamedBy, IsListed, IsInside, Stretch, elements_in, elements_of, groups_in, groups_of}
+use Rattle.chain_rules.specs.Runs.{mark_at, AreMarks, IsListingOf}
 use Rattle.chain_rules.proofs.Marking.{named_left}
 
 abbrev pub joined : List (List ElementSpec) → List ElementSpec
@@ -30,7 +30,7 @@ joined-lists : (lists : List ListSpec) → joined (flat_map groups_in lists) ≡
 joined-lists [] = refl
 joined-lists (l ∷ ls) =
     flat_map-append (λ es. es) (groups_in l) (flat_map groups_in ls)
-      ∙ (ap (λ (xs : List ElementSpec). xs ++ joined (flat_map groups_in ls)) (joined-list l) ∙ ap (λ (xs : List ElementSpec). elements_in l ++ xs) (joined-lists ls))
+    ∙ (ap (λ (xs : List ElementSpec). xs ++ joined (flat_map groups_in ls)) (joined-list l) ∙ ap (λ (xs : List ElementSpec). elements_in l ++ xs) (joined-lists ls))
 
 -- the groups of a chain are its elements
 pub joined-groups : (chain : ChainSpec) → joined (groups_of chain) ≡ elements_of chain
@@ -44,9 +44,9 @@ named_right es fs step (k, e, within, is, names) =
 named_part : (es fs : List ElementSpec) (step : StepSpec) → IsNamedBy (es ++ fs) step → IsNamedBy es step ⊎ IsNamedBy fs step
 named_part es fs step (k, x, within, is, names) =
     ⊎_elim
-      (λ (h : k < length es). inl (k, x, h, sym (get_or_append_left es fs x k h) ∙ is, names))
-      (λ (h : length es ≤ k). inr (k - length es, x, omega (arith, length-append es fs), sym (get_or-append_right es fs (length es) k x refl h) ∙ is, names))
-      (cases_lt k (length es))
+    (λ (h : k < length es). inl (k, x, h, sym (get_or_append_left es fs x k h) ∙ is, names))
+    (λ (h : length es ≤ k). inr (k - length es, x, omega (arith, length-append es fs), sym (get_or-append_right es fs (length es) k x refl h) ∙ is, names))
+    (cases_lt k (length es))
 
 pub named_joined : (groups : List (List ElementSpec)) (g : ℕ) (step : StepSpec) → g < length groups → IsNamedBy (get_or groups g []) step → IsNamedBy (joined groups) step
 named_joined [] g step h by = absurd (omega arith)
@@ -57,9 +57,9 @@ pub group_of_named : (groups : List (List ElementSpec)) (step : StepSpec) → Is
 group_of_named [] step (k, x, within, is, names) = absurd (omega arith)
 group_of_named (es ∷ gs) step by =
     ⊎_elim
-      (λ (here : IsNamedBy es step). (0, omega arith, here))
-      (λ (there : IsNamedBy (joined gs) step). let w = group_of_named gs step there in (suc w.0, omega (arith, w.1), w.2))
-      (named_part es (joined gs) step by)
+    (λ (here : IsNamedBy es step). (0, omega arith, here))
+    (λ (there : IsNamedBy (joined gs) step). let w = group_of_named gs step there in (suc w.0, omega (arith, w.1), w.2))
+    (named_part es (joined gs) step by)
 
 pub listed_by : (chain : ChainSpec) (step : StepSpec) → IsListed chain step → (g : ℕ) × (g < length (groups_of chain)) × IsNamedBy (get_or (groups_of chain) g []) step
 listed_by chain step by = group_of_named (groups_of chain) step (subst (λ (es : List ElementSpec). IsNamedBy es step) (sym (joined-groups chain)) by)
@@ -79,11 +79,13 @@ mark_by_listed path s chain marks are k inside by =
     are.marked k w.0 inside w.1 w.2
 
 pub listings_more : (paths : List PathSpec) (chains : List ChainSpec) (ls : List Listing) (i : ℕ) (l : Listing) → length ls ≡ i → ((c : ℕ) (d : Listing) → c < i → IsListingOf paths (spec_at chains c) (get_or ls c d)) → IsListingOf paths (spec_at chains i) l → (length (ls ++ l ∷ []) ≡ i + 1) × ((c : ℕ) (d : Listing) → c < i + 1 → IsListingOf paths (spec_at chains c) (get_or (ls ++ l ∷ []) c d))
-listings_more paths chains ls i l long each here =
-    (omega (arith, length_push ls l), λ c d h.
+listings_more paths chains ls i l long each here = (
+  omega (arith, length_push ls l),
+  λ c d h.
       ⊎_elim
-        (λ (e : c ≡ i). subst (λ (x : ℕ). IsListingOf paths (spec_at chains x) (get_or (ls ++ l ∷ []) x d)) (sym e) (subst (λ (m : Listing). IsListingOf paths (spec_at chains i) m) (sym (get_or_push ls l d i long)) here))
-        (λ (e : c ≢ i).
-          let below : c < length ls = omega arith in
-          subst (λ (m : Listing). IsListingOf paths (spec_at chains c) m) (sym (get_or_append_left ls (l ∷ []) d c below)) (each c d (omega arith)))
-        (cases_eq c i))
+      (λ (e : c ≡ i). subst (λ (x : ℕ). IsListingOf paths (spec_at chains x) (get_or (ls ++ l ∷ []) x d)) (sym e) (subst (λ (m : Listing). IsListingOf paths (spec_at chains i) m) (sym (get_or_push ls l d i long)) here))
+      (λ (e : c ≢ i).
+      let below : c < length ls = omega arith in
+      subst (λ (m : Listing). IsListingOf paths (spec_at chains c) m) (sym (get_or_append_left ls (l ∷ []) d c below)) (each c d (omega arith)))
+      (cases_eq c i),
+)

@@ -1,5 +1,5 @@
 -- When one chain disturbs another, by their stretches.
-use Rattle.std.proofs.Common.{◌≡◌, ℕ, ◌<◌, ◌⊎◌, List, inl, inr, ⊎_elim, sym, subst, Option, None, Some, length, get_or, refl}
+use Rattle.std.proofs.Common.{◌≡◌, ℕ, ◌<◌, List, inl, inr, ⊎_elim, sym, subst, Option, None, Some, length, get_or, refl}
 use Rattle.std.proofs.lemmas.Option.{MatchOption-at_some}
 use Rattle.std.proofs.lemmas.List.{get_or_read}
 use Rattle.chain_rules.specs.declared.stretch.Run.{Run}
@@ -25,18 +25,18 @@ pub shared_step : (paths : List PathSpec) → StepsOnce paths → (chain other :
 shared_step paths once chain other has has_other s t is is_other ends (u, is_u, how) =
     let same = only_stretch paths once chain has u s is_u is in
     ⊎_elim
-      (λ (end : HasEndIn paths other u). absurd (ends (subst (λ (v : Stretch). HasEndIn paths other v) same end)))
-      (λ (w : (v : Stretch) × IsStretch paths other v × ShareStep u v).
-        subst (λ (x : Stretch). ShareStep x t) same (subst (λ (y : Stretch). ShareStep u y) (only_stretch paths once other has_other w.0 t w.1 is_other) w.2))
-      how
+    (λ (end : HasEndIn paths other u). absurd (ends (subst (λ (v : Stretch). HasEndIn paths other v) same end)))
+    (λ (w : (v : Stretch) × IsStretch paths other v × ShareStep u v).
+    subst (λ (x : Stretch). ShareStep x t) same (subst (λ (y : Stretch). ShareStep u y) (only_stretch paths once other has_other w.0 t w.1 is_other) w.2))
+    how
 
 pub disturbs_no_other : (paths : List PathSpec) → StepsOnce paths → (chain other : ChainSpec) → HasElements chain → (s : Stretch) → IsStretch paths chain s → ¬ HasEndIn paths other s → ¬ HasStretch paths other → ¬ Disturbs paths chain other
 disturbs_no_other paths once chain other has s is ends no_other (u, is_u, how) =
     let same = only_stretch paths once chain has u s is_u is in
     ⊎_elim
-      (λ (end : HasEndIn paths other u). ends (subst (λ (v : Stretch). HasEndIn paths other v) same end))
-      (λ (w : (v : Stretch) × IsStretch paths other v × ShareStep u v). no_other (w.0, w.1))
-      how
+    (λ (end : HasEndIn paths other u). ends (subst (λ (v : Stretch). HasEndIn paths other v) same end))
+    (λ (w : (v : Stretch) × IsStretch paths other v × ShareStep u v). no_other (w.0, w.1))
+    how
 
 -- the cell of an end, found inside a stretch
 pub lies_here : (paths : List PathSpec) (end : EndSpec) (cell scan : ℕ) (out : Option ℕ) → end ≡ Cell cell scan out → (s : Stretch) (n k : ℕ) → n ≡ s.path → IsPlace paths n k → IsOf (step_at (path_at paths n) k) cell scan → IsInside s k → (j : ℕ) × IsInside s j × (j < length (path_at paths s.path).steps) × IsEndStep (step_at (path_at paths s.path) j) end

@@ -1,9 +1,8 @@
 -- A chain has one stretch at most.
-use Rattle.std.proofs.Common.{◌≡◌, ℕ, ◌+◌, ◌-◌, ◌<◌, ◌≤◌, List, [], ◌∷◌, ◌++◌, length, get_or, All, Contains, refl, sym, ◌∙◌, ap, subst, arith, zero, suc, Some, None, Option}
+use Rattle.std.proofs.Common.{◌≡◌, ℕ, ◌-◌, ◌<◌, ◌≤◌, List, [], ◌∷◌, length, get_or, All, Contains, sym, ◌∙◌, ap, subst, arith, zero, suc}
 use Rattle.std.specs.List.{flat_map}
 use Rattle.std.proofs.lemmas.List.{get_or_default}
-use Rattle.std.proofs.lemmas.List.Elements.{All-contains, All-append, All-cons, All-nil, All-head, All-tail, Contains-append_left, Contains-append_right, Contains-get_or}
-use Rattle.chain_rules.specs.declared.spec.StepSpec.{StepSpec}
+use Rattle.std.proofs.lemmas.List.Elements.{All-contains, All-append, All-nil, All-head, All-tail, Contains-append_left, Contains-append_right, Contains-get_or}
 use Rattle.chain_rules.specs.declared.spec.PathSpec.{PathSpec}
 use Rattle.chain_rules.specs.declared.spec.EndSpec.{EndSpec}
 use Rattle.chain_rules.specs.declared.spec.EndSpec.TheVariants.{Port, Cell}

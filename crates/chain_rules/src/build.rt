@@ -71,7 +71,11 @@ fn rule_of(index: &Index<'_>, chain: &ChainSpec, run: Run, first: usize, last: u
         first: first as u32,
         last: last as u32,
         partition: chain.partition,
-        bound: if chain.max_bits > 0 { chain.max_bits } else { bits },
+        bound: if chain.max_bits > 0 {
+            chain.max_bits
+        } else {
+            bits
+        },
         keeps_bit: bits > 0,
     }
 }

@@ -76,7 +76,11 @@ fn next_start(listing: &Listing, last: usize) -> Option<usize>
 {
     let to = end_of(listing);
     let next = last + 1;
-    if next < to && mark_of(listing, next) > 0 { Some(next) } else { None }
+    if next < to && mark_of(listing, next) > 0 {
+        Some(next)
+    } else {
+        None
+    }
 }
 
 // The cuts of a stretch that has a mark.

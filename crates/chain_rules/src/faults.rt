@@ -52,7 +52,11 @@ fn is_over_max_bits(index: &Index<'_>, chain: &ChainSpec, listing: &Listing) -> 
 }
 
 // The first chain with an unlisted step that has a bit.
-pub(crate) fn first_unlisted_bits(index: &Index<'_>, chains: &[ChainSpec], listings: &[Listing]) -> Option<usize>
+pub(crate) fn first_unlisted_bits(
+    index: &Index<'_>,
+    chains: &[ChainSpec],
+    listings: &[Listing],
+) -> Option<usize>
     requires chains { AreChains index.now chains.now }
     requires listings { AreListingsOf index.now chains.now listings.now }
     ensures found { IfSome result (λ c. (c < length chains.now) × IsUnlistedBits index.now (spec_at chains.now c) × ((d : ℕ) → d < c → ¬ IsUnlistedBits index.now (spec_at chains.now d))) }
@@ -67,7 +71,11 @@ pub(crate) fn first_unlisted_bits(index: &Index<'_>, chains: &[ChainSpec], listi
 }
 
 // The first chain with an ORDERED list that isn't found in its order.
-pub(crate) fn first_order_broken(index: &Index<'_>, chains: &[ChainSpec], listings: &[Listing]) -> Option<usize>
+pub(crate) fn first_order_broken(
+    index: &Index<'_>,
+    chains: &[ChainSpec],
+    listings: &[Listing],
+) -> Option<usize>
     requires chains { AreChains index.now chains.now }
     requires listings { AreListingsOf index.now chains.now listings.now }
     ensures found { IfSome result (λ c. (c < length chains.now) × IsOrderBroken index.now (spec_at chains.now c) × ((d : ℕ) → d < c → ¬ IsOrderBroken index.now (spec_at chains.now d))) }
@@ -82,7 +90,11 @@ pub(crate) fn first_order_broken(index: &Index<'_>, chains: &[ChainSpec], listin
 }
 
 // The first chain whose bits as read exceed MAXBITS.
-pub(crate) fn first_over_max_bits(index: &Index<'_>, chains: &[ChainSpec], listings: &[Listing]) -> Option<usize>
+pub(crate) fn first_over_max_bits(
+    index: &Index<'_>,
+    chains: &[ChainSpec],
+    listings: &[Listing],
+) -> Option<usize>
     requires chains { AreChains index.now chains.now }
     requires listings { AreListingsOf index.now chains.now listings.now }
     ensures found { IfSome result (λ c. (c < length chains.now) × IsOverMaxBits index.now (spec_at chains.now c) × ((d : ℕ) → d < c → ¬ IsOverMaxBits index.now (spec_at chains.now d))) }

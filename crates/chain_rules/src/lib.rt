@@ -21,9 +21,11 @@ mod plan;
 mod spec;
 mod stretch;
 mod unit;
+mod units;
 
 pub use moves::{can_move, can_swap};
 pub use plain::is_legal;
 pub use plan::Plan;
 pub use spec::{ChainSpec, ElementSpec, EndSpec, ListSpec, PathSpec, StepSpec};
 pub use unit::{ChainRule, Position, Rules, Unit};
+pub use units::units_of;

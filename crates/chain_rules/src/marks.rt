@@ -25,7 +25,13 @@ fn mark(index: &Index<'_>, run: Run, element: ElementSpec, group: usize, marks: 
 }
 
 // Marks the steps of an ORDERED list, behind so many groups.
-fn mark_ordered(index: &Index<'_>, run: Run, elements: &[ElementSpec], groups: usize, marks: &mut [usize])
+fn mark_ordered(
+    index: &Index<'_>,
+    run: Run,
+    elements: &[ElementSpec],
+    groups: usize,
+    marks: &mut [usize],
+)
     requires once { StepsOnce index.now }
     requires path { run.path < length index.now }
     requires within { run.to ≤ length (path_at index.now run.path).steps }
@@ -40,7 +46,13 @@ fn mark_ordered(index: &Index<'_>, run: Run, elements: &[ElementSpec], groups: u
 }
 
 // Marks the steps of FLOATING elements, behind so many groups.
-fn mark_floating(index: &Index<'_>, run: Run, elements: &[ElementSpec], groups: usize, marks: &mut [usize])
+fn mark_floating(
+    index: &Index<'_>,
+    run: Run,
+    elements: &[ElementSpec],
+    groups: usize,
+    marks: &mut [usize],
+)
     requires once { StepsOnce index.now }
     requires path { run.path < length index.now }
     requires within { run.to ≤ length (path_at index.now run.path).steps }
@@ -57,7 +69,13 @@ fn mark_floating(index: &Index<'_>, run: Run, elements: &[ElementSpec], groups: 
 }
 
 // Marks the steps of a list, behind so many groups, and answers how many there are then.
-fn mark_list(index: &Index<'_>, run: Run, list: &ListSpec, groups: usize, marks: &mut [usize]) -> usize
+fn mark_list(
+    index: &Index<'_>,
+    run: Run,
+    list: &ListSpec,
+    groups: usize,
+    marks: &mut [usize],
+) -> usize
     requires once { StepsOnce index.now }
     requires path { run.path < length index.now }
     requires within { run.to ≤ length (path_at index.now run.path).steps }
@@ -80,7 +98,12 @@ fn mark_list(index: &Index<'_>, run: Run, list: &ListSpec, groups: usize, marks:
 }
 
 // The marks of the steps of a chain's stretch.
-pub(crate) fn marks_of(alloc: Global, index: &Index<'_>, chain: &ChainSpec, run: Run) -> Result<Vec<usize>, NoMemory>
+pub(crate) fn marks_of(
+    alloc: Global,
+    index: &Index<'_>,
+    chain: &ChainSpec,
+    run: Run,
+) -> Result<Vec<usize>, NoMemory>
     requires once { StepsOnce index.now }
     requires stretch { IsStretch index.now chain.now (stretch run) }
     requires few { length (groups_of chain.now) < 2 ^ 32 }

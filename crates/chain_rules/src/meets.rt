@@ -14,7 +14,12 @@ fn lies_in(index: &Index<'_>, end: EndSpec, run: Run) -> bool
     requires path { run.path < length index.now }
     ensures value { IsTrue result ↔ ((k : ℕ) × IsInside (stretch run) k × (k < length (path_at index.now run.path).steps) × IsEndStep (step_at (path_at index.now run.path) k) end) }
 {
-    let EndSpec::Cell { instance, path, out: _ } = end else {
+    let EndSpec::Cell {
+        instance,
+        path,
+        out: _,
+    } = end
+    else {
         return false;
     };
     let Some(place) = index.find(instance, path) else {
@@ -43,7 +48,13 @@ fn share_step(one: Run, other: Run) -> bool
 }
 
 // Whether a chain's stretch holds a step of another's stretch, or of its START or STOP cell.
-fn disturbs(index: &Index<'_>, chains: &[ChainSpec], runs: &[Option<Run>], chain: usize, other: usize) -> bool
+fn disturbs(
+    index: &Index<'_>,
+    chains: &[ChainSpec],
+    runs: &[Option<Run>],
+    chain: usize,
+    other: usize,
+) -> bool
     requires once { StepsOnce index.now }
     requires elements { All HasElements chains.now }
     requires runs { AreRunsOf index.now chains.now runs.now }
@@ -64,7 +75,13 @@ fn disturbs(index: &Index<'_>, chains: &[ChainSpec], runs: &[Option<Run>], chain
 }
 
 // Whether the stretches of two chains meet, or one holds the other's START or STOP cell.
-fn meet(index: &Index<'_>, chains: &[ChainSpec], runs: &[Option<Run>], chain: usize, other: usize) -> bool
+fn meet(
+    index: &Index<'_>,
+    chains: &[ChainSpec],
+    runs: &[Option<Run>],
+    chain: usize,
+    other: usize,
+) -> bool
     requires once { StepsOnce index.now }
     requires elements { All HasElements chains.now }
     requires runs { AreRunsOf index.now chains.now runs.now }
@@ -82,7 +99,12 @@ fn meet(index: &Index<'_>, chains: &[ChainSpec], runs: &[Option<Run>], chain: us
 }
 
 // Whether a chain has no stretch, or its stretch and another chain's meet.
-fn is_not_a_stretch(index: &Index<'_>, chains: &[ChainSpec], runs: &[Option<Run>], chain: usize) -> bool
+fn is_not_a_stretch(
+    index: &Index<'_>,
+    chains: &[ChainSpec],
+    runs: &[Option<Run>],
+    chain: usize,
+) -> bool
     requires once { StepsOnce index.now }
     requires elements { All HasElements chains.now }
     requires runs { AreRunsOf index.now chains.now runs.now }
@@ -101,7 +123,11 @@ fn is_not_a_stretch(index: &Index<'_>, chains: &[ChainSpec], runs: &[Option<Run>
 }
 
 // The first chain that has no stretch, or whose stretch and another chain's meet.
-pub(crate) fn first_not_a_stretch(index: &Index<'_>, chains: &[ChainSpec], runs: &[Option<Run>]) -> Option<usize>
+pub(crate) fn first_not_a_stretch(
+    index: &Index<'_>,
+    chains: &[ChainSpec],
+    runs: &[Option<Run>],
+) -> Option<usize>
     requires once { StepsOnce index.now }
     requires elements { All HasElements chains.now }
     requires runs { AreRunsOf index.now chains.now runs.now }

@@ -33,15 +33,27 @@ fn begin_on(index: &Index<'_>, path: usize, start: EndSpec) -> Option<usize>
 {
     match start {
         EndSpec::Port(net) => {
-            if index.paths()[path].input == net { Some(0) } else { None }
+            if index.paths()[path].input == net {
+                Some(0)
+            } else {
+                None
+            }
         }
-        EndSpec::Cell { instance, path: scan, out } => {
+        EndSpec::Cell {
+            instance,
+            path: scan,
+            out,
+        } => {
             let place = index.find(instance, scan)?;
             if place.path != path {
                 return None;
             }
             let step = index.paths()[path].steps.as_slice()[place.place];
-            if leaves_by(&step, out) { Some(place.place + 1) } else { None }
+            if leaves_by(&step, out) {
+                Some(place.place + 1)
+            } else {
+                None
+            }
         }
     }
 }
@@ -56,11 +68,23 @@ fn end_on(index: &Index<'_>, path: usize, stop: EndSpec) -> Option<usize>
     match stop {
         EndSpec::Port(net) => {
             let path = &index.paths()[path];
-            if path.output == net { Some(path.steps.as_slice().len()) } else { None }
+            if path.output == net {
+                Some(path.steps.as_slice().len())
+            } else {
+                None
+            }
         }
-        EndSpec::Cell { instance, path: scan, out: _ } => {
+        EndSpec::Cell {
+            instance,
+            path: scan,
+            out: _,
+        } => {
             let place = index.find(instance, scan)?;
-            if place.path == path { Some(place.place) } else { None }
+            if place.path == path {
+                Some(place.place)
+            } else {
+                None
+            }
         }
     }
 }
@@ -135,5 +159,9 @@ pub(crate) fn stretch_of(index: &Index<'_>, chain: &ChainSpec) -> Option<Run>
         return None;
     }
     let run = Run { path, from, to };
-    if all_stand_in(index, run, chain) { Some(run) } else { None }
+    if all_stand_in(index, run, chain) {
+        Some(run)
+    } else {
+        None
+    }
 }

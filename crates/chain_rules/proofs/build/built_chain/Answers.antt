@@ -1,4 +1,4 @@
-use Rattle.std.proofs.Common.{◌≡◌, ℕ, ◌<◌, ◌≤◌, List, All, subst, sym, arith, ◌∙◌, length}
+use Rattle.std.proofs.Common.{ℕ, ◌≤◌, List, All, subst, sym, ◌∙◌}
 use Rattle.std.specs.List.{AllZip}
 use Rattle.chain_rules.specs.declared.cuts.Cut.{Cut}
 use Rattle.chain_rules.specs.declared.listing.Listing.{Listing}
@@ -25,8 +25,8 @@ units_of_cuts-requires-clause-order c =
     let w = c.in_ok-cuts.ensures.value in
     let e_last = last_cut c.in_ok-cuts.cuts.items c.len.result c.index-2.result.now (c.len.ensures ∙ c.in_ok-cuts.cuts.ok.0) w.1.some c.index-2.ensures in
     subst (λ (cs : List Cut). All (λ k. (k.first ≤ k.last) × (k.last ≤ c.index-2.result.now.last)) cs) (sym c.as_slice.ensures.value)
-      (subst (λ (n : ℕ). All (λ (k : Cut). (k.first ≤ k.last) × (k.last ≤ n)) c.in_ok-cuts.cuts.items) (sym e_last)
-        (cut_bounds (stretch c.index-listings-chain.result.run) c.index-listings-chain.result.marks.items c.in_ok-cuts.cuts.items w.0 (end_of_cuts c.in_ok-cuts.cuts.items) w.1))
+    (subst (λ (n : ℕ). All (λ (k : Cut). (k.first ≤ k.last) × (k.last ≤ n)) c.in_ok-cuts.cuts.items) (sym e_last)
+    (cut_bounds (stretch c.index-listings-chain.result.run) c.index-listings-chain.result.marks.items c.in_ok-cuts.cuts.items w.0 (end_of_cuts c.in_ok-cuts.cuts.items) w.1))
 
 pub returns : goal.returns
 returns c =
@@ -36,10 +36,10 @@ returns c =
     let e_first = first_cut c.in_ok-cuts.cuts.items w.0 _ w.1.cover w.1.some c.index.result.now c.index.ensures in
     let e_last = last_cut c.in_ok-cuts.cuts.items c.len.result c.index-2.result.now (c.len.ensures ∙ c.in_ok-cuts.cuts.ok.0) w.1.some c.index-2.ensures in
     let rule = subst (λ (n : ℕ). IsRuleOfRun (path_at c.args.index.now c.index-listings-chain.result.run.path) (spec_at c.args.chains.now c.args.chain) c.index-listings-chain.result.run w.0 n c.rule_of-rule.result) e_last
-      (subst (λ (m : ℕ). IsRuleOfRun (path_at c.args.index.now c.index-listings-chain.result.run.path) (spec_at c.args.chains.now c.args.chain) c.index-listings-chain.result.run m c.index-2.result.now.last c.rule_of-rule.result) e_first
-        (subst (λ (x : ChainSpec). IsRuleOfRun (path_at c.args.index.now c.index-listings-chain.result.run.path) x c.index-listings-chain.result.run c.index.result.now.first c.index-2.result.now.last c.rule_of-rule.result) there c.rule_of-rule.ensures.value)) in
+    (subst (λ (m : ℕ). IsRuleOfRun (path_at c.args.index.now c.index-listings-chain.result.run.path) (spec_at c.args.chains.now c.args.chain) c.index-listings-chain.result.run m c.index-2.result.now.last c.rule_of-rule.result) e_first
+    (subst (λ (x : ChainSpec). IsRuleOfRun (path_at c.args.index.now c.index-listings-chain.result.run.path) x c.index-listings-chain.result.run c.index.result.now.first c.index-2.result.now.last c.rule_of-rule.result) there c.rule_of-rule.ensures.value)) in
     let zip = subst (λ (n : ℕ). AllZip (λ k u. IsUnitOfCut (path_at c.args.index.now c.index-listings-chain.result.run.path) (spec_at c.args.chains.now c.args.chain) c.index-listings-chain.result.run k n u) c.in_ok-cuts.cuts.items c.in_ok-units.units.items) e_last
-      (subst (λ (cs : List Cut). AllZip (λ k u. IsUnitOfCut (path_at c.args.index.now c.index-listings-chain.result.run.path) (spec_at c.args.chains.now c.args.chain) c.index-listings-chain.result.run k c.index-2.result.now.last u) cs c.in_ok-units.units.items) c.as_slice.ensures.value
-        (subst (λ (x : ChainSpec). AllZip (λ k u. IsUnitOfCut (path_at c.args.index.now c.index-listings-chain.result.run.path) x c.index-listings-chain.result.run k c.index-2.result.now.last u) c.as_slice.result.now c.in_ok-units.units.items) there c.in_ok-units.ensures.value)) in
+    (subst (λ (cs : List Cut). AllZip (λ k u. IsUnitOfCut (path_at c.args.index.now c.index-listings-chain.result.run.path) (spec_at c.args.chains.now c.args.chain) c.index-listings-chain.result.run k c.index-2.result.now.last u) cs c.in_ok-units.units.items) c.as_slice.ensures.value
+    (subst (λ (x : ChainSpec). AllZip (λ k u. IsUnitOfCut (path_at c.args.index.now c.index-listings-chain.result.run.path) x c.index-listings-chain.result.run k c.index-2.result.now.last u) c.as_slice.result.now c.in_ok-units.units.items) there c.in_ok-units.ensures.value)) in
     let count = built_count c.args.index.now (spec_at c.args.chains.now c.args.chain) c.index-listings-chain.result is c.in_ok-cuts.cuts.items w.0 (end_of_cuts c.in_ok-cuts.cuts.items) w.1 c.in_ok-units.units.items zip in
     record { value = (read_chain c.args.index.now c.args.chains.now c.requires.chains.named_once c.args.chain c.requires.chain c.index-listings-chain.result is c.in_ok-cuts.cuts.items w.0 (end_of_cuts c.in_ok-cuts.cuts.items) w.1 c.in_ok-units.units.items zip c.rule_of-rule.result rule, count.0, count.1) }

@@ -1,4 +1,4 @@
-use Rattle.std.proofs.Common.{◌≡◌, ◌+◌, List, ap, length, arith, take, get_or, nat_eq}
+use Rattle.std.proofs.Common.{◌+◌, ap, length, arith, take, get_or, nat_eq}
 use Rattle.std.proofs.lemmas.List.Sums.{sum_by-take-le}
 use Rattle.chain_rules.specs.declared.spec.ChainSpec.{ChainSpec}
 use Rattle.chain_rules.specs.Stretches.{groups_of}

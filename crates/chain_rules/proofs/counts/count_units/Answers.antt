@@ -1,4 +1,4 @@
-use Rattle.std.proofs.Common.{◌≡◌, List, ap, length, arith}
+use Rattle.std.proofs.Common.{List, ap, length, arith}
 use Rattle.std.proofs.lemmas.List.Folds.{length-flat_map-take}
 use Rattle.chain_rules.specs.declared.spec.ListSpec.{ListSpec}
 use Rattle.chain_rules.specs.Stretches.{groups_in, groups_of}

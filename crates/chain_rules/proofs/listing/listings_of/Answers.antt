@@ -10,7 +10,7 @@ use Rattle.chain_rules.proofs.listing.listings_of.Goals as goal
 pub unreachable-requires : goal.unreachable-requires
 unreachable-requires c =
     c.requires.stretches c.loop-chain.chain c.loop-chain-test.true
-      (inl (no_stretch_of_run c.args.index.now (spec_at c.args.chains.now c.loop-chain.chain) (run_at c.args.runs.now c.loop-chain.chain) c.in_default.not-Some (c.requires.runs.each c.loop-chain.chain c.loop-chain-test.true)))
+    (inl (no_stretch_of_run c.args.index.now (spec_at c.args.chains.now c.loop-chain.chain) (run_at c.args.runs.now c.loop-chain.chain) c.in_default.not-Some (c.requires.runs.each c.loop-chain.chain c.loop-chain-test.true)))
 
 pub loop-chain-preserved : goal.loop-chain-preserved
 loop-chain-preserved c =
@@ -18,4 +18,4 @@ loop-chain-preserved c =
     let there = spec_read c.args.chains.now c.loop-chain.chain c.index-chains-chain.result c.loop-chain-test.true c.index-chains-chain.is in
     let are = subst (λ (x : ChainSpec). AreMarks (path_at c.args.index.now c.in-Some.run'.path) (stretch c.in-Some.run') (groups_of x) c.in_ok-marks.marks.items) there c.in_ok-marks.ensures.value in
     subst (λ (ls : List Listing). (length ls ≡ c.loop-chain.chain + 1) × ((k : ℕ) (d : Listing) → k < c.loop-chain.chain + 1 → IsListingOf c.args.index.now (spec_at c.args.chains.now k) (get_or ls k d))) (sym c.in_ok-push.ensures.items)
-      (listings_more c.args.index.now c.args.chains.now c.loop-chain.listings.items c.loop-chain.chain (record { run = c.in-Some.run'; marks = c.in_ok-marks.marks }) c.loop-chain.invariant.0 c.loop-chain.invariant.1 (record { is_stretch = is; are_marks = are }))
+    (listings_more c.args.index.now c.args.chains.now c.loop-chain.listings.items c.loop-chain.chain (record { run = c.in-Some.run'; marks = c.in_ok-marks.marks }) c.loop-chain.invariant.0 c.loop-chain.invariant.1 (record { is_stretch = is; are_marks = are }))

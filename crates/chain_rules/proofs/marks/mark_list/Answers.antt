@@ -1,4 +1,4 @@
-use Rattle.std.proofs.Common.{◌≡◌, List, All, ap, sym, ◌∙◌, subst}
+use Rattle.std.proofs.Common.{List, All, ap, sym, ◌∙◌, subst}
 use Rattle.chain_rules.specs.declared.spec.ElementSpec.{ElementSpec}
 use Rattle.chain_rules.specs.Stretches.{path_at, StandsIn, elements_in}
 use Rattle.chain_rules.specs.Runs.{stretch}

@@ -1,4 +1,4 @@
-use Rattle.std.proofs.Common.{◌≡◌, List, All, Contains, ap, sym, ◌∙◌, subst, length, arith}
+use Rattle.std.proofs.Common.{List, Contains, ap, sym, subst, length, arith}
 use Rattle.std.proofs.lemmas.List.Folds.{length-flat_map-take}
 use Rattle.chain_rules.specs.declared.spec.ListSpec.{ListSpec}
 use Rattle.chain_rules.specs.Stretches.{path_at, StandsIn, elements_in, groups_in, groups_of}
@@ -9,7 +9,7 @@ use Rattle.chain_rules.proofs.marks.marks_of.Goals as goal
 pub mark_list-groups-requires-clause-stand : goal.mark_list-groups-requires-clause-stand
 mark_list-groups-requires-clause-stand c =
     let m : Contains c.args.chain.now.lists c.list-item.result =
-      subst (λ (ls : List ListSpec). Contains ls c.list-item.result) c.as_slice-list-items.ensures.value (c.loop-list.list-index, c.loop-list-test.true, sym c.list-item.is) in
+    subst (λ (ls : List ListSpec). Contains ls c.list-item.result) c.as_slice-list-items.ensures.value (c.loop-list.list-index, c.loop-list-test.true, sym c.list-item.is) in
     All-each (StandsIn (path_at c.args.index.now c.args.run.path) (stretch c.args.run)) elements_in c.args.chain.now.lists c.list-item.result m c.requires.stretch.elements
 
 pub mark_list-groups-requires-clause-few : goal.mark_list-groups-requires-clause-few

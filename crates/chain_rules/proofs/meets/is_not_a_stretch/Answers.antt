@@ -1,4 +1,4 @@
-use Rattle.std.proofs.Common.{◌≡◌, ℕ, ◌<◌, ⊎_elim, length, arith}
+use Rattle.std.proofs.Common.{ℕ, ◌<◌, ⊎_elim, length, arith}
 use Rattle.std.proofs.lemmas.Bool.{iff_false}
 use borrow.Author.Count.{below_more}
 use Rattle.chain_rules.specs.Stretches.{spec_at, HasStretch}
@@ -14,7 +14,9 @@ loop-other-preserved c = below_more (λ d. ¬ Meet c.args.index.now c.args.chain
 pub returns : goal.returns
 returns c =
     let is = stretch_of_run c.args.index.now (spec_at c.args.chains.now c.args.chain) (run_at c.args.runs.now c.args.chain) c.in-Some._run c.in-Some.is (c.requires.runs.each c.args.chain c.requires.chain) in
-    record { value = says_no (λ fault. ⊎_elim
-      (λ (none : ¬ HasStretch c.args.index.now (spec_at c.args.chains.now c.args.chain)). none (stretch c.in-Some._run, is))
-      (λ (m : (d : ℕ) × (d < length c.args.chains.now) × Meet c.args.index.now c.args.chains.now c.args.chain d). let below = m.1 in c.loop-other.invariant m.0 (omega arith) m.2)
-      fault) }
+    record {
+      value = says_no (λ fault. ⊎_elim
+          (λ (none : ¬ HasStretch c.args.index.now (spec_at c.args.chains.now c.args.chain)). none (stretch c.in-Some._run, is))
+          (λ (m : (d : ℕ) × (d < length c.args.chains.now) × Meet c.args.index.now c.args.chains.now c.args.chain d). let below = m.1 in c.loop-other.invariant m.0 (omega arith) m.2)
+          fault);
+    }

@@ -1,4 +1,3 @@
-use Rattle.std.proofs.Common.{◌≡◌}
 use Rattle.std.proofs.lemmas.Bool.{iff_false}
 use Rattle.chain_rules.proofs.Stretched.{Stands, no_stretch_unplaced, no_stretch_unbegun, no_stretch_unended, no_stretch_backward, no_stretch_outside}
 use Rattle.chain_rules.proofs.stretch.stretch_of.Goals as goal

@@ -1,6 +1,5 @@
-use Rattle.std.proofs.Common.{◌≡◌, ◌-◌, List, take, drop, sum_by, ap, ◌∙◌, arith}
+use Rattle.std.proofs.Common.{◌-◌, List, sum_by, ap, arith}
 use Rattle.chain_rules.specs.declared.spec.StepSpec.{StepSpec}
-use Rattle.chain_rules.specs.Stretches.{path_at}
 use Rattle.chain_rules.proofs.Sums.{sum-part}
 use Rattle.chain_rules.proofs.index.Index.bits.Goals as goal
 
