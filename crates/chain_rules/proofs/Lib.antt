@@ -9,3 +9,16 @@ pub mod Steps
 pub mod Lasts
 pub mod Moved
 pub mod Swapped
+pub mod Stretched
+pub mod Meeting
+pub mod Marking
+pub mod Listed
+pub mod Sums
+pub mod Counting
+pub mod Cutting
+pub mod Together
+pub mod Built
+pub mod Assembled
+pub mod ReadPlan
+pub mod Refused
+pub mod Faulty

@@ -1,5 +1,5 @@
 -- The faults of the chains, each by its kind, and which is the first.
-use Rattle.std.specs.Prelude.{◌≡◌, ◌≢◌, ℕ, ◌+◌, ◌<◌, ◌≤◌, ◌⊎◌, nat_eq, List, length, slice_index_or, sum_by, Contains, take, filter}
+use Rattle.std.specs.Prelude.{◌≡◌, ◌≢◌, ℕ, ◌+◌, ◌<◌, ◌≤◌, ◌⊎◌, nat_eq, List, length, slice_index_or, sum_by, Contains, take, filter, ⊤}
 use Rattle.chain_rules.specs.declared.spec.PathSpec.{PathSpec}
 use Rattle.chain_rules.specs.declared.spec.ElementSpec.{ElementSpec}
 use Rattle.chain_rules.specs.declared.spec.ListSpec.TheVariants.{Ordered}
@@ -7,15 +7,22 @@ use Rattle.chain_rules.specs.declared.spec.ChainSpec.{ChainSpec}
 use Rattle.text_scan.specs.declared.fault.Fault.{Fault}
 use Rattle.text_scan.specs.declared.fault.FileKind.TheVariants.{Def}
 use Rattle.text_scan.specs.declared.fault.Spot.TheVariants.{Line}
+use Rattle.text_scan.specs.declared.fault.ReadFault.{ReadFault}
+use Rattle.text_scan.specs.declared.fault.ReadFault.TheVariants.{Fault as OfFault, NoMemory as OfMemory}
 use Rattle.text_scan.specs.declared.kind.Kind.{Kind}
 use Rattle.text_scan.specs.declared.kind.Kind.TheVariants.{NotAStretch, UnlistedBits, OrderBroken, OverMaxBits, TooManyUnits}
 use Rattle.text_scan.specs.Faults.{number_of}
 use Rattle.chain_rules.specs.Stretches.{path_at, step_at, spec_at, bits_between, Names, groups_of, IsListed, Stretch, IsInside, IsStretch, HasStretch, Disturbs}
 
+-- the stretches of two chains meet, or one holds the other's START or STOP cell
+abbrev pub Meet : List PathSpec → List ChainSpec → ℕ → ℕ → Type 0
+Meet paths chains c d =
+    (d ≢ c) × (Disturbs paths (spec_at chains c) (spec_at chains d) ⊎ Disturbs paths (spec_at chains d) (spec_at chains c))
+
 -- the chain has no stretch, or its stretch and another chain's meet
 abbrev pub IsNotAStretch : List PathSpec → List ChainSpec → ℕ → Type 0
 IsNotAStretch paths chains c =
-    ¬ HasStretch paths (spec_at chains c) ⊎ ((d : ℕ) × (d < length chains) × (d ≢ c) × (Disturbs paths (spec_at chains c) (spec_at chains d) ⊎ Disturbs paths (spec_at chains d) (spec_at chains c)))
+    ¬ HasStretch paths (spec_at chains c) ⊎ ((d : ℕ) × (d < length chains) × Meet paths chains c d)
 
 -- an unlisted step inside the stretch has a bit
 abbrev pub IsUnlistedBits : List PathSpec → ChainSpec → Type 0
@@ -75,3 +82,12 @@ pub record IsRefusal (paths : List PathSpec) (chains : List ChainSpec) (fault : 
 -- no chain has a fault
 abbrev pub IsFaultless : List PathSpec → List ChainSpec → Type 0
 IsFaultless paths chains = (k : Kind) (c : ℕ) → c < length chains → ¬ IsFaulty paths chains k c
+
+-- what the chains are refused with: the first fault, or want of memory
+abbrev pub IsRefused : List PathSpec → List ChainSpec → ReadFault → Type 0
+IsRefused paths chains (OfFault fault) = IsRefusal paths chains fault
+IsRefused paths chains OfMemory = ⊤
+
+-- the fault of a kind at the line of a chain's statement
+abbrev pub fault_at : Kind → ChainSpec → ReadFault
+fault_at kind chain = OfFault (record { kind = kind; file = Def; spot = Line chain.line })

@@ -4,3 +4,4 @@ pub mod Stretches
 pub mod ChainFaults
 pub mod Rules
 pub mod Pins
+pub mod Runs

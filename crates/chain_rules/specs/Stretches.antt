@@ -21,6 +21,9 @@ no_path = record { input = 0; output = 0; free_out = false; steps = [] }
 abbrev pub no_chain : ChainSpec
 no_chain = record { start = Port 0; stop = Port 0; lists = []; partition = 0; max_bits = 0; line = 0 }
 
+abbrev pub no_element : ElementSpec
+no_element = record { instance = 0; path = 0; out = None }
+
 -- the path, the step and the chain of a number; one without steps, bits or lists where there is none
 abbrev pub path_at : List PathSpec → ℕ → PathSpec
 path_at paths n = slice_index_or paths n no_path
@@ -144,13 +147,23 @@ pub record IsPlace (paths : List PathSpec) (n k : ℕ) : Type 0 where
 abbrev pub NamesAt : List ChainSpec → ℕ → ℕ → StepSpec → Type 0
 NamesAt chains c i step = (c < length chains) × (i < length (elements_of (spec_at chains c))) × ((d : ElementSpec) → Names (slice_index_or (elements_of (spec_at chains c)) i d) step)
 
+-- no scan path of an instance stands twice in the paths
+abbrev pub StepsOnce : List PathSpec → Type 0
+StepsOnce paths = (n k m l : ℕ) → IsPlace paths n k → IsPlace paths m l → IsOf (step_at (path_at paths n) k) (step_at (path_at paths m) l).instance (step_at (path_at paths m) l).path → (n ≡ m) × (k ≡ l)
+
+-- no step of the paths is named by two elements
+abbrev pub NamedOnce : List PathSpec → List ChainSpec → Type 0
+NamedOnce paths chains = (n k c i d j : ℕ) → IsPlace paths n k → NamesAt chains c i (step_at (path_at paths n) k) → NamesAt chains d j (step_at (path_at paths n) k) → (c ≡ d) × (i ≡ j)
+
+-- a chain has a list and each of its lists an element
+pub record HasElements (chain : ChainSpec) : Type 0 where
+  pub list : 0 < length chain.lists
+  pub each : All (λ elements. 0 < length (elements_in elements)) chain.lists
+
 pub record AreChains (paths : List PathSpec) (chains : List ChainSpec) : Type 0 where
-  -- no scan path of an instance stands twice in the paths
-  pub steps_once : (n k m l : ℕ) → IsPlace paths n k → IsPlace paths m l → IsOf (step_at (path_at paths n) k) (step_at (path_at paths m) l).instance (step_at (path_at paths m) l).path → (n ≡ m) × (k ≡ l)
-  -- no step of the paths is named by two elements
-  pub named_once : (n k c i d j : ℕ) → IsPlace paths n k → NamesAt chains c i (step_at (path_at paths n) k) → NamesAt chains d j (step_at (path_at paths n) k) → (c ≡ d) × (i ≡ j)
-  -- each chain has a list and each list an element
-  pub lists : All (λ chain. (0 < length chain.lists) × All (λ elements. 0 < length (elements_in elements)) chain.lists) chains
+  pub steps_once : StepsOnce paths
+  pub named_once : NamedOnce paths chains
+  pub elements : All HasElements chains
   -- the bits of all steps together are less than 2^32
   pub bits : sum_by (λ path. sum_by (λ s. s.bits) path.steps) paths < 2 ^ 32
   -- there are fewer than 2^32 paths, steps, chains and elements

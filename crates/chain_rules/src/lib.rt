@@ -5,16 +5,27 @@
 //! `specs/Legality.antt`. Begin with `spec.rt` and `unit.rt`.
 #![tactic(auto)]
 
+mod build;
+mod counts;
+mod cuts;
 mod ends;
+mod faults;
+mod index;
 mod legal;
+mod listing;
+mod marks;
+mod meets;
 mod moves;
 pub mod plain;
 mod plan;
 mod spec;
+mod stretch;
 mod unit;
+mod units;
 
 pub use moves::{can_move, can_swap};
 pub use plain::is_legal;
 pub use plan::Plan;
 pub use spec::{ChainSpec, ElementSpec, EndSpec, ListSpec, PathSpec, StepSpec};
 pub use unit::{ChainRule, Position, Rules, Unit};
+pub use units::units_of;
