@@ -1,0 +1,31 @@
+-- What a token of a Verilog text is (IEEE 1364-2005, section 3), by its bytes.
+use Rattle.std.specs.Prelude.{ℕ, ◌-◌, Bool, true, false, ◌&&◌, ◌||◌, not, nat_lt, if◌then◌else◌, ◌==◌, List, [], ◌∷◌, length, take, drop, codes}
+use Rattle.std.specs.List.{list_any, list_all, prefix_len}
+use Rattle.std.specs.Str.{bytes_eq}
+use Rattle.text_scan.specs.VerilogTokens.{is_blank, is_digit, is_word_start, is_word}
+use Rattle.text_scan.specs.VerilogSplit.{is_escaped, is_based}
+use Rattle.text_scan.specs.Seams.{is_identifier}
+
+-- the words of the language that aren't names
+abbrev pub reserved : List (List ℕ)
+reserved =
+    codes "module" ∷ codes "endmodule" ∷ codes "assign" ∷ codes "input" ∷ codes "output" ∷ codes "inout" ∷ codes "wire" ∷ codes "tri"
+    ∷ codes "supply0" ∷ codes "supply1" ∷ []
+
+abbrev pub is_reserved : List ℕ → Bool
+is_reserved text = list_any (bytes_eq text) reserved
+
+-- an identifier that isn't reserved, or an escaped identifier
+unfoldable pub is_name : List ℕ → Bool
+is_name [] = false
+is_name (b ∷ bs) = if b == 92 then is_escaped bs else is_identifier (b ∷ bs) && not (is_reserved (b ∷ bs))
+
+-- an unsigned decimal
+unfoldable pub is_decimal : List ℕ → Bool
+is_decimal [] = false
+is_decimal (b ∷ bs) = is_digit b && list_all is_digit bs
+
+-- size'base digits
+unfoldable pub is_constant : List ℕ → Bool
+is_constant [] = false
+is_constant (b ∷ bs) = is_digit b && is_based (drop (prefix_len is_digit bs) bs)

@@ -1,0 +1,88 @@
+use crate::written::Written;
+use text_scan::{Rows, Span};
+
+/// What a declaration makes of its names (IEEE 1364-2005, 4.2 and 12.3.3).
+#[derive(Clone, Copy, Debug, PartialEq, Eq)]
+pub enum Declared {
+    Input,
+    Output,
+    Inout,
+    Wire,
+    Tri,
+    Supply0,
+    Supply1,
+}
+
+/// The range `[left:right]` of a declaration: two decimals.
+#[derive(Debug, Drop)]
+pub struct Range<'a> {
+    pub left: Written<'a>,
+    pub right: Written<'a>,
+}
+
+/// A piece of an expression (IEEE 1364-2005, 5.1.14 and 5.2): an operand, or a mark of a concatenation.
+#[derive(Debug, Drop)]
+pub enum Item<'a> {
+    /// `{`
+    Open,
+    /// `,`
+    Comma,
+    /// `}`
+    Close,
+    Name(Written<'a>),
+    /// `name[index]`
+    Bit {
+        name: Written<'a>,
+        index: Written<'a>,
+    },
+    /// `name[left:right]`
+    Part {
+        name: Written<'a>,
+        left: Written<'a>,
+        right: Written<'a>,
+    },
+    /// `size'base digits`
+    Constant(Written<'a>),
+}
+
+/// An expression: its pieces in the order of the text, none in `.pin()`, and where it stands.
+#[derive(Debug, Drop)]
+pub struct Expression<'a> {
+    pub items: Rows<Item<'a>>,
+    /// From the first token to the last; in `.pin()` empty, at the closing parenthesis.
+    pub span: Span,
+}
+
+/// `.pin(expression)` or `.pin()`.
+#[derive(Debug, Drop)]
+pub struct Connection<'a> {
+    pub pin: Written<'a>,
+    pub expression: Expression<'a>,
+}
+
+/// A statement of a module.
+#[derive(Debug, Drop)]
+pub enum Statement<'a> {
+    /// `module name ( port, .. ) ;`
+    Module {
+        name: Written<'a>,
+        ports: Rows<Written<'a>>,
+    },
+    /// `kind [left:right] name, .. ;`
+    Declare {
+        kind: Declared,
+        range: Option<Range<'a>>,
+        names: Rows<Written<'a>>,
+    },
+    /// `assign left = right ;`
+    Assign {
+        left: Expression<'a>,
+        right: Expression<'a>,
+    },
+    /// `cell name ( .pin(expression), .. ) ;`
+    Instance {
+        cell: Written<'a>,
+        name: Written<'a>,
+        connections: Rows<Connection<'a>>,
+    },
+}
