@@ -1,2 +1,5 @@
+pub mod Bodies
 pub mod Digits
 pub mod Items
+pub mod Modules
+pub mod Statements

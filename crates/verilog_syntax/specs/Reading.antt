@@ -1,14 +1,13 @@
 -- What the tokens of a text are read as. Each function takes its part from the front of the tokens.
 -- Meaning: Grammar.
-use Rattle.std.specs.Prelude.{◌≡◌, ℕ, zero, suc, ◌+◌, ◌-◌, Bool, true, false, ◌&&◌, ◌||◌, not, ◌==◌, if◌then◌else◌, List, [], ◌∷◌, length, take, drop, codes, Option, Some, None, Result, Ok, Err}
+use Rattle.std.specs.Prelude.{◌≡◌, ℕ, zero, suc, ◌+◌, ◌-◌, Bool, true, false, ◌&&◌, ◌==◌, if◌then◌else◌, List, [], ◌∷◌, length, take, drop, codes, Option, Some, None, Result, Ok, Err}
 use Rattle.std.specs.List.{list_any}
 use Rattle.std.specs.Str.{bytes_eq}
 use Rattle.text_scan.specs.Lines.{line_at}
 use Rattle.text_scan.specs.Statements.{statements_of}
 use Rattle.text_scan.specs.Tokens.{Token, tokens_of}
 use Rattle.text_scan.specs.VerilogTokens.{verilog_tokens}
-use Rattle.text_scan.specs.Parsing.{◌>>=◌, word_at, mark_at, goes_on_at, list_at}
-use Rattle.text_scan.specs.declared.span.Span.{Span}
+use Rattle.text_scan.specs.Parsing.{◌>>=◌, word_at, mark_at, list_at}
 use Rattle.text_scan.specs.declared.fault.Fault.{Fault}
 use Rattle.text_scan.specs.declared.fault.FileKind.TheVariants.{Verilog}
 use Rattle.text_scan.specs.declared.fault.Spot.TheVariants.{Line}

@@ -1,8 +1,8 @@
 -- What a token of a Verilog text is (IEEE 1364-2005, section 3), by its bytes.
-use Rattle.std.specs.Prelude.{ℕ, ◌-◌, Bool, true, false, ◌&&◌, ◌||◌, not, nat_lt, if◌then◌else◌, ◌==◌, List, [], ◌∷◌, length, take, drop, codes}
+use Rattle.std.specs.Prelude.{ℕ, Bool, false, ◌&&◌, not, if◌then◌else◌, ◌==◌, List, [], ◌∷◌, drop, codes}
 use Rattle.std.specs.List.{list_any, list_all, prefix_len}
 use Rattle.std.specs.Str.{bytes_eq}
-use Rattle.text_scan.specs.VerilogTokens.{is_blank, is_digit, is_word_start, is_word}
+use Rattle.text_scan.specs.VerilogTokens.{is_digit}
 use Rattle.text_scan.specs.VerilogSplit.{is_escaped, is_based}
 use Rattle.text_scan.specs.Seams.{is_identifier}
 

@@ -12,6 +12,7 @@
 //! behavioural code aren't read.
 #![tactic(auto)]
 
+mod cursor;
 mod laws;
 mod parser;
 mod reading;
@@ -20,6 +21,6 @@ mod words;
 mod written;
 
 pub use laws::grammar_law;
-pub use reading::Placed;
+pub use reading::{Placed, read_statements};
 pub use statement::{Connection, Declared, Expression, Item, Range, Statement};
 pub use written::Written;
