@@ -1,4 +1,4 @@
-pub mod Bodies
+pub mod BodyLengths
 pub mod Digits
 pub mod Items
 pub mod Modules

@@ -1,5 +1,5 @@
 use Rattle.std.proofs.Common.{arith, true, false}
-use Rattle.verilog_syntax.proofs.Bodies.{body_len-at}
+use Rattle.verilog_syntax.proofs.BodyLengths.{body_len-at}
 use Rattle.verilog_syntax.proofs.reading.body_len.Goals as goal
 
 pub returns-then-ends_module-clause-value : goal.returns-then-ends_module-clause-value
