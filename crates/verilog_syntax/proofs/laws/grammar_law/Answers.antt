@@ -1,0 +1,15 @@
+use Rattle.verilog_syntax.proofs.Taken.{first-took, later-took}
+use Rattle.verilog_syntax.proofs.Trees.{begins_expression, expression_begins}
+use Rattle.verilog_syntax.proofs.laws.grammar_law.Goals as goal
+
+pub returns-clause-spelled : goal.returns-clause-spelled
+returns-clause-spelled c = ?
+
+pub returns-clause-read : goal.returns-clause-read
+returns-clause-read c = ?
+
+pub returns-clause-no_statement : goal.returns-clause-no_statement
+returns-clause-no_statement c = ?
+
+pub returns-clause-no_header : goal.returns-clause-no_header
+returns-clause-no_header c = ?
