@@ -1,3 +1,4 @@
+use Rattle.verilog_syntax.proofs.Forms.{statement_of-spells, header_of-spells}
 use Rattle.verilog_syntax.proofs.Places.{connection-spells}
 use Rattle.verilog_syntax.proofs.Items.{all-took}
 use Rattle.verilog_syntax.proofs.Taken.{first-took, later-took}
