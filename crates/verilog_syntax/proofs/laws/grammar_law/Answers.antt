@@ -1,3 +1,4 @@
+use Rattle.verilog_syntax.proofs.SpelledLaw.{spelled_law}
 use Rattle.verilog_syntax.proofs.Forms.{statement_of-spells, header_of-spells}
 use Rattle.verilog_syntax.proofs.Places.{connection-spells}
 use Rattle.verilog_syntax.proofs.Items.{all-took}
@@ -6,7 +7,7 @@ use Rattle.verilog_syntax.proofs.Trees.{begins_expression, expression_begins}
 use Rattle.verilog_syntax.proofs.laws.grammar_law.Goals as goal
 
 pub returns-clause-spelled : goal.returns-clause-spelled
-returns-clause-spelled c = ?
+returns-clause-spelled c = spelled_law
 
 pub returns-clause-read : goal.returns-clause-read
 returns-clause-read c = ?
