@@ -1,3 +1,4 @@
+use Rattle.verilog_syntax.proofs.Apart.{free}
 use Rattle.verilog_syntax.proofs.SpelledLaw.{spelled_law}
 use Rattle.verilog_syntax.proofs.Forms.{statement_of-spells, header_of-spells}
 use Rattle.verilog_syntax.proofs.Places.{connection-spells}
