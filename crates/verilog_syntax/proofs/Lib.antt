@@ -3,6 +3,8 @@ pub mod Bodies
 pub mod Forms
 pub mod Items
 pub mod Places
+pub mod ReadItems
+pub mod ReadParts
 pub mod SpelledLaw
 pub mod Taken
 pub mod Trees

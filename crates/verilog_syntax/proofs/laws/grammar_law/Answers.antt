@@ -1,3 +1,5 @@
+use Rattle.verilog_syntax.proofs.ReadParts.{any-gets}
+use Rattle.verilog_syntax.proofs.ReadItems.{all-gets}
 use Rattle.verilog_syntax.proofs.Apart.{free}
 use Rattle.verilog_syntax.proofs.SpelledLaw.{spelled_law}
 use Rattle.verilog_syntax.proofs.Forms.{statement_of-spells, header_of-spells}
