@@ -3,6 +3,7 @@ pub mod Bodies
 pub mod Forms
 pub mod Items
 pub mod Places
+pub mod ReadForms
 pub mod ReadItems
 pub mod ReadParts
 pub mod SpelledLaw

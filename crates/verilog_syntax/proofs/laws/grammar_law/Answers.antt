@@ -1,3 +1,4 @@
+use Rattle.verilog_syntax.proofs.ReadForms.{statement-read, header-read}
 use Rattle.verilog_syntax.proofs.ReadParts.{any-gets}
 use Rattle.verilog_syntax.proofs.ReadItems.{all-gets}
 use Rattle.verilog_syntax.proofs.Apart.{free}
