@@ -1,10 +1,12 @@
 pub mod Apart
 pub mod Bodies
+pub mod Closing
 pub mod Forms
 pub mod Items
 pub mod Places
 pub mod ReadForms
 pub mod ReadItems
+pub mod ReadLaw
 pub mod ReadParts
 pub mod SpelledLaw
 pub mod Taken

@@ -62,7 +62,7 @@ target-gets x ws ts good variable e =
     let none : list_any is_a_constant g.value.items ≡ false = ap (list_any is_a_constant) all ∙ no_constant x.items variable in
     record { value = g.value; behind = g.behind; is = rw (g.is, none) refl; same = g.same; texts = g.texts }
 
-spelled_texts : (us : List (List ℕ)) → spelled (texts_parts us) ≡ us
+pub spelled_texts : (us : List (List ℕ)) → spelled (texts_parts us) ≡ us
 spelled_texts [] = refl
 spelled_texts (u ∷ us) = ap (λ (l : List (List ℕ)). u ∷ l) (spelled_texts us)
 

@@ -154,11 +154,11 @@ item-gets true i ws ts good other e = let g = later-gets i ws ts good e in recor
 item-gets false i ws ts good other e = let g = first-gets i ws ts good other e in record { end = g.end; behind = g.behind; is = g.is; texts = g.texts }
 
 -- what goes on behind the first item
-record Step (ended : Bool) (i : Item) (others : List Item) (depth : ℕ) : Type 0 where
+pub record Step (ended : Bool) (i : Item) (others : List Item) (depth : ℕ) : Type 0 where
   pub good : Allowed ended i
   pub going : Going (ends_one i) others (depth_behind depth i)
 
-step : (ended : Bool) (i : Item) (others : List Item) (depth : ℕ) → Going ended (i ∷ others) depth → Step ended i others depth
+pub step : (ended : Bool) (i : Item) (others : List Item) (depth : ℕ) → Going ended (i ∷ others) depth → Step ended i others depth
 step true i others zero going = absurd going
 step true items.Open others (suc depth) going = absurd going
 step true items.Comma others (suc depth) going = record { good = tt; going = going }
