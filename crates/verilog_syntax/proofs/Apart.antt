@@ -1,14 +1,10 @@
 -- Names, decimals and constants are told apart, from marks and from reserved words too.
-use Rattle.std.proofs.Common.{◌≡◌, ℕ, ◌<◌, ◌≤◌, Bool, true, false, ◌&&◌, not, ◌==◌, eqb, List, [], ◌∷◌, codes, refl, subst, arith}
-use Rattle.std.specs.List.{list_all}
+use Rattle.std.proofs.Common.{◌≡◌, ℕ, Bool, true, false, ◌&&◌, ◌==◌, List, [], ◌∷◌, codes, refl, subst, arith}
 use Rattle.std.specs.Str.{bytes_eq}
-use Rattle.std.proofs.lemmas.Bool.{eqb-true}
 use Rattle.std.proofs.lemmas.Bool.Decides.{nat_tests}
-use Rattle.text_scan.specs.Seams.{is_identifier}
-use Rattle.text_scan.specs.VerilogTokens.{is_digit, is_word_start, is_word}
-use Rattle.text_scan.specs.VerilogSplit.{is_escaped, is_based}
+use Rattle.text_scan.specs.VerilogTokens.{is_digit, is_word_start}
 use Rattle.text_scan.proofs.Spelled.{same_bytes}
-use Rattle.verilog_syntax.specs.Words.{is_reserved, is_name, is_decimal, is_constant}
+use Rattle.verilog_syntax.specs.Words.{is_name, is_decimal, is_constant}
 
 -- texts that a test tells apart aren't equal
 pub apart : (test : List ℕ → Bool) (w v : List ℕ) → test w ≡ true → test v ≡ false → bytes_eq w v ≡ false

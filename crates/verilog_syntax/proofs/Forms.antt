@@ -1,5 +1,5 @@
 -- What a statement is read from is what it is spelled by.
-use Rattle.std.proofs.Common.{◌≡◌, ℕ, ◌<◌, Bool, true, false, cond, List, [], ◌∷◌, ◌++◌, length, codes, Option, Some, None, refl, sym, ap, ◌∙◌, subst}
+use Rattle.std.proofs.Common.{◌≡◌, ℕ, Bool, true, false, cond, List, [], ◌∷◌, length, codes, Option, Some, None, refl, sym, ap, ◌∙◌, subst}
 use Rattle.std.specs.Str.{bytes_eq}
 use Rattle.std.specs.List.{list_any}
 use Rattle.std.proofs.lemmas.Bool.{eqb-true}
@@ -7,16 +7,14 @@ use Rattle.std.proofs.lemmas.List.{nil_from_length}
 use Rattle.std.proofs.lemmas.Option.{option_and_then_some, cond_some, same_Some, none-some}
 use Rattle.text_scan.specs.Each.{Each}
 use Rattle.text_scan.specs.Tokens.{Token}
-use Rattle.text_scan.specs.Parts.{Fixed, list_parts, Fits, Spells}
+use Rattle.text_scan.specs.Parts.{list_parts, Fits}
 use Rattle.text_scan.specs.Parsing.{mark_at, word_at, list_at}
 use Rattle.text_scan.proofs.Spelled.{same_bytes, choose, fits-append, Took, took-fits, mark-took, word-took, list-spells}
 use Rattle.verilog_syntax.specs.declared.statement.Declared.{Declared}
-use Rattle.verilog_syntax.specs.declared.statement.Declared.TheVariants as declared
 use Rattle.verilog_syntax.specs.declared.statement.Item.{Item}
 use Rattle.verilog_syntax.specs.declared.statement.Item.TheVariants as items
 use Rattle.verilog_syntax.specs.declared.statement.Expression.{Expression}
 use Rattle.verilog_syntax.specs.declared.statement.Statement.{Statement}
-use Rattle.verilog_syntax.specs.declared.statement.Statement.TheVariants as statements
 use Rattle.verilog_syntax.specs.Grammar.{IsName, IsVariable, expression_texts, texts_parts, name_parts, range_parts, declared_text, connection_parts, header_parts, statement_parts, IsGoodConnection, IsGoodHeader, IsGoodStatement, is_header}
 use Rattle.verilog_syntax.specs.Reading.{name_at, begins_at, expression_at, connection_at, any_at, range_at, declare_at, is_a_constant, target_at, assign_at, instance_at, kind_of, declared_at, statement_at, ports_at, header_at, all_of, statement_of, header_of}
 use Rattle.verilog_syntax.proofs.Taken.{name-took, begins-took}

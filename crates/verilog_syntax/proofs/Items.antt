@@ -1,16 +1,15 @@
 -- The items that are read are those of an expression, and they are spelled by the tokens that were taken.
-use Rattle.std.proofs.Common.{◌≡◌, ℕ, zero, suc, ◌+◌, ◌-◌, ◌<◌, ◌&&◌, ◌==◌, eqb, Bool, true, false, cond, List, [], ◌∷◌, ◌++◌, length, Option, Some, None, refl, sym, ap, ◌∙◌, subst, arith, append-nil}
+use Rattle.std.proofs.Common.{◌≡◌, ℕ, zero, suc, ◌+◌, ◌-◌, ◌<◌, ◌&&◌, ◌==◌, eqb, Bool, true, false, List, [], ◌∷◌, length, Some, refl, sym, subst, arith, append-nil}
 use Rattle.std.specs.List.{flat_map}
 use Rattle.std.proofs.lemmas.Bool.{eqb-true}
 use Rattle.std.proofs.lemmas.Option.{option_and_then_some, same_Some}
 use Rattle.text_scan.specs.Tokens.{Token}
-use Rattle.text_scan.specs.Parsing.{◌>>=◌}
 use Rattle.text_scan.proofs.Spelled.{choose}
 use Rattle.verilog_syntax.specs.declared.statement.Item.{Item}
 use Rattle.verilog_syntax.specs.declared.statement.Item.TheVariants as items
 use Rattle.verilog_syntax.specs.Grammar.{item_texts}
 use Rattle.verilog_syntax.specs.Reading.{Ended, item_at, depth_behind, ends_one, items_within, items_at}
-use Rattle.verilog_syntax.proofs.Taken.{Starts, GoesOn, Run, run-append, TookFirst, TookLater, first-took, later-took}
+use Rattle.verilog_syntax.proofs.Taken.{Starts, GoesOn, Run, run-append, first-took, later-took}
 use Rattle.verilog_syntax.proofs.Trees.{Begins, Behind}
 
 -- whether an expression has ended tells what the items go on with

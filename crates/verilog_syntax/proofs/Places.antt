@@ -1,21 +1,19 @@
 -- What the readers of expressions, connections and ranges take is what their values are spelled by.
-use Rattle.std.proofs.Common.{◌≡◌, ℕ, Bool, true, false, cond, List, [], ◌∷◌, ◌++◌, map, Option, Some, None, refl, sym, ap, ◌∙◌, subst}
+use Rattle.std.proofs.Common.{◌≡◌, ℕ, List, [], ◌∷◌, ◌++◌, Option, Some, refl, sym, ap, ◌∙◌, subst}
 use Rattle.std.specs.Str.{bytes_eq}
-use Rattle.std.specs.List.{flat_map}
 use Rattle.std.proofs.lemmas.Option.{option_and_then_some, same_Some}
 use Rattle.text_scan.specs.Each.{Each}
 use Rattle.text_scan.specs.Tokens.{Token}
-use Rattle.text_scan.specs.Parts.{Part, Fixed, Slot, list_parts, token_texts, IsPlace, FitsFixed, FitsSlot, Fits, Spells}
-use Rattle.text_scan.specs.Parsing.{mark_at, list_at}
-use Rattle.text_scan.specs.declared.span.Span.{Span}
+use Rattle.text_scan.specs.Parts.{Part, list_parts, token_texts, IsPlace, FitsSlot, Fits, Spells}
+use Rattle.text_scan.specs.Parsing.{mark_at}
 use Rattle.text_scan.proofs.Spelled.{same_bytes, choose, Took, took-fits, mark-took, list-spells}
 use Rattle.verilog_syntax.specs.declared.statement.Range.{Range}
 use Rattle.verilog_syntax.specs.declared.statement.Item.{Item}
 use Rattle.verilog_syntax.specs.declared.statement.Expression.{Expression}
 use Rattle.verilog_syntax.specs.declared.statement.Connection.{Connection}
-use Rattle.verilog_syntax.specs.Grammar.{IsName, item_texts, expression_texts, IsExpression, IsAnyExpression, texts_parts, name_parts, range_parts, connection_parts, IsGoodRange, IsGoodConnection}
+use Rattle.verilog_syntax.specs.Grammar.{IsName, expression_texts, IsExpression, IsAnyExpression, texts_parts, name_parts, range_parts, connection_parts, IsGoodRange, IsGoodConnection}
 use Rattle.verilog_syntax.specs.Reading.{name_at, decimal_at, begins_at, items_at, start_of, expression_at, any_expression_at, connection_at, any_at, bounds_at, range_at}
-use Rattle.verilog_syntax.proofs.Taken.{name-took, decimal-took, begins-took, EndsAt, Run}
+use Rattle.verilog_syntax.proofs.Taken.{name-took, decimal-took, begins-took, EndsAt}
 use Rattle.verilog_syntax.proofs.Items.{all-took}
 use Rattle.verilog_syntax.proofs.Trees.{begins_expression}
 

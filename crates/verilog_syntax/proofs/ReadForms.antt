@@ -1,13 +1,12 @@
 -- Tokens that spell a statement are read as it.
-use Rattle.std.proofs.Common.{◌≡◌, ℕ, ◌<◌, Bool, true, false, cond, List, [], ◌∷◌, ◌++◌, length, map, codes, Option, Some, None, refl, sym, ap, ◌∙◌, arith, append_assoc, append-nil}
+use Rattle.std.proofs.Common.{◌≡◌, ℕ, ◌<◌, Bool, true, false, List, [], ◌∷◌, ◌++◌, length, codes, Option, Some, None, refl, sym, ap, ◌∙◌, append_assoc, append-nil}
 use Rattle.std.specs.List.{list_any}
 use Rattle.std.specs.Str.{bytes_eq}
 use Rattle.std.proofs.lemmas.List.{map-id}
 use Rattle.text_scan.specs.Each.{Each}
 use Rattle.text_scan.specs.Tokens.{Token}
 use Rattle.text_scan.specs.Parts.{Part, Fixed, Slot, list_parts, spelled, token_texts}
-use Rattle.text_scan.specs.Parsing.{mark_at, word_at, list_at}
-use Rattle.text_scan.proofs.Unspelled.{spelled_append, same_text, Gets, mark-gets, word-gets, list-gets}
+use Rattle.text_scan.proofs.Unspelled.{spelled_append, Gets, mark-gets, word-gets, list-gets}
 use Rattle.verilog_syntax.specs.declared.statement.Declared.{Declared}
 use Rattle.verilog_syntax.specs.declared.statement.Declared.TheVariants as declared
 use Rattle.verilog_syntax.specs.declared.statement.Range.{Range}
@@ -18,7 +17,7 @@ use Rattle.verilog_syntax.specs.declared.statement.Connection.{Connection}
 use Rattle.verilog_syntax.specs.declared.statement.Statement.{Statement}
 use Rattle.verilog_syntax.specs.declared.statement.Statement.TheVariants as statements
 use Rattle.verilog_syntax.specs.Grammar.{IsName, expression_texts, IsExpression, IsVariable, texts_parts, name_parts, declared_text, range_parts, connection_parts, header_parts, statement_parts, IsGoodRange, IsGoodConnection, IsGoodHeader, IsGoodStatement, is_header}
-use Rattle.verilog_syntax.specs.Reading.{name_at, begins_at, expression_at, connection_at, any_at, range_at, declare_at, is_a_constant, target_at, assign_at, instance_at, kind_of, declared_at, statement_at, ports_at, header_at, all_of, statement_of, header_of}
+use Rattle.verilog_syntax.specs.Reading.{name_at, connection_at, declare_at, is_a_constant, target_at, assign_at, instance_at, kind_of, statement_at, ports_at, header_at, all_of, statement_of, header_of}
 use Rattle.verilog_syntax.specs.Laws.{bare_expression, bare_connection, bare_statement}
 use Rattle.verilog_syntax.proofs.Apart.{Free, free}
 use Rattle.verilog_syntax.proofs.ReadItems.{GetsValue, name-gets, begins-other, begins-gets}

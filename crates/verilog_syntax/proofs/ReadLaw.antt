@@ -1,23 +1,22 @@
 -- What the tokens of a text spell is what it is read as.
-use Rattle.std.proofs.Common.{◌≡◌, ℕ, suc, ◌+◌, ◌==◌, Bool, true, false, cond, List, [], ◌∷◌, ◌++◌, length, take, drop, map, codes, Option, Some, None, Result, Ok, Err, refl, sym, ap, ◌∙◌, subst, arith, append_assoc, append-nil, length-append}
+use Rattle.std.proofs.Common.{◌≡◌, ℕ, ◌+◌, ◌==◌, Bool, false, List, [], ◌∷◌, ◌++◌, length, take, drop, codes, Some, Result, Ok, refl, sym, ap, ◌∙◌, subst, arith, append_assoc, length-append}
 use Rattle.std.specs.Str.{bytes_eq}
 use Rattle.std.proofs.lemmas.Bool.{ne_eqb}
 use Rattle.std.proofs.lemmas.List.{map-append}
 use lib.Seq.{take-append_seam, drop-append-add}
 use Rattle.text_scan.specs.Each.{Each}
-use Rattle.text_scan.specs.Statements.{is_semicolon, begin_with, statements_of}
-use Rattle.text_scan.specs.Tokens.{Token, tokens_of}
-use Rattle.text_scan.specs.VerilogTokens.{verilog_tokens}
-use Rattle.text_scan.specs.Parts.{Part, Fixed, spelled, token_texts}
+use Rattle.text_scan.specs.Statements.{begin_with, statements_of}
+use Rattle.text_scan.specs.Tokens.{Token}
+use Rattle.text_scan.specs.Parts.{spelled, token_texts}
 use Rattle.text_scan.specs.declared.fault.Fault.{Fault}
 use Rattle.text_scan.proofs.Unspelled.{spelled_append, same_text}
 use Rattle.verilog_syntax.specs.declared.statement.Statement.{Statement}
 use Rattle.verilog_syntax.specs.declared.reading.Placed.{Placed}
 use Rattle.verilog_syntax.specs.Grammar.{statement_parts, IsGoodStatement, is_header}
-use Rattle.verilog_syntax.specs.Reading.{statement_of, header_of, result_and_then, line_of_tokens, placed_or, read_statement, read_header, read_others, read_body, ends_module, body_len, read_end, read_module, read_statements}
-use Rattle.verilog_syntax.specs.Laws.{module_parts, AreInOrder, AreGood, bare_statement, bare, AreRead, ReadLaw, NoStatementLaw, NoHeaderLaw, tokens_in}
+use Rattle.verilog_syntax.specs.Reading.{statement_of, header_of, line_of_tokens, read_statement, read_header, read_others, read_body, body_len, read_end, read_module}
+use Rattle.verilog_syntax.specs.Laws.{module_parts, AreInOrder, AreGood, bare, ReadLaw, NoStatementLaw, NoHeaderLaw, tokens_in}
 use Rattle.verilog_syntax.proofs.Closing.{IsInner, Shape, statement_shape}
-use Rattle.verilog_syntax.proofs.ReadForms.{IsRead, statement-read, header-read}
+use Rattle.verilog_syntax.proofs.ReadForms.{statement-read, header-read}
 
 -- where the texts of tokens are cut, so are the tokens
 record CutTexts (us ws : List (List ℕ)) (ts : List Token) : Type 0 where
@@ -64,6 +63,7 @@ first_statement ws rest ts s e = with_cut (cut_texts s.front ((59 ∷ []) ∷ re
           first = map-append (λ t. t.text) front (t ∷ []) ∙ rw (f, text) (sym s.is);
           second = cc;
         }
+
     with_cut : CutTexts s.front ((59 ∷ []) ∷ rest) ts → FirstStatement ws rest ts
     with_cut c = closed c.front c.behind c.is c.first c.second
 
@@ -167,6 +167,7 @@ module-read listed text ts ps good e = with_cut (cut_texts (others_texts listed 
         let left : drop (body_len ts + 1) ts ≡ [] = ap (λ (n : ℕ). drop (n + 1) ts) len ∙ ap (drop (length front + 1)) is ∙ drop-append-add front (t ∷ []) 1 in
         let body = body-read listed text (line_of_tokens text ts) ps (take (body_len ts) ts) good.order good.good (ap token_texts taken ∙ f) in
         record { values = body.values; is = rw (differ, body.is, end-ok text (drop (body_len ts + 1) ts) left) refl; same = body.same }
+
     with_cut : CutTexts (others_texts listed ps) (codes "endmodule" ∷ []) ts → ReadAs (read_module text ts) ps
     with_cut c = ended c.front c.behind c.is c.first c.second
 

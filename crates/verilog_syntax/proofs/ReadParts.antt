@@ -1,11 +1,10 @@
 -- Tokens that spell an expression, a connection or a range are read as it.
-use Rattle.std.proofs.Common.{◌≡◌, ℕ, ◌<◌, Bool, true, false, cond, List, [], ◌∷◌, ◌++◌, length, map, Option, Some, None, refl, sym, ap, ◌∙◌, append_assoc, arith}
+use Rattle.std.proofs.Common.{◌≡◌, ℕ, ◌<◌, false, List, [], ◌∷◌, ◌++◌, length, map, Option, Some, None, refl, ap, ◌∙◌, append_assoc, arith}
 use Rattle.std.specs.List.{flat_map}
 use Rattle.std.specs.Str.{bytes_eq}
 use Rattle.text_scan.specs.Each.{Each}
 use Rattle.text_scan.specs.Tokens.{Token}
 use Rattle.text_scan.specs.Parts.{Part, Fixed, Slot, list_parts, spelled, token_texts}
-use Rattle.text_scan.specs.Parsing.{mark_at, list_at}
 use Rattle.text_scan.specs.declared.span.Span.{Span}
 use Rattle.text_scan.proofs.Unspelled.{same_text, Gets, mark-gets, list-gets}
 use Rattle.verilog_syntax.specs.declared.statement.Range.{Range}
@@ -15,8 +14,8 @@ use Rattle.verilog_syntax.specs.declared.statement.Expression.{Expression}
 use Rattle.verilog_syntax.specs.declared.statement.Connection.{Connection}
 use Rattle.verilog_syntax.specs.Words.{is_name, is_constant}
 use Rattle.verilog_syntax.specs.Grammar.{IsName, item_texts, expression_texts, IsExpression, IsAnyExpression, name_parts, range_parts, connection_parts, IsGoodRange, IsGoodConnection}
-use Rattle.verilog_syntax.specs.Reading.{name_at, begins_at, start_of, expression_at, any_expression_at, connection_at, any_at, bounds_at, range_at}
-use Rattle.verilog_syntax.specs.Laws.{nowhere, bare_expression, bare_connection}
+use Rattle.verilog_syntax.specs.Reading.{name_at, start_of, expression_at, any_expression_at, connection_at, any_at, bounds_at, range_at}
+use Rattle.verilog_syntax.specs.Laws.{bare_expression, bare_connection}
 use Rattle.verilog_syntax.proofs.Apart.{apart, mark_no_name, mark_no_constant}
 use Rattle.verilog_syntax.proofs.Trees.{Begins, expression_begins}
 use Rattle.verilog_syntax.proofs.ReadItems.{GetsValue, name-gets, decimal-gets, NoMark, begins-other, begins-gets, all-gets}

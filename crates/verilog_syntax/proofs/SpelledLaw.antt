@@ -1,11 +1,10 @@
 -- What a text is read as is spelled by its tokens.
-use Rattle.std.proofs.Common.{◌≡◌, ℕ, ◌+◌, ◌==◌, Bool, true, false, cond, List, [], ◌∷◌, ◌++◌, length, take, drop, codes, Option, Some, None, Result, Ok, Err, refl, sym, ap, ◌∙◌, subst, append_assoc}
+use Rattle.std.proofs.Common.{◌≡◌, ℕ, ◌+◌, ◌==◌, Bool, false, List, [], ◌∷◌, ◌++◌, length, take, drop, codes, Option, Some, None, Result, Ok, Err, refl, sym, ap, ◌∙◌, subst, append_assoc}
 use Rattle.std.specs.Str.{bytes_eq}
 use Rattle.text_scan.specs.Each.{Each}
 use Rattle.text_scan.specs.Lines.{line_at}
 use Rattle.text_scan.specs.Statements.{statements_of}
-use Rattle.text_scan.specs.Tokens.{Token, tokens_of}
-use Rattle.text_scan.specs.VerilogTokens.{verilog_tokens}
+use Rattle.text_scan.specs.Tokens.{Token}
 use Rattle.text_scan.specs.Parts.{Part, Fixed, Slot, Fits}
 use Rattle.text_scan.specs.declared.fault.Fault.{Fault}
 use Rattle.text_scan.specs.declared.kind.Kind.TheVariants.{VerilogSyntax, SecondModule}
@@ -13,10 +12,10 @@ use Rattle.text_scan.proofs.Spelled.{choose, fits-append}
 use Rattle.verilog_syntax.specs.declared.statement.Statement.{Statement}
 use Rattle.verilog_syntax.specs.declared.reading.Placed.{Placed}
 use Rattle.verilog_syntax.specs.Grammar.{statement_parts, IsGoodStatement, is_header}
-use Rattle.verilog_syntax.specs.Reading.{statement_of, header_of, result_and_then, fault_at, line_of_tokens, placed_or, read_statement, read_header, read_others, read_body, body_len, read_end, read_module, read_statements}
-use Rattle.verilog_syntax.specs.Laws.{module_parts, AreInOrder, AreGood, AreSpelled, SpelledLaw, tokens_in}
-use Rattle.verilog_syntax.proofs.Forms.{SpellsOne, SpellsHeader, statement_of-spells, header_of-spells}
-use Rattle.verilog_syntax.proofs.Bodies.{IsEnd, Closed, closed, joined, joined-statements}
+use Rattle.verilog_syntax.specs.Reading.{statement_of, header_of, result_and_then, fault_at, line_of_tokens, placed_or, read_statement, read_header, read_others, read_body, body_len, read_end, read_module}
+use Rattle.verilog_syntax.specs.Laws.{module_parts, AreGood, SpelledLaw, tokens_in}
+use Rattle.verilog_syntax.proofs.Forms.{statement_of-spells, header_of-spells}
+use Rattle.verilog_syntax.proofs.Bodies.{IsEnd, closed, joined, joined-statements}
 
 ok-err : {X P : Type 0} (f : Fault) (x : X) → ◌≡◌ {A = Result X Fault} (Err f) (Ok x) → P
 ok-err f x e = absurd cc

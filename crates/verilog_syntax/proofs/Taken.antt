@@ -1,5 +1,5 @@
 -- What the reader of an operand takes is what the operand is spelled by.
-use Rattle.std.proofs.Common.{◌≡◌, ℕ, zero, suc, ◌+◌, Bool, true, false, cond, List, [], ◌∷◌, ◌++◌, map, Option, Some, None, refl, sym, ap, ◌∙◌, subst, append_assoc}
+use Rattle.std.proofs.Common.{◌≡◌, ℕ, Bool, true, false, List, [], ◌∷◌, ◌++◌, Some, refl, sym, ap, ◌∙◌, subst, append_assoc}
 use Rattle.std.specs.Str.{bytes_eq}
 use Rattle.std.proofs.lemmas.List.{map-append}
 use Rattle.std.proofs.lemmas.Option.{option_and_then_some, cond_some, same_Some}
@@ -9,8 +9,8 @@ use Rattle.text_scan.proofs.Spelled.{same_bytes, choose, Took}
 use Rattle.verilog_syntax.specs.declared.statement.Item.{Item}
 use Rattle.verilog_syntax.specs.declared.statement.Item.TheVariants as items
 use Rattle.verilog_syntax.specs.Words.{is_name, is_decimal, is_constant}
-use Rattle.verilog_syntax.specs.Grammar.{IsName, IsDecimal, IsOperand, item_texts}
-use Rattle.verilog_syntax.specs.Reading.{text_at, name_at, decimal_at, begins_at, Ended, bracket_at, part_at, bit_at, select_at, named_at, first_at, later_at, item_at, ends_one}
+use Rattle.verilog_syntax.specs.Grammar.{IsName, IsDecimal, item_texts}
+use Rattle.verilog_syntax.specs.Reading.{text_at, name_at, decimal_at, begins_at, Ended, bracket_at, part_at, bit_at, select_at, named_at, first_at, later_at}
 
 -- one token, whose text passes a test
 pub record TookText (test : List ℕ → Bool) (w : List ℕ) (rest ts : List Token) : Type 0 where
