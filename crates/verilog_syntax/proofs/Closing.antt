@@ -1,7 +1,6 @@
 -- The tokens of a statement have one semicolon, at their end, and no endmodule.
 use Rattle.std.proofs.Common.{◌≡◌, ℕ, ◌<◌, Bool, true, false, List, [], ◌∷◌, ◌++◌, length, codes, Option, Some, None, refl, sym, ap, ◌∙◌, subst, arith, append_assoc}
 use Rattle.std.specs.List.{flat_map}
-use Rattle.std.specs.Str.{bytes_eq}
 use Rattle.text_scan.specs.Each.{Each}
 use Rattle.text_scan.specs.Parts.{Part, Fixed, Slot, list_parts, spelled}
 use Rattle.text_scan.proofs.Unspelled.{spelled_append}
@@ -13,18 +12,13 @@ use Rattle.verilog_syntax.specs.declared.statement.Item.TheVariants as items
 use Rattle.verilog_syntax.specs.declared.statement.Connection.{Connection}
 use Rattle.verilog_syntax.specs.declared.statement.Statement.{Statement}
 use Rattle.verilog_syntax.specs.declared.statement.Statement.TheVariants as statements
-use Rattle.verilog_syntax.specs.Words.{is_name, is_decimal, is_constant}
-use Rattle.verilog_syntax.specs.Grammar.{IsName, IsDecimal, item_texts, expression_texts, IsExpression, IsAnyExpression, texts_parts, name_parts, declared_text, range_parts, connection_parts, header_parts, statement_parts, IsGoodRange, IsGoodConnection, IsGoodHeader, IsGoodStatement}
+use Rattle.verilog_syntax.specs.Grammar.{IsName, item_texts, expression_texts, IsExpression, IsAnyExpression, texts_parts, name_parts, declared_text, range_parts, connection_parts, header_parts, statement_parts, IsGoodRange, IsGoodConnection, IsGoodHeader, IsGoodStatement}
 use Rattle.verilog_syntax.specs.Reading.{depth_behind, ends_one}
-use Rattle.verilog_syntax.proofs.Apart.{apart, mark_no_name, mark_no_constant, mark_no_decimal, end_no_number, free}
-use Rattle.verilog_syntax.proofs.Items.{Going, Allowed}
+use Rattle.verilog_syntax.proofs.Apart.{IsInner, name_inner, decimal_inner, constant_inner}
+use Rattle.verilog_syntax.proofs.ItemsTaken.{Going, Allowed}
 use Rattle.verilog_syntax.proofs.Trees.{expression_begins}
 use Rattle.verilog_syntax.proofs.ReadItems.{step}
 use Rattle.verilog_syntax.proofs.ReadForms.{spelled_texts}
-
--- the token ends neither a statement nor the module
-abbrev pub IsInner : List ℕ → Type 0
-IsInner w = (bytes_eq w (59 ∷ []) ≡ false) × (bytes_eq w (codes "endmodule") ≡ false)
 
 abbrev AllInner : List (List ℕ) → Type 0
 AllInner ws = Each IsInner ws
@@ -32,15 +26,6 @@ AllInner ws = Each IsInner ws
 all_join : (us ws : List (List ℕ)) → AllInner us → AllInner ws → AllInner (us ++ ws)
 all_join [] ws a b = b
 all_join (u ∷ us) ws a b = (a.0, all_join us ws a.1 b)
-
-name_inner : (w : List ℕ) → IsName w → IsInner w
-name_inner w good = (apart is_name w (59 ∷ []) good mark_no_name.3, (free w good).endmodule)
-
-decimal_inner : (w : List ℕ) → IsDecimal w → IsInner w
-decimal_inner w good = (apart is_decimal w (59 ∷ []) good mark_no_decimal.0, apart is_decimal w (codes "endmodule") good end_no_number.1)
-
-constant_inner : (w : List ℕ) → is_constant w ≡ true → IsInner w
-constant_inner w good = (apart is_constant w (59 ∷ []) good mark_no_constant.1, apart is_constant w (codes "endmodule") good end_no_number.0)
 
 item_inner : (ended : Bool) (i : Item) → Allowed ended i → AllInner (item_texts i)
 item_inner true items.Open good = absurd good

@@ -2,7 +2,7 @@ pub mod Apart
 pub mod Bodies
 pub mod Closing
 pub mod Forms
-pub mod Items
+pub mod ItemsTaken
 pub mod Places
 pub mod ReadForms
 pub mod ReadItems

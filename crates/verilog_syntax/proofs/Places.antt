@@ -14,7 +14,7 @@ use Rattle.verilog_syntax.specs.declared.statement.Connection.{Connection}
 use Rattle.verilog_syntax.specs.Grammar.{IsName, expression_texts, IsExpression, IsAnyExpression, texts_parts, name_parts, range_parts, connection_parts, IsGoodRange, IsGoodConnection}
 use Rattle.verilog_syntax.specs.Reading.{name_at, decimal_at, begins_at, items_at, start_of, expression_at, any_expression_at, connection_at, any_at, bounds_at, range_at}
 use Rattle.verilog_syntax.proofs.Taken.{name-took, decimal-took, begins-took, EndsAt}
-use Rattle.verilog_syntax.proofs.Items.{all-took}
+use Rattle.verilog_syntax.proofs.ItemsTaken.{all-took}
 use Rattle.verilog_syntax.proofs.Trees.{begins_expression}
 
 pub name-spells : (ts : List Token) (r : List ℕ × List Token) → name_at ts ≡ Some r → Spells name_parts IsName r.0 r.1 ts

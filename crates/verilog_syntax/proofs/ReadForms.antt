@@ -19,7 +19,7 @@ use Rattle.verilog_syntax.specs.declared.statement.Statement.TheVariants as stat
 use Rattle.verilog_syntax.specs.Grammar.{IsName, expression_texts, IsExpression, IsVariable, texts_parts, name_parts, declared_text, range_parts, connection_parts, header_parts, statement_parts, IsGoodRange, IsGoodConnection, IsGoodHeader, IsGoodStatement, is_header}
 use Rattle.verilog_syntax.specs.Reading.{name_at, connection_at, declare_at, is_a_constant, target_at, assign_at, instance_at, kind_of, statement_at, ports_at, header_at, all_of, statement_of, header_of}
 use Rattle.verilog_syntax.specs.Laws.{bare_expression, bare_connection, bare_statement}
-use Rattle.verilog_syntax.proofs.Apart.{Free, free}
+use Rattle.verilog_syntax.proofs.Apart.{IsNone, name_none}
 use Rattle.verilog_syntax.proofs.ReadItems.{GetsValue, name-gets, begins-other, begins-gets}
 use Rattle.verilog_syntax.proofs.ReadParts.{expression-gets, connection-gets, any-gets, connection_head, name_head, names_no_bracket, one-name-gets, range-gets}
 
@@ -125,7 +125,7 @@ kind_is declared.Tri = refl
 kind_is declared.Supply0 = refl
 kind_is declared.Supply1 = refl
 
-name_no_kind : (w : List ℕ) → Free w → kind_of w ≡ None
+name_no_kind : (w : List ℕ) → IsNone w → kind_of w ≡ None
 unfolding kind_of
 name_no_kind w f = rw (f.input, f.output, f.inout, f.wire, f.tri, f.supply0, f.supply1) refl
 
@@ -146,7 +146,7 @@ statement-gets listed (statements.Assign left right) ws (t ∷ ts) behind good e
 statement-gets listed (statements.Instance cell name connections) ws [] behind good e = absurd cc
 statement-gets listed (statements.Instance cell name connections) ws (t ∷ ts) behind good e =
     let text : t.text ≡ cell = cc in
-    let f = free cell good.0 in
+    let f = name_none cell good.0 in
     let list = list_parts connection_parts 41 connections in
     let more = ap (λ (l : List (List ℕ)). cell ∷ name ∷ (40 ∷ []) ∷ (l ++ ws)) (spelled_append list (Fixed (59 ∷ []) ∷ [])) in
     let cut = ap (λ (l : List (List ℕ)). cell ∷ name ∷ (40 ∷ []) ∷ l) (append_assoc (spelled list) ((59 ∷ []) ∷ []) ws) in

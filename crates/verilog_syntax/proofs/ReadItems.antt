@@ -12,9 +12,9 @@ use Rattle.verilog_syntax.specs.declared.statement.Item.TheVariants as items
 use Rattle.verilog_syntax.specs.Words.{is_name, is_decimal, is_constant}
 use Rattle.verilog_syntax.specs.Grammar.{IsName, IsDecimal, item_texts}
 use Rattle.verilog_syntax.specs.Reading.{text_at, name_at, decimal_at, begins_at, Ended, bracket_at, part_at, bit_at, select_at, named_at, first_at, later_at, item_at, depth_behind, ends_one, items_within, items_at}
-use Rattle.verilog_syntax.proofs.Apart.{constant_no_name, mark_no_name, mark_no_constant}
+use Rattle.verilog_syntax.proofs.Apart.{constant_no_name, brace_no_name, brace_no_constant}
 use Rattle.verilog_syntax.proofs.Taken.{Starts, GoesOn}
-use Rattle.verilog_syntax.proofs.Items.{Going, Allowed}
+use Rattle.verilog_syntax.proofs.ItemsTaken.{Going, Allowed}
 use Rattle.verilog_syntax.proofs.Trees.{Begins, Behind}
 
 -- what a reader gives at these tokens
@@ -102,8 +102,8 @@ unfolding first_at named_at
 first-gets items.Open ws [] good other e = absurd cc
 first-gets items.Open ws (t ∷ ts) good other e =
     let text : t.text ≡ 123 ∷ [] = cc in
-    let name : is_name t.text ≡ false = rw text mark_no_name.4 in
-    let constant : is_constant t.text ≡ false = rw text mark_no_constant.2 in
+    let name : is_name t.text ≡ false = rw text brace_no_name in
+    let constant : is_constant t.text ≡ false = rw text brace_no_constant in
     record { end = t.end; behind = ts; is = rw (name, constant, same_text t.text (123 ∷ []) text) refl; texts = cc }
 first-gets items.Comma ws ts good other e = absurd good
 first-gets items.Close ws ts good other e = absurd good
@@ -116,16 +116,16 @@ first-gets (items.Bit name index) ws [] good other e = absurd cc
 first-gets (items.Bit name index) ws (t ∷ ts) good other e =
     let text : t.text ≡ name = cc in
     let texts : token_texts ts ≡ (91 ∷ []) ∷ index ∷ (93 ∷ []) ∷ ws = cc in
-    let open' = begins-gets 91 _ ts texts in
-    let g = bit-gets name index ws open'.behind good.1 open'.texts in
-    record { end = g.end; behind = g.behind; is = rw (text, good.0, open'.is) g.is; texts = g.texts }
+    let bracket = begins-gets 91 _ ts texts in
+    let g = bit-gets name index ws bracket.behind good.1 bracket.texts in
+    record { end = g.end; behind = g.behind; is = rw (text, good.0, bracket.is) g.is; texts = g.texts }
 first-gets (items.Part name left right) ws [] good other e = absurd cc
 first-gets (items.Part name left right) ws (t ∷ ts) good other e =
     let text : t.text ≡ name = cc in
     let texts : token_texts ts ≡ (91 ∷ []) ∷ left ∷ (58 ∷ []) ∷ right ∷ (93 ∷ []) ∷ ws = cc in
-    let open' = begins-gets 91 _ ts texts in
-    let g = part-gets name left right ws open'.behind good.1 good.2 open'.texts in
-    record { end = g.end; behind = g.behind; is = rw (text, good.0, open'.is) g.is; texts = g.texts }
+    let bracket = begins-gets 91 _ ts texts in
+    let g = part-gets name left right ws bracket.behind good.1 good.2 bracket.texts in
+    record { end = g.end; behind = g.behind; is = rw (text, good.0, bracket.is) g.is; texts = g.texts }
 first-gets (items.Constant text) ws [] good other e = absurd cc
 first-gets (items.Constant text) ws (t ∷ ts) good other e =
     let same : t.text ≡ text = cc in

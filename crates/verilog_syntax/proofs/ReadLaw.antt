@@ -15,7 +15,8 @@ use Rattle.verilog_syntax.specs.declared.reading.Placed.{Placed}
 use Rattle.verilog_syntax.specs.Grammar.{statement_parts, IsGoodStatement, is_header}
 use Rattle.verilog_syntax.specs.Reading.{statement_of, header_of, line_of_tokens, read_statement, read_header, read_others, read_body, body_len, read_end, read_module}
 use Rattle.verilog_syntax.specs.Laws.{module_parts, AreInOrder, AreGood, bare, ReadLaw, NoStatementLaw, NoHeaderLaw, tokens_in}
-use Rattle.verilog_syntax.proofs.Closing.{IsInner, Shape, statement_shape}
+use Rattle.verilog_syntax.proofs.Apart.{IsInner}
+use Rattle.verilog_syntax.proofs.Closing.{Shape, statement_shape}
 use Rattle.verilog_syntax.proofs.ReadForms.{statement-read, header-read}
 
 -- where the texts of tokens are cut, so are the tokens

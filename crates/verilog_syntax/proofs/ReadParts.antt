@@ -12,11 +12,10 @@ use Rattle.verilog_syntax.specs.declared.statement.Item.{Item}
 use Rattle.verilog_syntax.specs.declared.statement.Item.TheVariants as items
 use Rattle.verilog_syntax.specs.declared.statement.Expression.{Expression}
 use Rattle.verilog_syntax.specs.declared.statement.Connection.{Connection}
-use Rattle.verilog_syntax.specs.Words.{is_name, is_constant}
 use Rattle.verilog_syntax.specs.Grammar.{IsName, item_texts, expression_texts, IsExpression, IsAnyExpression, name_parts, range_parts, connection_parts, IsGoodRange, IsGoodConnection}
 use Rattle.verilog_syntax.specs.Reading.{name_at, start_of, expression_at, any_expression_at, connection_at, any_at, bounds_at, range_at}
 use Rattle.verilog_syntax.specs.Laws.{bare_expression, bare_connection}
-use Rattle.verilog_syntax.proofs.Apart.{apart, mark_no_name, mark_no_constant}
+use Rattle.verilog_syntax.proofs.Apart.{name_none, constant_no_parenthesis}
 use Rattle.verilog_syntax.proofs.Trees.{Begins, expression_begins}
 use Rattle.verilog_syntax.proofs.ReadItems.{GetsValue, name-gets, decimal-gets, NoMark, begins-other, begins-gets, all-gets}
 
@@ -32,10 +31,10 @@ no_close [] ws t ts begins e = absurd begins
 no_close (items.Open ∷ others) ws t ts begins e = let text : t.text ≡ 123 ∷ [] = cc in rw text refl
 no_close (items.Comma ∷ others) ws t ts begins e = absurd begins
 no_close (items.Close ∷ others) ws t ts begins e = absurd begins
-no_close (items.Name name ∷ others) ws t ts begins e = let text : t.text ≡ name = cc in rw text (apart is_name name (41 ∷ []) begins.0 mark_no_name.2)
-no_close (items.Bit name index ∷ others) ws t ts begins e = let text : t.text ≡ name = cc in rw text (apart is_name name (41 ∷ []) begins.0.0 mark_no_name.2)
-no_close (items.Part name left right ∷ others) ws t ts begins e = let text : t.text ≡ name = cc in rw text (apart is_name name (41 ∷ []) begins.0.0 mark_no_name.2)
-no_close (items.Constant text ∷ others) ws t ts begins e = let same : t.text ≡ text = cc in rw same (apart is_constant text (41 ∷ []) begins.0 mark_no_constant.0)
+no_close (items.Name name ∷ others) ws t ts begins e = let text : t.text ≡ name = cc in rw text ((name_none name begins.0).parenthesis)
+no_close (items.Bit name index ∷ others) ws t ts begins e = let text : t.text ≡ name = cc in rw text ((name_none name begins.0.0).parenthesis)
+no_close (items.Part name left right ∷ others) ws t ts begins e = let text : t.text ≡ name = cc in rw text ((name_none name begins.0.0).parenthesis)
+no_close (items.Constant text ∷ others) ws t ts begins e = let same : t.text ≡ text = cc in rw same (constant_no_parenthesis text begins.0)
 
 any-expression-gets : (all : List Item) (span : Span) (ws : List (List ℕ)) (ts : List Token) → IsAnyExpression all → token_texts ts ≡ flat_map item_texts all ++ (41 ∷ []) ∷ ws
     → Gets any_expression_at bare_expression (record { items = all; span = span }) ((41 ∷ []) ∷ ws) ts
@@ -131,13 +130,13 @@ pub connection_head : (c : Connection) → IsGoodConnection c → BeginsApart 41
 connection_head c good = record { word = 46 ∷ []; more = Fixed c.pin ∷ Slot 40 c.expression.span (expression_texts c.expression) 41 ∷ []; is = refl; other = refl }
 
 pub name_head : (name : List ℕ) → IsName name → BeginsApart 41 (name_parts name)
-name_head name good = record { word = name; more = []; is = refl; other = apart is_name name (41 ∷ []) good mark_no_name.2 }
+name_head name good = record { word = name; more = []; is = refl; other = (name_none name good).parenthesis }
 
 -- names do not begin with a bracket
 pub names_no_bracket : (names ws : List (List ℕ)) → 0 < length names → Each IsName names → NoMark 91 (spelled (list_parts name_parts 59 names) ++ ws)
 names_no_bracket [] ws some good = absurd (omega arith)
 names_no_bracket (n ∷ names) ws some good =
-    head_no_mark 91 _ (list_head name_parts 91 59 n names ws (record { word = n; more = []; is = refl; other = apart is_name n (91 ∷ []) good.0 mark_no_name.0 }))
+    head_no_mark 91 _ (list_head name_parts 91 59 n names ws (record { word = n; more = []; is = refl; other = (name_none n good.0).bracket }))
 
 pub one-name-gets : (name : List ℕ) (ws : List (List ℕ)) (ts : List Token) → IsName name → token_texts ts ≡ spelled (name_parts name) ++ ws → Gets name_at (λ (n : List ℕ). n) name ws ts
 one-name-gets name ws ts good e = let g = name-gets name ws ts good e in record { value = name; behind = g.behind; is = g.is; same = refl; texts = g.texts }

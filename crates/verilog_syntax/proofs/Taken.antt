@@ -167,8 +167,8 @@ named-took t ts r good e =
     option_and_then_some _ (begins_at 91 ts) _ e (λ bracket b e.
     let mark = begins-took 91 ts bracket b in
     choose bracket.0 _ _ _ e
-    (λ yes' e.
-    let took = mark.stood yes' in
+    (λ stands e.
+    let took = mark.stood stands in
     subst (λ (l : List Token). TookFirst r.0.0 r.0.1 r.1 (t ∷ l)) (sym took.is) (select-took t.text t took.token refl good took.text bracket.1 r e))
     (λ other e.
     subst (λ (r : Ended × List Token). TookFirst r.0.0 r.0.1 r.1 (t ∷ ts)) (same_Some _ _ e)

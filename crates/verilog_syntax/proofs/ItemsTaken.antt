@@ -41,8 +41,8 @@ later_going (items.Part name left right) others (suc depth) good some going = go
 later_going (items.Constant text) others (suc depth) good some going = good
 
 more_going : (ended : Bool) (i : Item) (others : List Item) (depth : ℕ) → Allowed ended i → (ended ≡ true → 0 < depth) → Going (ends_one i) others (depth_behind depth i) → Going ended (i ∷ others) depth
-more_going true i others depth good open' going = later_going i others depth good (open' refl) going
-more_going false i others depth good open' going = first_going i others depth good going
+more_going true i others depth good inside going = later_going i others depth good (inside refl) going
+more_going false i others depth good inside going = first_going i others depth good going
 
 -- the outermost expression ends here, or goes on with braces open
 stop_going : (ended : Bool) (depth : ℕ) → (ended && eqb depth 0) ≡ true → Going ended [] depth
@@ -74,8 +74,8 @@ Items = (List Item × ℕ) × List Token
 
 items-took : (n depth : ℕ) (ended : Bool) (ts : List Token) (r : Items) → (ended ≡ true → 0 < depth) → items_within n depth ended ts ≡ Some r → TookItems ended depth r.0.0 r.0.1 r.1 ts
 unfolding items_within
-items-took zero depth ended ts r open' e = absurd cc
-items-took (suc n) depth ended ts r open' e =
+items-took zero depth ended ts r inside e = absurd cc
+items-took (suc n) depth ended ts r inside e =
     option_and_then_some _ (item_at ended ts) _ e (λ item i e.
     let one = item-took ended ts item i in
     let more = more_going ended item.0.0 in
@@ -83,12 +83,12 @@ items-took (suc n) depth ended ts r open' e =
     (λ stops e. subst (λ (r : Items). TookItems ended depth r.0.0 r.0.1 r.1 ts) (same_Some _ _ e)
     (record {
       run = subst (λ (l : List (List ℕ)). Run l item.0.1 item.1 ts) (sym (append-nil (item_texts item.0.0))) one.run;
-      going = more [] depth one.good open' (stop_going (ends_one item.0.0) (depth_behind depth item.0.0) stops);
+      going = more [] depth one.good inside (stop_going (ends_one item.0.0) (depth_behind depth item.0.0) stops);
     }))
     (λ goes e. option_and_then_some _ (items_within n (depth_behind depth item.0.0) (ends_one item.0.0) item.1) _ e (λ others o e.
     let later = items-took n (depth_behind depth item.0.0) (ends_one item.0.0) item.1 others (still_open (ends_one item.0.0) (depth_behind depth item.0.0) goes) o in
     subst (λ (r : Items). TookItems ended depth r.0.0 r.0.1 r.1 ts) (same_Some _ _ e)
-    (record { run = run-append one.run later.run; going = more others.0.0 depth one.good open' later.going }))))
+    (record { run = run-append one.run later.run; going = more others.0.0 depth one.good inside later.going }))))
 
 pub all-took : (ts : List Token) (r : Items) → items_at ts ≡ Some r → TookItems false 0 r.0.0 r.0.1 r.1 ts
 unfolding items_at
