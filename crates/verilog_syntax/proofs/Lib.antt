@@ -1,7 +1,9 @@
 pub mod Apart
 pub mod Bodies
 pub mod Closing
+pub mod Digits
 pub mod Forms
+pub mod Items
 pub mod ItemsTaken
 pub mod Places
 pub mod ReadForms

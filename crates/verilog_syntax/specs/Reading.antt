@@ -124,7 +124,7 @@ items_within zero depth ended ts = None
 items_within (suc n) depth ended ts = do
   item ← item_at ended ts
   if ends_one item.0.0 && depth_behind depth item.0.0 == 0 then Some ((item.0.0 ∷ [], item.0.1), item.1)
-    else (items_within n (depth_behind depth item.0.0) (ends_one item.0.0) item.1 >>= λ others. Some ((item.0.0 ∷ others.0.0, others.0.1), others.1))
+      else (items_within n (depth_behind depth item.0.0) (ends_one item.0.0) item.1 >>= λ others. Some ((item.0.0 ∷ others.0.0, others.0.1), others.1))
 
 unfoldable pub items_at : List Token → Option ((List Item × ℕ) × List Token)
 items_at ts = items_within (length ts) 0 false ts
@@ -319,7 +319,7 @@ unfoldable pub read_module : List ℕ → List Token → Result (List Placed) Fa
 read_module text ts =
     if body_len ts == length ts then Err (fault_at VerilogSyntax (line_of_tokens text ts))
     else result_and_then (λ statements. result_and_then (λ done. Ok statements) (read_end text (drop (body_len ts + 1) ts)))
-        (read_body (line_of_tokens text ts) text (statements_of (take (body_len ts) ts)))
+    (read_body (line_of_tokens text ts) text (statements_of (take (body_len ts) ts)))
 
 -- the statements of a text, the header first, each with its line; or VerilogSyntax at the first that matches no form, or
 -- SecondModule

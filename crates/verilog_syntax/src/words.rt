@@ -94,3 +94,65 @@ pub(crate) fn is_decimal(text: &[u8]) -> bool
         [] => false,
     }
 }
+
+#[tactic(auto, unfolding(text_scan::specs::VerilogTokens::is_digit_of))]
+fn is_digit_of(base: u8, digit: u8) -> bool
+    ensures value { result ≡ is_digit_of base digit }
+{
+    let unknown = matches!(digit, b'x' | b'z' | b'X' | b'Z' | b'?');
+    if base == b'b' || base == b'B' {
+        digit == b'0' || digit == b'1' || unknown
+    } else if base == b'o' || base == b'O' {
+        matches!(digit, b'0'..=b'7') || unknown
+    } else if base == b'd' || base == b'D' {
+        digit.is_ascii_digit()
+    } else if base == b'h' || base == b'H' {
+        digit.is_ascii_hexdigit() || unknown
+    } else {
+        false
+    }
+}
+
+/// Digits of this base, with `_` before any but the first, the last one no `_`.
+fn are_digits_of(base: u8, digits: &[u8]) -> bool
+    ensures value { result ≡ are_digits_of base digits.now }
+{
+    let mut ended = false;
+    for digit in digits {
+        ended = is_digit_of(base, *digit);
+        if !ended && *digit != b'_' {
+            return false;
+        }
+    }
+    ended
+}
+
+/// A quote, a base letter and digits of the base, the first one no `_`.
+fn is_based(text: &[u8]) -> bool
+    ensures value { result ≡ is_based text.now }
+{
+    match text {
+        [b'\'', base, rest @ ..] => match rest {
+            [first, ..] => is_digit_of(*base, *first) && are_digits_of(*base, rest),
+            [] => false,
+        },
+        _ => false,
+    }
+}
+
+fn digit_len(bytes: &[u8]) -> usize
+    ensures value { result ≡ prefix_len is_digit bytes.now }
+    ensures within { result ≤ length bytes.now }
+{
+    bytes.iter().take_while(|b| b.is_ascii_digit()).count()
+}
+
+#[tactic(auto, unfolding(crate::specs::Words::is_constant))]
+pub(crate) fn is_constant(text: &[u8]) -> bool
+    ensures value { result ≡ is_constant text.now }
+{
+    match text {
+        [first, rest @ ..] => first.is_ascii_digit() && is_based(&rest[digit_len(rest)..]),
+        [] => false,
+    }
+}
