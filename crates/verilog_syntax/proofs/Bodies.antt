@@ -1,7 +1,7 @@
 -- The tokens of a module: those of its body, and endmodule behind them.
 use Rattle.std.proofs.Common.{◌≡◌, ℕ, ◌+◌, ◌==◌, Bool, true, false, cond, List, [], ◌∷◌, ◌++◌, length, take, drop, codes, refl, sym, ap, ◌∙◌, subst, arith, append-nil}
 use Rattle.std.proofs.lemmas.Bool.{eqb-false}
-use lib.Seq.{take-append_seam, drop-append-add}
+use Rattle.std.proofs.Math.Seq.{take-append_seam, drop-append-add}
 use Rattle.text_scan.specs.Tokens.{Token}
 use Rattle.text_scan.specs.Statements.{is_semicolon, begin_with, statements_of}
 use Rattle.text_scan.proofs.Spelled.{same_bytes}
