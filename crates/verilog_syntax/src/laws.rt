@@ -7,5 +7,4 @@ pub fn grammar_law()
     ensures read { ReadLaw }
     ensures no_statement { NoStatementLaw }
     ensures no_header { NoHeaderLaw }
-{
-}
+{}

@@ -1,0 +1,15 @@
+use Rattle.verilog_syntax.proofs.SpelledLaw.{spelled_law}
+use Rattle.verilog_syntax.proofs.ReadLaw.{read_law, no_statement_law, no_header_law}
+use Rattle.verilog_syntax.proofs.laws.grammar_law.Goals as goal
+
+pub returns-clause-spelled : goal.returns-clause-spelled
+returns-clause-spelled c = spelled_law
+
+pub returns-clause-read : goal.returns-clause-read
+returns-clause-read c = read_law
+
+pub returns-clause-no_statement : goal.returns-clause-no_statement
+returns-clause-no_statement c = no_statement_law
+
+pub returns-clause-no_header : goal.returns-clause-no_header
+returns-clause-no_header c = no_header_law
