@@ -12,14 +12,12 @@
 //! behavioural code aren't read.
 #![tactic(auto)]
 
-mod laws;
 mod parser;
 mod reading;
 mod statement;
 mod words;
 mod written;
 
-pub use laws::grammar_law;
 pub use reading::Placed;
 pub use statement::{Connection, Declared, Expression, Item, Range, Statement};
 pub use written::Written;
