@@ -13,7 +13,7 @@ use Rattle.netlist_core.specs.declared.netlist.Assign.{Assign}
 use Rattle.netlist_core.specs.declared.netlist.Connection.{Connection as NetConnection}
 use Rattle.netlist_core.specs.declared.netlist.Instance.{Instance}
 use Rattle.netlist_core.specs.declared.netlist.Netlist.{Netlist}
-use Rattle.netlist_core.specs.Netlists.{NamedBit, Named, named_bit, plain_of as net_plain}
+use Rattle.netlist_core.specs.Netlists.{NamedBit, Named, named_bit, plain_of as net_plain, IsNetlist}
 use Rattle.verilog_syntax.specs.declared.statement.Declared.{Declared}
 use Rattle.verilog_syntax.specs.declared.statement.Declared.TheVariants.{Input, Output, Inout, Wire, Tri, Supply0, Supply1}
 use Rattle.verilog_syntax.specs.declared.statement.Item.{Item}
@@ -183,3 +183,8 @@ pub record DenotesNetlist (text : List ℕ) (n : Netlist) : Type 0 where
   pub statements : List Placed
   pub reads : read_faultless text ≡ Ok statements
   pub is : IsNetlistOf statements n
+  pub sound : IsNetlist n
+
+-- and only one
+abbrev pub OneNetlistLaw : Type 0
+OneNetlistLaw = (text : List ℕ) (n m : Netlist) → DenotesNetlist text n → DenotesNetlist text m → n ≡ m

@@ -6,6 +6,8 @@
 #![tactic(auto)]
 
 mod bounds;
+mod laws;
 mod values;
 
 pub use bounds::Bounds;
+pub use laws::netlist_law;
