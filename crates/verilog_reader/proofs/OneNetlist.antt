@@ -38,7 +38,7 @@ module _ (nets : List NetName) (names : AreDistinct (map (λ (net : NetName). ne
   abbrev none : NetName
   none = record { plain = []; text = [] }
 
-  net_tells : (a b : NetId) → a.0 < length nets → b.0 < length nets → plain_of nets a ≡ plain_of nets b → a ≡ b
+  pub net_tells : (a b : NetId) → a.0 < length nets → b.0 < length nets → plain_of nets a ≡ plain_of nets b → a ≡ b
   net_tells a b ha hb e =
       let plain = λ (net : NetName). net.plain in
       let at_a : slice_index_or (map plain nets) a.0 [] ≡ plain_of nets a = get_or-map plain nets a.0 none [] ha in

@@ -4,6 +4,8 @@ use Rattle.std.specs.Prelude.{◌≡◌, ℕ, ◌+◌, ◌<◌, Bool, true, fals
 use Rattle.std.specs.List.{flat_map, list_any, sum_by}
 use Rattle.std.specs.Str.{bytes_eq}
 use Rattle.text_scan.specs.declared.fault.Fault.{Fault}
+use Rattle.text_scan.specs.declared.fault.ReadFault.{ReadFault}
+use Rattle.text_scan.specs.declared.fault.ReadFault.TheVariants as faults
 use Rattle.text_scan.specs.declared.kind.Kind.{Kind}
 use Rattle.text_scan.specs.declared.kind.Kind.TheVariants.{VerilogNumber, VerilogTwice, BadSelect}
 use Rattle.verilog_syntax.specs.declared.statement.Declared.{Declared}
@@ -220,3 +222,9 @@ check_select ps = check (λ before p. bad_select ps p) BadSelect ps
 unfoldable pub read_faultless : List ℕ → Result (List Placed) Fault
 read_faultless text =
     result_and_then (λ ps. result_and_then (λ a. result_and_then (λ b. result_and_then (λ c. Ok ps) (check_select ps)) (check_twice ps)) (check_number ps)) (read_statements text)
+
+-- a fault that is answered is the first of the text, and nothing else is refused; want of memory says nothing
+abbrev pub IsRefused : {X Y : Type 0} → Result X ReadFault → Result Y Fault → Type 0
+IsRefused (Ok x) read = Unit {0}
+IsRefused (Err (faults.Fault fault)) read = read ≡ Err fault
+IsRefused (Err faults.NoMemory) read = Unit {0}

@@ -7,7 +7,9 @@
 
 mod bounds;
 mod laws;
+mod netlist;
 mod values;
 
 pub use bounds::Bounds;
 pub use laws::netlist_law;
+pub use netlist::read_netlist;
