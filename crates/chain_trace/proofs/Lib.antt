@@ -4,3 +4,4 @@ pub mod Meeting
 pub mod Ranges
 pub mod Finding
 pub mod Marked
+pub mod Entries

@@ -4,10 +4,14 @@ ghost use Rattle.netlist_core.specs.declared.netlist.NetId.{NetId};
 ghost use Rattle.netlist_core.specs.declared.netlist.Netlist.{Netlist};
 ghost use Rattle.cell_table.specs.Cells.{Cells};
 ghost use Rattle.chain_trace.specs.declared.path.Path.{Path};
+ghost use Rattle.text_scan.specs.declared.fault.Fault.{Fault};
 ghost use Rattle.chain_trace.specs.Paths.{IsScanPath};
+ghost use Rattle.chain_trace.specs.Faults.{IsTraceFault};
 
-/// A scan output has at most one path. The call does nothing; its contract is the law.
+/// A scan output has at most one path, and none where a fault is met going backward from it. The call does nothing; its
+/// contract is the law.
 #[tactic(auto, using(crate::proofs::Unique::path_unique))]
 pub fn path_law()
     ensures only { (n : Netlist) (cells : Cells) (output : NetId) (p q : Path) → IsScanPath n cells output p → IsScanPath n cells output q → p ≡ q }
+    ensures no_fault { (n : Netlist) (cells : Cells) (output : NetId) (fault : Fault) → IsTraceFault n cells output fault → (p : Path) → IsScanPath n cells output p → ⊥ }
 {}

@@ -1,10 +1,11 @@
 //! The path of a scan output.
-ghost use Rattle.std.specs.Prelude.{◌≡◌, IfOk, IsTrue};
+ghost use Rattle.std.specs.Prelude.{◌≡◌, All, IfOk, IsTrue};
 ghost use Rattle.netlist_core.specs.Netlists.{IsNetlist};
 ghost use Rattle.netlist_core.specs.Joining.{AreClassesOf};
 ghost use Rattle.chain_trace.specs.declared.path.Path.{Path};
 ghost use Rattle.chain_trace.specs.Paths.{is_driven, has_port, IsScanPath};
 ghost use Rattle.chain_trace.specs.Faults.{IsTraceFault, IfFault};
+ghost use Rattle.chain_trace.specs.Parities.{NamesEntry};
 
 use crate::drivers::{drivers_of, port_source, put_at};
 use crate::path::{Path, Source};
@@ -30,6 +31,8 @@ pub fn trace(
     requires output { IsTrue (has_port is_driven netlist.now scan_out) }
     ensures path { IfOk result (IsScanPath netlist.now table.now scan_out) }
     ensures only { IfOk result (λ path. (other : Path) → IsScanPath netlist.now table.now scan_out other → other ≡ path) }
+    // So its bits can be told by `bits_of`.
+    ensures entries { IfOk result (λ path. All (NamesEntry netlist.now table.now) path.steps) }
     ensures fault { IfFault result (IsTraceFault netlist.now table.now scan_out) }
     ensures none { IfFault result (λ _. (path : Path) → ¬ IsScanPath netlist.now table.now scan_out path) }
 {

@@ -9,7 +9,7 @@ use Rattle.clap.specs.Takes.{takes}
 use Rattle.clap.specs.Walk.{rows_of}
 use Rattle.clap.specs.declared.parser.matches.ArgMatches.{ArgMatches}
 use Rattle.scan_words.specs.declared.verb.Verb.{Verb}
-use Rattle.scan_words.specs.declared.verb.Verb.TheVariants.{Rewire}
+use Rattle.scan_words.specs.declared.verb.Verb.TheVariants.{Rewire, Trace}
 use Rattle.std.specs.Str.{bytes_eq}
 use Rattle.std.proofs.lemmas.Slice.Eq.{bytes_eq-Decides}
 use Rattle.scan_words.specs.Command.{program, raw_of}
@@ -78,10 +78,15 @@ same_words (w ∷ ws) = ap (λ (rest : List Text). w ∷ rest) (same_words ws)
 pub verb_word : (word : Text) (verb : Verb) → verb_of word ≡ Some verb → word ≡ verb_name verb
 unfolding verb_of
 verb_word word verb is =
-    let cases : (b : Bool) → bytes_eq word (codes "rewire") ≡ b → cond b (Some Rewire) None ≡ Some verb → word ≡ verb_name verb
-    = λ b. elim b as (λ b. bytes_eq word (codes "rewire") ≡ b → cond b (Some Rewire) None ≡ Some verb → word ≡ verb_name verb) [
-      | true ↦ λ f k. let same : Rewire ≡ verb = cc in (bytes_eq-Decides word (codes "rewire")).0 f ∙ ap verb_name same
+    let second : (b : Bool) → bytes_eq word (codes "trace") ≡ b → cond b (Some Trace) None ≡ Some verb → word ≡ verb_name verb
+    = λ b. elim b as (λ b. bytes_eq word (codes "trace") ≡ b → cond b (Some Trace) None ≡ Some verb → word ≡ verb_name verb) [
+      | true ↦ λ f k. let same : Trace ≡ verb = cc in (bytes_eq-Decides word (codes "trace")).0 f ∙ ap verb_name same
       | false ↦ λ f k. absurd cc
+    ] in
+    let cases : (b : Bool) → bytes_eq word (codes "rewire") ≡ b → cond b (Some Rewire) (cond (bytes_eq word (codes "trace")) (Some Trace) None) ≡ Some verb → word ≡ verb_name verb
+    = λ b. elim b as (λ b. bytes_eq word (codes "rewire") ≡ b → cond b (Some Rewire) (cond (bytes_eq word (codes "trace")) (Some Trace) None) ≡ Some verb → word ≡ verb_name verb) [
+      | true ↦ λ f k. let same : Rewire ≡ verb = cc in (bytes_eq-Decides word (codes "rewire")).0 f ∙ ap verb_name same
+      | false ↦ λ f k. second (bytes_eq word (codes "trace")) refl k
     ]
     in cases (bytes_eq word (codes "rewire")) refl is
 

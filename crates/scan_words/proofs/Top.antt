@@ -10,7 +10,7 @@ use Rattle.clap.specs.Walk.{Names, Row, Rule, Walk, idle, has_row, nothing_held,
 use Rattle.std.proofs.lemmas.List.{append-nil}
 use Rattle.scan_words.specs.declared.form.WordKind.TheVariants as kinds
 use Rattle.scan_words.specs.declared.verb.Verb.{Verb}
-use Rattle.scan_words.specs.declared.verb.Verb.TheVariants.{Rewire}
+use Rattle.scan_words.specs.declared.verb.Verb.TheVariants.{Rewire, Trace}
 use Rattle.scan_words.specs.Command.{program}
 use Rattle.scan_words.specs.Form.{Text, Part, is_name, is_value, word_kind, long_kind, kind_turn, turn, have_parts, with_part, word_parts, parts_from, verb_name, option_names, takes_further}
 use Rattle.scan_words.proofs.Rules.{Finds, finds}
@@ -84,11 +84,17 @@ abbrev first_shape : List Shape → Shape
 first_shape [] = new_shape []
 first_shape (s ∷ ss) = s
 
+abbrev second_shape : List Shape → Shape
+second_shape [] = new_shape []
+second_shape (s ∷ ss) = first_shape ss
+
 abbrev shape : Verb → Shape
 shape Rewire = first_shape (built program).subs
+shape Trace = second_shape (built program).subs
 
 finds_for : (verb : Verb) → Finds (option_names verb) (takes_further verb) (shape verb).rules
 finds_for Rewire = finds (option_names Rewire) true refl
+finds_for Trace = finds (option_names Trace) false refl
 
 goes : (verb : Verb) (words : List Text) (parts : List Part) → parts_from (option_names verb) (takes_further verb) None words ≡ Some parts → Goes (shape verb) (walk_at nothing_held idle) words (add_parts [] parts)
 goes verb words parts read = follows (shape verb) (option_names verb) (takes_further verb) (finds_for verb) words None nothing_held idle [] parts (record { passes = refl; rows = refl; idle = tt }) read
@@ -113,6 +119,7 @@ program_names = names_of (built program)
 at_word : (verb : Verb) → walked (built program).top.rules program_names (walk_at nothing_held idle) (verb_name verb) ≡ stopped_at (verb_name verb) []
 unfolding walked
 at_word Rewire = refl
+at_word Trace = refl
 
 ends_at : (verb : Verb) (words : List Text) → walk (built program).top.rules program_names nothing_held (verb_name verb ∷ words) ≡ stopped_at (verb_name verb) words
 ends_at verb words = ap (λ (w : Walk). fold (walked (built program).top.rules program_names) w words) (at_word verb) ∙ goes_down (built program).top.rules program_names (verb_name verb) [] words
@@ -120,6 +127,7 @@ ends_at verb words = ap (λ (w : Walk). fold (walked (built program).top.rules p
 top_passes : (verb : Verb) (words : List Text) → walk_passes (built program).top program_names (walk_at nothing_held idle) (verb_name verb ∷ words) ≡ true
 unfolding walk_passes
 top_passes Rewire words = rw (at_word Rewire) (passes_down (built program).top program_names (verb_name Rewire) [] words)
+top_passes Trace words = rw (at_word Trace) (passes_down (built program).top program_names (verb_name Trace) [] words)
 
 pub simple : is_simple program ≡ true
 simple = refl
@@ -127,15 +135,19 @@ simple = refl
 -- the subcommand passes its words
 passes_sub : (verb : Verb) (words : List Text) (parts : List Part) → parts_from (option_names verb) (takes_further verb) None words ≡ Some parts → level_passes (shape verb) [] nothing_held words false ≡ true
 passes_sub Rewire words parts read = let g = goes Rewire words parts read in rw (g.turns, g.settles) refl
+passes_sub Trace words parts read = let g = goes Trace words parts read in rw (g.turns, g.settles) refl
 
 pub taken : (verb : Verb) (words : List Text) (parts : List Part) → parts_from (option_names verb) (takes_further verb) None words ≡ Some parts → takes program (verb_name verb ∷ words) ≡ true
 taken Rewire words parts read = rw (ends_at Rewire words, top_passes Rewire words, passes_sub Rewire words parts read) refl
+taken Trace words parts read = rw (ends_at Trace words, top_passes Trace words, passes_sub Trace words parts read) refl
 
 found_sub : (verb : Verb) (words : List Text) (parts : List Part) → parts_from (option_names verb) (takes_further verb) None words ≡ Some parts → rows_after (shape verb).rules [] words ≡ add_parts [] parts
 found_sub Rewire words parts read = no_defaults (shape Rewire).rules _ (refl, (refl, (refl, (refl, (refl, (refl, (refl, (refl, tt)))))))) ∙ (goes Rewire words parts read).rows
+found_sub Trace words parts read = no_defaults (shape Trace).rules _ (refl, (refl, (refl, tt))) ∙ (goes Trace words parts read).rows
 
 named : (verb : Verb) (words : List Text) → entered (built program) (Some (verb_name verb, words)) ≡ Some (verb_name verb, rows_after (shape verb).rules [] words)
 named Rewire words = refl
+named Trace words = refl
 
 pub matched : (verb : Verb) (words : List Text) (parts : List Part) → parts_from (option_names verb) (takes_further verb) None words ≡ Some parts → subcommand_of program (verb_name verb ∷ words) ≡ Some (verb_name verb, add_parts [] parts)
 matched verb words parts read =

@@ -7,7 +7,7 @@ use Rattle.clap.specs.declared.parser.matches.ArgMatches.{ArgMatches}
 use Rattle.clap.specs.Simple.{App, Shape, new_app, new_rule, on_top, with_subcommand}
 use Rattle.clap.specs.Walk.{Rule, Text}
 use Rattle.scan_words.specs.declared.verb.Verb.{Verb}
-use Rattle.scan_words.specs.declared.verb.Verb.TheVariants.{Rewire}
+use Rattle.scan_words.specs.declared.verb.Verb.TheVariants.{Rewire, Trace}
 use Rattle.scan_words.specs.Form.{verb_name, option_names, takes_further}
 use Rattle.clap.specs.declared.builder.action.ArgAction.TheVariants.{Append}
 
@@ -38,7 +38,7 @@ abbrev pub program_top : App
 program_top = on_top (λ s. record s { no_binary_name = true; disable_help_flag = true; disable_help_subcommand = true }) (new_app (codes "wrenpewter"))
 
 abbrev pub program : App
-program = with_subcommand program_top (app_of_verb Rewire).top
+program = with_subcommand (with_subcommand program_top (app_of_verb Rewire).top) (app_of_verb Trace).top
 
 -- no argument is global
 abbrev pub IsLocal : Command → Type 0

@@ -6,7 +6,7 @@ use Rattle.std.specs.Str.{bytes_eq}
 use Rattle.clap.specs.Lexer.{long_of}
 use Rattle.scan_words.specs.declared.order.Order.{Order}
 use Rattle.scan_words.specs.declared.verb.Verb.{Verb}
-use Rattle.scan_words.specs.declared.verb.Verb.TheVariants.{Rewire}
+use Rattle.scan_words.specs.declared.verb.Verb.TheVariants.{Rewire, Trace}
 use Rattle.scan_words.specs.declared.form.WordKind.{WordKind}
 use Rattle.scan_words.specs.declared.form.WordKind.TheVariants as kinds
 
@@ -78,18 +78,21 @@ each_value values (name ∷ names) = do
 
 abbrev pub option_names : Verb → List Text
 option_names Rewire = codes "verilog" ∷ codes "cell" ∷ codes "in-pin" ∷ codes "out-pin" ∷ codes "scan-in" ∷ codes "scan-out" ∷ codes "out-verilog" ∷ []
+option_names Trace = codes "table" ∷ codes "verilog" ∷ codes "scan-out" ∷ []
 
 abbrev pub takes_further : Verb → Bool
 takes_further Rewire = true
+takes_further Trace = false
 
 -- as many further words as the command takes: none, or one or more
 abbrev pub is_count : Bool → ℕ → Bool
 is_count true n = not (n == 0)
 is_count false n = n == 0
 
--- the in pin and the out pin differ, and so do the two files
+-- the in pin and the out pin differ, and so do the files
 abbrev pub are_apart : Verb → List Text → Bool
 are_apart Rewire (verilog ∷ cell ∷ in_pin ∷ out_pin ∷ scan_in ∷ scan_out ∷ out_verilog ∷ []) = not (bytes_eq in_pin out_pin) && not (bytes_eq verilog out_verilog)
+are_apart Trace (table ∷ verilog ∷ scan_out ∷ []) = not (bytes_eq table verilog)
 are_apart verb values = false
 
 -- the order of these values, by their names
@@ -102,9 +105,10 @@ order_by verb values = do
 
 abbrev pub verb_name : Verb → Text
 verb_name Rewire = codes "rewire"
+verb_name Trace = codes "trace"
 
 unfoldable pub verb_of : Text → Option Verb
-verb_of word = if bytes_eq word (codes "rewire") then Some Rewire else None
+verb_of word = if bytes_eq word (codes "rewire") then Some Rewire else (if bytes_eq word (codes "trace") then Some Trace else None)
 
 -- the order that the words behind a command say
 unfoldable pub verb_order : Verb → List Text → Option Order

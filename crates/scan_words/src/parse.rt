@@ -66,11 +66,13 @@ fn program<'a>(alloc: Global) -> Result<Command<'a>, AllocError>
     ensures { IfOk result (λ command. app_of command ≡ program) }
 {
     let rewire = verb_command(alloc, Verb::Rewire)?;
+    let trace = verb_command(alloc, Verb::Trace)?;
     let command = Command::new(alloc, "wrenpewter")
         .no_binary_name(true)
         .disable_help_flag(true)
         .disable_help_subcommand(true)
-        .subcommand(rewire)?;
+        .subcommand(rewire)?
+        .subcommand(trace)?;
     Ok(command)
 }
 
@@ -123,7 +125,8 @@ fn are_apart(verb: Verb, values: &[Word]) -> bool
         (Verb::Rewire, [verilog, _, in_pin, out_pin, _, _, out_verilog]) => {
             in_pin.as_str() != out_pin.as_str() && verilog.as_str() != out_verilog.as_str()
         }
-        (Verb::Rewire, _) => false,
+        (Verb::Trace, [table, verilog, _]) => table.as_str() != verilog.as_str(),
+        (Verb::Rewire | Verb::Trace, _) => false,
     }
 }
 

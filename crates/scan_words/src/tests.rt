@@ -26,6 +26,12 @@ fn takes_both_spellings_and_further_words_anywhere(rt: HostRuntime) -> Result<()
     let further = order.further.as_slice();
     assert_eq!(rt; further.len(), 4);
     assert_eq!(rt; further[3].as_str(), "d");
+    let order = read(alloc, "trace --scan-out=so --table t --verilog v")?.ok_or("no form")?;
+    let values = order.values.as_slice();
+    assert_eq!(rt; values.len(), 3);
+    assert_eq!(rt; values[0].as_str(), "t");
+    assert_eq!(rt; values[2].as_str(), "so");
+    assert_eq!(rt; order.further.as_slice().len(), 0);
     Ok(())
 }
 
@@ -51,6 +57,15 @@ fn refuses_words_of_no_written_form(rt: HostRuntime) -> Result<(), Fail> {
     ] {
         let line = format!(in alloc; "{front} {form} {behind}")?;
         assert!(rt; read(alloc, line.as_str())?.is_none(), "{line}");
+    }
+    for line in [
+        "trace --table t --verilog v",
+        "trace --table t --verilog t --scan-out so",
+        "trace --table t --verilog v --scan-out so a",
+        "trace --table t --verilog v --scan-out so --cell C",
+        "trace --table=t --verilog=v --scan-out=",
+    ] {
+        assert!(rt; read(alloc, line)?.is_none(), "{line}");
     }
     let pins =
         "rewire --cell=C --in-pin=I --out-pin=I --scan-in=si --scan-out=so --verilog=v --out-verilog=w a";

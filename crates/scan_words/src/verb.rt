@@ -6,6 +6,8 @@ ghost use Rattle.scan_words.specs.Form.{verb_name, option_names, takes_further, 
 pub enum Verb {
     /// Puts the units of one chain of one cell kind into the order of the further words.
     Rewire,
+    /// Tells the scan path of one scan output.
+    Trace,
 }
 
 static REWIRE: [&str; 7] = [
@@ -18,6 +20,8 @@ static REWIRE: [&str; 7] = [
     "out-verilog",
 ];
 
+static TRACE: [&str; 3] = ["table", "verilog", "scan-out"];
+
 impl Verb {
     #[tactic(auto, unfolding(crate::specs::Form::verb_of))]
     pub(crate) fn of(word: &str) -> Option<Verb>
@@ -25,6 +29,8 @@ impl Verb {
     {
         if word == "rewire" {
             Some(Verb::Rewire)
+        } else if word == "trace" {
+            Some(Verb::Trace)
         } else {
             None
         }
@@ -36,6 +42,7 @@ impl Verb {
     {
         match self {
             Verb::Rewire => "rewire",
+            Verb::Trace => "trace",
         }
     }
 
@@ -45,6 +52,7 @@ impl Verb {
     {
         match self {
             Verb::Rewire => REWIRE.as_slice(),
+            Verb::Trace => TRACE.as_slice(),
         }
     }
 

@@ -13,6 +13,7 @@ use Rattle.chain_trace.specs.Faults.{IsTraceFault}
 use Rattle.chain_trace.proofs.Ranges.{port_within, class_within, are_within, source_in}
 use Rattle.chain_trace.proofs.Unique.{path_unique}
 use Rattle.chain_trace.proofs.Meeting.{no_path, fault_then}
+use Rattle.chain_trace.proofs.Entries.{path_entries}
 use Rattle.chain_trace.proofs.tracing.trace.Goals as goal
 
 pub class_of-requires : goal.class_of-requires
@@ -73,3 +74,7 @@ returns-clause-only c =
 pub returns-clause-none : goal.returns-clause-none
 returns-clause-none c =
     fault_then c.walk.result (IsTraceFault c.args.netlist.now c.args.table.now c.args.scan_out) _ (λ f h q p. no_path c.args.netlist.now c.args.table.now c.args.scan_out f h q p) c.walk.ensures.fault
+
+pub returns-clause-entries : goal.returns-clause-entries
+returns-clause-entries c =
+    IfOk-weaker c.walk.result _ _ (λ p h. path_entries c.args.netlist.now c.args.table.now c.args.scan_out p h) c.walk.ensures.path

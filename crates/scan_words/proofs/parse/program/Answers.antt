@@ -1,9 +1,11 @@
 use Rattle.std.proofs.Common.{◌≡◌, ap, ap₂, ◌∙◌, rules}
 use Rattle.clap.specs.Words.{App, app_of, with_subcommand}
-use Rattle.scan_words.specs.Command.{program_top}
+use Rattle.scan_words.specs.Command.{program_top, app_of_verb}
+use Rattle.scan_words.specs.declared.verb.Verb.TheVariants.{Rewire}
 use Rattle.scan_words.proofs.parse.program.Goals as goal
 
 pub returns : goal.returns
 returns c =
     let top : app_of c.disable_help_subcommand.result ≡ program_top = search rules in
-    c.in_ok-command.ensures.shape c.in_ok-rewire.ensures.local ∙ ap₂ with_subcommand top (ap (λ (a : App). a.top) c.in_ok-rewire.ensures.app)
+    let first = c.in_ok-subcommand.ensures.shape c.in_ok-rewire.ensures.local ∙ ap₂ with_subcommand top (ap (λ (a : App). a.top) c.in_ok-rewire.ensures.app) in
+    c.in_ok-command.ensures.shape c.in_ok-trace.ensures.local ∙ ap₂ with_subcommand first (ap (λ (a : App). a.top) c.in_ok-trace.ensures.app)

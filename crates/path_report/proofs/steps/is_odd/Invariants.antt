@@ -1,0 +1,7 @@
+use Rattle.std.proofs.Common.{◌≡◌, drop}
+use Rattle.chain_trace.specs.Parities.{plus}
+use Rattle.path_report.specs.Reports.{odd}
+use Rattle.path_report.proofs.steps.is_odd.Given as goal
+
+abbrev pub invariant-loop-inverted : goal.invariant-loop-inverted
+invariant-loop-inverted l = plus l.parity (odd (drop l.inverted-index l.inversions)) ≡ odd l.inversions

@@ -1,0 +1,93 @@
+-- The text of the scan path of an output, and the first fault where there is none.
+use Rattle.std.specs.Prelude.{◌≡◌, ℕ, Bool, true, false, not, List, [], ◌∷◌, ◌++◌, length, codes, decimal, Option, Some, None, IsTrue, Ok, Err}
+use Rattle.std.specs.List.{flat_map, slice_get}
+use Rattle.text_scan.specs.declared.fault.Fault.{Fault}
+use Rattle.text_scan.specs.declared.fault.FileKind.TheVariants.{Words}
+use Rattle.text_scan.specs.declared.fault.Spot.TheVariants.{Line}
+use Rattle.text_scan.specs.declared.kind.Kind.TheVariants.{NoPort}
+use Rattle.netlist_core.specs.declared.netlist.NetId.{NetId}
+use Rattle.netlist_core.specs.declared.netlist.Instance.{Instance}
+use Rattle.netlist_core.specs.declared.netlist.Netlist.{Netlist}
+use Rattle.netlist_core.specs.Netlists.{plain_of}
+use Rattle.verilog_reader.specs.Faults.{read_faultless}
+use Rattle.verilog_reader.specs.Denoted.{DenotesNetlist}
+use Rattle.cell_table.specs.declared.paths.ScanPath.{ScanPath}
+use Rattle.cell_table.specs.declared.paths.OutPin.{OutPin}
+use Rattle.cell_table.specs.Cells.{Cells, table_of}
+use Rattle.chain_trace.specs.declared.path.Step.{Step}
+use Rattle.chain_trace.specs.declared.path.Path.{Path}
+use Rattle.chain_trace.specs.Paths.{scan_path_at, out_pin_at, is_driven, has_port, IsScanPath}
+use Rattle.chain_trace.specs.Parities.{plus}
+use Rattle.chain_trace.specs.Faults.{IsTraceFault}
+
+-- instance cell in-pin out-pin bits
+abbrev pub entry_text : Option Instance → Option ScanPath → Option OutPin → List ℕ
+entry_text None path out = []
+entry_text (Some placed) None out = []
+entry_text (Some placed) (Some path) None = []
+entry_text (Some placed) (Some path) (Some out) =
+    placed.name ++ 32 ∷ placed.cell ++ 32 ∷ path.input ++ 32 ∷ out.pin ++ 32 ∷ decimal (length path.bits) ++ 10 ∷ []
+
+abbrev pub step_text : Netlist → Cells → Step → List ℕ
+step_text n cells step = entry_text (slice_get n.instances step.instance) (scan_path_at n cells step.instance step.path) (out_pin_at n cells step)
+
+-- the inversions on the way over a step: those before its bits, and that of its out pin
+abbrev pub entry_inversions : Option ScanPath → Option OutPin → List Bool
+entry_inversions None out = []
+entry_inversions (Some path) None = []
+entry_inversions (Some path) (Some out) = path.bits ++ out.inverted ∷ []
+
+abbrev pub step_inversions : Netlist → Cells → Step → List Bool
+step_inversions n cells step = entry_inversions (scan_path_at n cells step.instance step.path) (out_pin_at n cells step)
+
+-- the sum modulo 2
+abbrev pub odd : List Bool → Bool
+odd [] = false
+odd (b ∷ bs) = plus b (odd bs)
+
+-- whether the output shows the inverse of what the input gave
+abbrev pub path_parity : Netlist → Cells → List Step → Bool
+path_parity n cells steps = odd (flat_map (step_inversions n cells) steps)
+
+abbrev pub parity_text : Bool → List ℕ
+parity_text false = codes "0"
+parity_text true = codes "1"
+
+-- from port, a line for each step, to port, and the parity of the whole path
+abbrev pub path_text : Netlist → Cells → Path → List ℕ
+path_text n cells path =
+    codes "from " ++ plain_of n.nets path.input ++ 10 ∷ flat_map (step_text n cells) path.steps
+    ++ codes "to " ++ plain_of n.nets path.output ++ 10 ∷ codes "parity " ++ parity_text (path_parity n cells path.steps) ++ 10 ∷ []
+
+-- the bit of an output or inout port that has this plain name
+pub record IsOutputNamed (n : Netlist) (name : List ℕ) (net : NetId) : Type 0 where
+  pub named : plain_of n.nets net ≡ name
+  pub driven : IsTrue (has_port is_driven n net)
+
+-- the cells of a table's text, and the netlist of a Verilog text
+pub record AreRead (table verilog : List ℕ) (cells : Cells) (n : Netlist) : Type 0 where
+  pub cells_are : table_of table ≡ Ok cells
+  pub netlist_is : DenotesNetlist verilog n
+
+abbrev pub no_port : Fault
+no_port = record { kind = NoPort; file = Words; spot = Line 0 }
+
+-- the text of the scan path of an output
+pub record IsPathText (table verilog output text : List ℕ) : Type 0 where
+  pub cells : Cells
+  pub netlist : Netlist
+  pub read : AreRead table verilog cells netlist
+  pub net : NetId
+  pub port : IsOutputNamed netlist output net
+  pub path : Path
+  pub is : IsScanPath netlist cells net path
+  pub same : text ≡ path_text netlist cells path
+
+-- the first fault: of the table, of the Verilog, of the output's name, or the one that is met going backward from the output
+pub data IsPathFault (table verilog output : List ℕ) (fault : Fault) : Type 0 where
+  OfTable : table_of table ≡ Err fault → IsPathFault table verilog output fault
+  OfVerilog : (cells : Cells) → table_of table ≡ Ok cells → read_faultless verilog ≡ Err fault → IsPathFault table verilog output fault
+  OfPort : (cells : Cells) (n : Netlist) → AreRead table verilog cells n → ((net : NetId) → IsOutputNamed n output net → ⊥) → fault ≡ no_port
+      → IsPathFault table verilog output fault
+  OfPath : (cells : Cells) (n : Netlist) (net : NetId) → AreRead table verilog cells n → IsOutputNamed n output net → IsTraceFault n cells net fault
+      → IsPathFault table verilog output fault

@@ -1,0 +1,92 @@
+ghost use Rattle.std.specs.Prelude.{◌≡◌, ◌<◌, ◌^◌, ◌++◌, length, IfOk, OnOk};
+ghost use Rattle.std.specs.List.{flat_map};
+ghost use Rattle.text_scan.specs.declared.fault.Fault.{Fault};
+ghost use Rattle.text_scan.specs.declared.fault.ReadFault.TheVariants as faults;
+ghost use Rattle.chain_trace.specs.Faults.{IfFault};
+ghost use Rattle.path_report.specs.Reports.{step_text, path_text, no_port, IsPathText, IsPathFault};
+
+use crate::output::{output_named, plain_of};
+use crate::steps::{path_parity, push_step};
+use cell_table::{CellTable, read_table};
+use chain_trace::{Path, Step, trace};
+use netlist_core::{Netlist, classes_of};
+use std::alloc::Global;
+use text_scan::{Fault, FileKind, Kind, NoMemory, ReadFault, Spot, Text};
+use verilog_reader::read_netlist;
+
+fn no_port() -> ReadFault
+    ensures value { result ≡ faults.Fault no_port }
+{
+    ReadFault::Fault(Fault {
+        kind: Kind::NoPort,
+        file: FileKind::Words,
+        spot: Spot::Line(0),
+    })
+}
+
+fn push_steps(
+    alloc: Global,
+    text: &mut Vec<u8>,
+    netlist: &Netlist,
+    table: &CellTable,
+    steps: &[Step],
+) -> Result<(), NoMemory>
+    ensures value { OnOk result (text.new.items ≡ text.old.items ++ flat_map (step_text netlist.now table.now) steps.now) }
+{
+    for step in steps {
+        push_step(alloc, text, netlist, table, *step)?;
+    }
+    Ok(())
+}
+
+fn text_of(
+    alloc: Global,
+    netlist: &Netlist,
+    table: &CellTable,
+    path: &Path,
+) -> Result<Text, NoMemory>
+    ensures value { IfOk result (λ text. text ≡ path_text netlist.now table.now path.now) }
+{
+    let nets = netlist.nets.as_slice();
+    let steps = path.steps.as_slice();
+    let mut text = Vec::new(alloc);
+    text.extend_from_slice(b"from ")?;
+    text.extend_from_slice(plain_of(nets, path.input))?;
+    text.extend_from_slice(b"\n")?;
+    push_steps(alloc, &mut text, netlist, table, steps)?;
+    text.extend_from_slice(b"to ")?;
+    text.extend_from_slice(plain_of(nets, path.output))?;
+    text.extend_from_slice(b"\nparity ")?;
+    let parity: &[u8] = if path_parity(netlist, table, steps) { b"1" } else { b"0" };
+    text.extend_from_slice(parity)?;
+    text.extend_from_slice(b"\n")?;
+    Ok(Text::of(text))
+}
+
+/// The text of the scan path of an output, which is named by its plain name, over the texts of a cell table and of a Verilog
+/// netlist: `from PORT`, a line `INSTANCE CELL IN OUT BITS` for each step in the order in which the path shifts, `to PORT`,
+/// and `parity P`, which is 1 where the output shows the inverse of what the input gave.
+///
+/// Refused by the first fault: of the table (TableSyntax, TableShape), of the Verilog (VerilogSyntax, SecondModule,
+/// VerilogNumber, VerilogTwice, BadSelect), NoPort where no bit of an output or inout port has the name, and NoDriver,
+/// TwoDrivers or Loop where the path has none.
+pub fn path_text(
+    alloc: Global,
+    table: &[u8],
+    verilog: &[u8],
+    output: &[u8],
+) -> Result<Text, ReadFault>
+    requires size { length verilog.now < 2 ^ 32 }
+    ensures text { IfOk result (IsPathText table.now verilog.now output.now) }
+    ensures fault { IfFault result (IsPathFault table.now verilog.now output.now) }
+    ensures no_fault { IfOk result (λ text. (fault : Fault) → IsPathFault table.now verilog.now output.now fault → ⊥) }
+{
+    let table = read_table(alloc, table)?;
+    let netlist = read_netlist(alloc, verilog)?;
+    let Some(net) = output_named(&netlist, output) else {
+        return Err(no_port());
+    };
+    let classes = classes_of(alloc, &netlist)?;
+    let path = trace(alloc, &netlist, &classes, &table, net)?;
+    Ok(text_of(alloc, &netlist, &table, &path)?)
+}

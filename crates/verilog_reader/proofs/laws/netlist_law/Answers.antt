@@ -1,0 +1,5 @@
+use Rattle.verilog_reader.proofs.OneNetlist.{one_netlist}
+use Rattle.verilog_reader.proofs.laws.netlist_law.Goals as goal
+
+pub returns : goal.returns
+returns c = record { one = one_netlist }

@@ -1,0 +1,190 @@
+-- What a Verilog text denotes: the netlist of its statements (IEEE 1364-2005, 12). A net bit is named by its plain name; net
+-- numbers are free.
+use Rattle.std.specs.Prelude.{◌≡◌, ℕ, Bool, not, if◌then◌else◌, List, [], ◌∷◌, ◌++◌, map, filter, decimal, Option, Some, None, Ok}
+use Rattle.std.specs.List.{flat_map}
+use Rattle.text_scan.specs.declared.span.Span.{Span}
+use Rattle.netlist_core.specs.declared.netlist.Bit.{Bit}
+use Rattle.netlist_core.specs.declared.netlist.Direction.{Direction}
+use Rattle.netlist_core.specs.declared.netlist.Direction.TheVariants as directions
+use Rattle.netlist_core.specs.declared.netlist.NetName.{NetName}
+use Rattle.netlist_core.specs.declared.netlist.Expr.{Expr}
+use Rattle.netlist_core.specs.declared.netlist.Port.{Port}
+use Rattle.netlist_core.specs.declared.netlist.Assign.{Assign}
+use Rattle.netlist_core.specs.declared.netlist.Connection.{Connection as NetConnection}
+use Rattle.netlist_core.specs.declared.netlist.Instance.{Instance}
+use Rattle.netlist_core.specs.declared.netlist.Netlist.{Netlist}
+use Rattle.netlist_core.specs.Netlists.{NamedBit, Named, named_bit, plain_of as net_plain, IsNetlist}
+use Rattle.verilog_syntax.specs.declared.statement.Declared.{Declared}
+use Rattle.verilog_syntax.specs.declared.statement.Declared.TheVariants.{Input, Output, Inout, Wire, Tri, Supply0, Supply1}
+use Rattle.verilog_syntax.specs.declared.statement.Item.{Item}
+use Rattle.verilog_syntax.specs.declared.statement.Item.TheVariants as items
+use Rattle.verilog_syntax.specs.declared.statement.Expression.{Expression}
+use Rattle.verilog_syntax.specs.declared.statement.Connection.{Connection}
+use Rattle.verilog_syntax.specs.declared.statement.Statement.{Statement}
+use Rattle.verilog_syntax.specs.declared.statement.Statement.TheVariants as statements
+use Rattle.verilog_syntax.specs.declared.reading.Placed.{Placed}
+use Rattle.verilog_reader.specs.declared.bounds.Bounds.{Bounds}
+use Rattle.verilog_reader.specs.Values.{plain_of, decimal_value, bit_name, name_text}
+use Rattle.verilog_reader.specs.Constants.{constant_bits}
+use Rattle.verilog_reader.specs.Declarations.{indexes, Declaration, declarations_in, declarations, is_declared, bounds_in, has, mentions, undeclared_in}
+use Rattle.verilog_reader.specs.Faults.{part_of, read_faultless}
+
+-- the net bits of a name, from the left
+abbrev pub name_bits : List ℕ → Option Bounds → List (List ℕ)
+name_bits name None = name ∷ []
+name_bits name (Some b) = map (bit_name name) (indexes b)
+
+abbrev pub named_of : List (List ℕ) → List NamedBit
+named_of names = map Named names
+
+-- the bits of an item; marks have none
+abbrev pub item_bits : List Declaration → Item → List NamedBit
+item_bits ds items.Open = []
+item_bits ds items.Comma = []
+item_bits ds items.Close = []
+item_bits ds (items.Name name) = named_of (name_bits (plain_of name) (bounds_in ds (plain_of name)))
+item_bits ds (items.Bit name index) = Named (bit_name (plain_of name) (decimal_value index)) ∷ []
+item_bits ds (items.Part name left right) = named_of (name_bits (plain_of name) (Some (part_of left right)))
+item_bits ds (items.Constant text) = map (named_bit []) (constant_bits text)
+
+-- an expression by the names of its bits
+pub record SeenExpression : Type 0 where
+  pub bits : List NamedBit
+  pub span : Span
+
+pub record SeenPort : Type 0 where
+  pub name : List ℕ
+  pub direction : Direction
+  pub line : ℕ
+
+pub record SeenAssign : Type 0 where
+  pub left : SeenExpression
+  pub right : SeenExpression
+  pub line : ℕ
+
+pub record SeenConnection : Type 0 where
+  pub pin : List ℕ
+  pub expression : SeenExpression
+
+pub record SeenInstance : Type 0 where
+  pub name : List ℕ
+  pub cell : List ℕ
+  pub connections : List SeenConnection
+  pub line : ℕ
+
+-- what the statements say
+
+abbrev pub said_expression : List Declaration → Expression → SeenExpression
+said_expression ds e = record { bits = flat_map (item_bits ds) e.items; span = e.span }
+
+abbrev pub directions_of : Declared → List Direction
+directions_of Input = directions.Input ∷ []
+directions_of Output = directions.Output ∷ []
+directions_of Inout = directions.Inout ∷ []
+directions_of Wire = []
+directions_of Tri = []
+directions_of Supply0 = []
+directions_of Supply1 = []
+
+abbrev pub said_port : ℕ → Direction → List ℕ → SeenPort
+said_port line direction name = record { name = name; direction = direction; line = line }
+
+abbrev pub said_ports_of : ℕ → Declaration → List SeenPort
+said_ports_of line d = flat_map (λ direction. map (said_port line direction) (name_bits d.name d.bounds)) (directions_of d.kind)
+
+abbrev pub said_ports : List Placed → List SeenPort
+said_ports ps = flat_map (λ p. flat_map (said_ports_of p.line) (declarations_in p.statement)) ps
+
+abbrev pub said_assigns_in : List Declaration → ℕ → Statement → List SeenAssign
+said_assigns_in ds line (statements.Module name ports) = []
+said_assigns_in ds line (statements.Declare kind range names) = []
+said_assigns_in ds line (statements.Assign left right) = record { left = said_expression ds left; right = said_expression ds right; line = line } ∷ []
+said_assigns_in ds line (statements.Instance cell name connections) = []
+
+abbrev pub said_connection : List Declaration → Connection → SeenConnection
+said_connection ds c = record { pin = plain_of c.pin; expression = said_expression ds c.expression }
+
+abbrev pub said_instances_in : List Declaration → ℕ → Statement → List SeenInstance
+said_instances_in ds line (statements.Module name ports) = []
+said_instances_in ds line (statements.Declare kind range names) = []
+said_instances_in ds line (statements.Assign left right) = []
+said_instances_in ds line (statements.Instance cell name connections) =
+    record { name = plain_of name; cell = plain_of cell; connections = map (said_connection ds) connections; line = line } ∷ []
+
+abbrev pub module_name : Statement → List ℕ
+module_name (statements.Module name ports) = plain_of name
+module_name (statements.Declare kind range names) = []
+module_name (statements.Assign left right) = []
+module_name (statements.Instance cell name connections) = []
+
+abbrev pub header_name : List Placed → List ℕ
+header_name [] = []
+header_name (p ∷ ps) = module_name p.statement
+
+abbrev pub header_line : List Placed → ℕ
+header_line [] = 0
+header_line (p ∷ ps) = p.line
+
+-- names and bounds of the nets: those declared, by their first declarations, in order
+unfoldable pub first_declared : List Declaration → List Declaration → List (List ℕ × Option Bounds)
+first_declared before [] = []
+first_declared before (d ∷ ds) =
+    if is_declared before d.name then first_declared (before ++ d ∷ []) ds else (d.name, d.bounds) ∷ first_declared (before ++ d ∷ []) ds
+
+-- and the scalar nets that are mentioned alone, by their first mention
+unfoldable pub first_mentioned : List (List ℕ) → List (List ℕ) → List (List ℕ × Option Bounds)
+first_mentioned before [] = []
+first_mentioned before (name ∷ names) =
+    if has before name then first_mentioned (before ++ name ∷ []) names else (name, None) ∷ first_mentioned (before ++ name ∷ []) names
+
+abbrev pub net_entries : List Placed → List (List ℕ × Option Bounds)
+net_entries ps = first_declared [] (declarations ps) ++ first_mentioned [] (undeclared_in (declarations ps) (mentions ps))
+
+abbrev pub bit_text : List ℕ → ℕ → List ℕ
+bit_text name index = name_text name ++ (91 ∷ (decimal index ++ 93 ∷ []))
+
+-- the net bits of an entry, from the left: the plain name, and the Verilog text
+abbrev pub entry_nets : List ℕ → Option Bounds → List NetName
+entry_nets name None = record { plain = name; text = name_text name } ∷ []
+entry_nets name (Some b) = map (λ i. record { plain = bit_name name i; text = bit_text name i }) (indexes b)
+
+abbrev pub said_nets : List Placed → List NetName
+said_nets ps = flat_map (λ e. entry_nets e.0 e.1) (net_entries ps)
+
+-- what a netlist shows
+
+abbrev pub seen_expression : List NetName → Expr → SeenExpression
+seen_expression nets e = record { bits = map (named_bit nets) e.bits; span = e.span }
+
+abbrev pub seen_port : List NetName → Port → SeenPort
+seen_port nets port = record { name = net_plain nets port.net; direction = port.direction; line = port.line }
+
+abbrev pub seen_assign : List NetName → Assign → SeenAssign
+seen_assign nets a = record { left = seen_expression nets a.left; right = seen_expression nets a.right; line = a.line }
+
+abbrev pub seen_connection : List NetName → NetConnection → SeenConnection
+seen_connection nets c = record { pin = c.pin; expression = seen_expression nets c.expr }
+
+abbrev pub seen_instance : List NetName → Instance → SeenInstance
+seen_instance nets i = record { name = i.name; cell = i.cell; connections = map (seen_connection nets) i.connections; line = i.line }
+
+-- the netlist is that of the statements: the module's name and line, the net bits, the ports with their directions, the
+-- assigns and the instances in order, each with its line, each expression with its bits and its place
+pub record IsNetlistOf (ps : List Placed) (n : Netlist) : Type 0 where
+  pub module_name : n.«module» ≡ header_name ps
+  pub line : n.line ≡ header_line ps
+  pub nets : n.nets ≡ said_nets ps
+  pub ports : map (seen_port n.nets) n.ports ≡ said_ports ps
+  pub assigns : map (seen_assign n.nets) n.assigns ≡ flat_map (λ p. said_assigns_in (declarations ps) p.line p.statement) ps
+  pub instances : map (seen_instance n.nets) n.instances ≡ flat_map (λ p. said_instances_in (declarations ps) p.line p.statement) ps
+
+-- a text without a fault denotes a netlist
+pub record DenotesNetlist (text : List ℕ) (n : Netlist) : Type 0 where
+  pub statements : List Placed
+  pub reads : read_faultless text ≡ Ok statements
+  pub is : IsNetlistOf statements n
+  pub sound : IsNetlist n
+
+-- and only one
+abbrev pub OneNetlistLaw : Type 0
+OneNetlistLaw = (text : List ℕ) (n m : Netlist) → DenotesNetlist text n → DenotesNetlist text m → n ≡ m

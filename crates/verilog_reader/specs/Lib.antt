@@ -1,0 +1,5 @@
+pub mod Values
+pub mod Constants
+pub mod Declarations
+pub mod Faults
+pub mod Denoted

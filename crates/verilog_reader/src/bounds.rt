@@ -1,0 +1,6 @@
+/// The bounds of a vector, `[left:right]`, in either direction.
+#[derive(Clone, Copy, Debug, PartialEq, Eq)]
+pub struct Bounds {
+    pub left: u32,
+    pub right: u32,
+}

@@ -1,0 +1,15 @@
+//! Reads a flat Verilog netlist (IEEE 1364-2005, in this profile) into a `Netlist`, or answers its first fault.
+//!
+//! Floor: readers, on verilog_syntax, netlist_core and text_scan.
+//! Contract: `read_netlist` gives what `specs/Denoted.antt` says the text denotes, and refuses exactly as
+//! `specs/Faults.antt` says. Begin with `netlist.rt`.
+#![tactic(auto)]
+
+mod bounds;
+mod laws;
+mod netlist;
+mod values;
+
+pub use bounds::Bounds;
+pub use laws::netlist_law;
+pub use netlist::read_netlist;
