@@ -1,10 +1,10 @@
 -- The last bits of a number, and of digits that are read one after another.
-use Rattle.std.proofs.Common.{◌≡◌, ℕ, zero, suc, ◌+◌, ◌-◌, ◌*◌, ◌/◌, ◌%◌, ◌^◌, ◌<◌, ◌≤◌, Bool, true, false, List, [], ◌∷◌, ◌++◌, length, drop, replicate, refl, sym, ap, ◌∙◌, subst, append_assoc, append-nil, add-one, length-append, arith}
+use Rattle.std.proofs.Common.{◌≡◌, ℕ, zero, suc, ◌+◌, ◌-◌, ◌*◌, ◌/◌, ◌%◌, ◌^◌, ◌<◌, ◌≤◌, Bool, true, false, List, [], ◌∷◌, ◌++◌, length, take, drop, replicate, refl, sym, ap, ◌∙◌, subst, append_assoc, append-nil, add-one, length-append, length-drop, arith}
 use Rattle.std.proofs.Math.Pow.{mod-mod-pow}
-use Rattle.std.proofs.Math.Nat.{pow-suc, mod-add-div', add-mul-mod_self_right, zero-mod}
-use Rattle.std.proofs.Math.Seq.{drop-length}
-use Rattle.std.proofs.lemmas.Nat.{field_of, pow_pos}
-use Rattle.std.proofs.lemmas.List.{replicate_more, drop-append-le}
+use Rattle.std.proofs.Math.Nat.{pow-suc, mod-add-div', add-mul-mod_self_right, zero-mod, sub_self, div-one}
+use Rattle.std.proofs.Math.Seq.{drop-length, take-length}
+use Rattle.std.proofs.lemmas.Nat.{field_of, pow_pos, shr-shr}
+use Rattle.std.proofs.lemmas.List.{replicate_more, drop-append-le, drop-drop}
 use Rattle.text_scan.specs.VerilogTokens.{is_unknown}
 use Rattle.netlist_core.specs.declared.netlist.Bit.{Bit}
 use Rattle.netlist_core.specs.declared.netlist.Bit.TheVariants.{Zero, One, Unknown}
@@ -130,3 +130,33 @@ shows_unknown n within =
     let all : n - 0 ≡ n = omega arith in
     let none : 0 - n ≡ 0 = omega arith in
     rw (all, none) (masked_bits-unknown n 128 within ∙ sym (append-nil (replicate n Unknown)))
+
+-- a bit more from the left
+bit_more : (size p v u : ℕ) → p < size
+    → masked_bits (size - (p + 1)) (v / 2 ^ (p + 1)) (u / 2 ^ (p + 1)) ++ masked_bit (v / 2 ^ p % 2) (u / 2 ^ p % 2) ∷ [] ≡ masked_bits (size - p) (v / 2 ^ p) (u / 2 ^ p)
+bit_more size p v u within =
+    let count : size - p ≡ suc (size - (p + 1)) = omega arith in
+    rw (count, masked_bits-suc, shr-shr v p 1, shr-shr u p 1) refl
+
+pub bit_pushed : (size place v u : ℕ) (bits after : List Bit) (b : Bit) → 0 < place → place ≤ size
+    → bits ≡ masked_bits (size - place) (v / 2 ^ place) (u / 2 ^ place) → b ≡ masked_bit (v / 2 ^ (place - 1) % 2) (u / 2 ^ (place - 1) % 2) → after ≡ bits ++ b ∷ []
+    → after ≡ masked_bits (size - (place - 1)) (v / 2 ^ (place - 1)) (u / 2 ^ (place - 1))
+bit_pushed size place v u bits after b some within so_far is pushed =
+    let e : place ≡ (place - 1) + 1 = omega arith in
+    let front = subst (λ (k : ℕ). bits ≡ masked_bits (size - k) (v / 2 ^ k) (u / 2 ^ k)) e so_far in
+    pushed ∙ ap (λ (bs : List Bit). bs ++ b ∷ []) front
+    ∙ ap (λ (x : Bit). masked_bits (size - ((place - 1) + 1)) (v / 2 ^ ((place - 1) + 1)) (u / 2 ^ ((place - 1) + 1)) ++ x ∷ []) is
+    ∙ bit_more size (place - 1) v u (omega arith)
+
+pub no_bits : (size v u : ℕ) → [] ≡ masked_bits (size - size) v u
+unfolding masked_bits
+no_bits size v u = rw sub_self refl
+
+pub all_bits : (size place v u : ℕ) → place ≡ 0 → masked_bits (size - place) (v / 2 ^ place) (u / 2 ^ place) ≡ masked_bits size v u
+all_bits size place v u is = let all : size - 0 ≡ size = omega arith in rw (is, all, div-one v, div-one u) refl
+
+-- the bytes behind the first two of a rest
+pub behind_two : (n : ℕ) (xs : List ℕ) → take (length (take (length xs - n) (drop n xs)) - 2) (drop 2 (take (length xs - n) (drop n xs))) ≡ drop (n + 2) xs
+behind_two n xs =
+    let whole : take (length xs - n) (drop n xs) ≡ drop n xs = rw (← length-drop n xs) (take-length (drop n xs)) in
+    rw (whole, ← length-drop 2 (drop n xs), take-length (drop 2 (drop n xs))) (drop-drop 2 n xs)

@@ -1,5 +1,5 @@
 //! The bits of a constant.
-ghost use Rattle.std.specs.Prelude.{◌≡◌, ℕ, ◌+◌, ◌^◌, ◌%◌, ◌/◌, ◌<◌, ◌≤◌, ◌++◌, List, [], length, IfOk, MatchOption};
+ghost use Rattle.std.specs.Prelude.{◌≡◌, ℕ, ◌+◌, ◌^◌, ◌%◌, ◌/◌, ◌<◌, ◌≤◌, ◌++◌, List, [], length, if◌then◌else◌, IfOk, MatchOption};
 ghost use Rattle.std.specs.List.{flat_map, prefix_len};
 ghost use Rattle.text_scan.specs.VerilogTokens.{is_digit, is_unknown};
 ghost use Rattle.netlist_core.specs.declared.netlist.Bit.{Bit};
@@ -113,19 +113,28 @@ fn with_digit(last: LastBits, base: u8, digit: u8) -> LastBits
     }
 }
 
+/// Whether the first digit is unknown.
+fn begins_unknown(digits: &[u8]) -> bool
+    ensures value { (if result then Bit.Unknown else Bit.Zero) ≡ fill_of (without_underscores digits.now) }
+{
+    for digit in digits {
+        if *digit != b'_' {
+            return is_unknown(*digit);
+        }
+    }
+    false
+}
+
 /// What stands in front of the digits: zeros, or unknown bits where the first digit is one.
 fn fill(digits: &[u8]) -> LastBits
     ensures value { AreLastBits (fill_of (without_underscores digits.now)) [] result }
 {
-    let first = digits.iter().find(|digit| **digit != b'_');
-    let is_unknown = match first {
-        Some(digit) => is_unknown(*digit),
-        None => false,
+    let unknown = if begins_unknown(digits) {
+        u128::MAX
+    } else {
+        0
     };
-    LastBits {
-        ones: 0,
-        unknown: if is_unknown { u128::MAX } else { 0 },
-    }
+    LastBits { ones: 0, unknown }
 }
 
 /// The bits of binary, octal or hexadecimal digits.
