@@ -97,7 +97,7 @@ shows_digit (suc w) fill bits v u d m pd pm shown =
     let ev : v * 2 ^ suc w + d ≡ (v * 2 ^ w + d / 2) * 2 + d % 2 = omega (arith, double v) in
     let eu : u * 2 ^ suc w + m ≡ (u * 2 ^ w + m / 2) * 2 + m % 2 = omega (arith, double u) in
     let higher : Shows fill (bits ++ masked_bits w (d / 2) (m / 2)) (v * 2 ^ w + d / 2) (u * 2 ^ w + m / 2)
-        = shows_digit w fill bits v u (d / 2) (m / 2) (omega (arith, pow-suc 2 w)) (omega (arith, pow-suc 2 w)) shown in
+    = shows_digit w fill bits v u (d / 2) (m / 2) (omega (arith, pow-suc 2 w)) (omega (arith, pow-suc 2 w)) shown in
     rw (ev, eu, ← append_assoc bits (masked_bits w (d / 2) (m / 2)) (masked_bit (d % 2) (m % 2) ∷ []))
     (λ n within. shows_one n fill (bits ++ masked_bits w (d / 2) (m / 2)) (v * 2 ^ w + d / 2) (u * 2 ^ w + m / 2) (d % 2) (m % 2) (omega arith) (omega arith) within higher)
 

@@ -129,11 +129,7 @@ fn begins_unknown(digits: &[u8]) -> bool
 fn fill(digits: &[u8]) -> LastBits
     ensures value { AreLastBits (fill_of (without_underscores digits.now)) [] result }
 {
-    let unknown = if begins_unknown(digits) {
-        u128::MAX
-    } else {
-        0
-    };
+    let unknown = if begins_unknown(digits) { u128::MAX } else { 0 };
     LastBits { ones: 0, unknown }
 }
 
