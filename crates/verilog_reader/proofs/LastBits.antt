@@ -1,5 +1,5 @@
 -- The last bits of a number, and of digits that are read one after another.
-use Rattle.std.proofs.Common.{◌≡◌, ℕ, zero, suc, ◌+◌, ◌-◌, ◌*◌, ◌/◌, ◌%◌, ◌^◌, ◌<◌, ◌≤◌, Bool, true, false, List, [], ◌∷◌, ◌++◌, length, take, drop, replicate, refl, sym, ap, ◌∙◌, subst, append_assoc, append-nil, add-one, length-append, length-drop, arith}
+use Rattle.std.proofs.Common.{◌≡◌, ℕ, zero, suc, ◌+◌, ◌-◌, ◌*◌, ◌/◌, ◌%◌, ◌^◌, ◌<◌, ◌≤◌, true, false, List, [], ◌∷◌, ◌++◌, length, take, drop, replicate, refl, sym, ap, ◌∙◌, subst, append_assoc, append-nil, length-append, length-drop, arith}
 use Rattle.std.proofs.Math.Pow.{mod-mod-pow}
 use Rattle.std.proofs.Math.Nat.{pow-suc, mod-add-div', add-mul-mod_self_right, zero-mod, sub_self, div-one}
 use Rattle.std.proofs.Math.Seq.{drop-length, take-length}
@@ -7,7 +7,7 @@ use Rattle.std.proofs.lemmas.Nat.{field_of, pow_pos, shr-shr}
 use Rattle.std.proofs.lemmas.List.{replicate_more, drop-append-le, drop-drop}
 use Rattle.text_scan.specs.VerilogTokens.{is_unknown}
 use Rattle.netlist_core.specs.declared.netlist.Bit.{Bit}
-use Rattle.netlist_core.specs.declared.netlist.Bit.TheVariants.{Zero, One, Unknown}
+use Rattle.netlist_core.specs.declared.netlist.Bit.TheVariants.{Zero, Unknown}
 use Rattle.verilog_reader.specs.Constants.{bit_of, value_bits, digit_value, digit_bits, fitted}
 use Rattle.verilog_reader.specs.LastBits.{masked_bit, masked_bits}
 

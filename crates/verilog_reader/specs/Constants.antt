@@ -1,5 +1,5 @@
 -- The bits of a constant (IEEE 1364-2005, 3.5.1).
-use Rattle.std.specs.Prelude.{ℕ, zero, suc, ◌+◌, ◌-◌, ◌/◌, ◌%◌, Bool, true, false, ◌||◌, not, nat_lt, nat_le, ◌==◌, if◌then◌else◌, List, [], ◌∷◌, ◌++◌, length, take, drop, replicate, filter}
+use Rattle.std.specs.Prelude.{ℕ, zero, suc, ◌+◌, ◌-◌, ◌/◌, ◌%◌, Bool, ◌||◌, not, nat_le, ◌==◌, if◌then◌else◌, List, [], ◌∷◌, ◌++◌, length, take, drop, replicate, filter}
 use Rattle.std.specs.List.{flat_map, prefix_len}
 use Rattle.text_scan.specs.VerilogTokens.{is_digit, is_unknown}
 use Rattle.netlist_core.specs.declared.netlist.Bit.{Bit}

@@ -1,10 +1,10 @@
 //! The bits of a constant.
-ghost use Rattle.std.specs.Prelude.{◌≡◌, ℕ, ◌+◌, ◌^◌, ◌%◌, ◌/◌, ◌<◌, ◌≤◌, ◌++◌, List, [], length, if◌then◌else◌, IfOk, MatchOption};
+ghost use Rattle.std.specs.Prelude.{◌≡◌, ℕ, ◌^◌, ◌%◌, ◌/◌, ◌<◌, ◌≤◌, ◌++◌, List, [], length, if◌then◌else◌, IfOk, MatchOption};
 ghost use Rattle.std.specs.List.{flat_map, prefix_len};
 ghost use Rattle.text_scan.specs.VerilogTokens.{is_digit, is_unknown};
 ghost use Rattle.netlist_core.specs.declared.netlist.Bit.{Bit};
 ghost use Rattle.verilog_reader.specs.Values.{decimal_value};
-ghost use Rattle.verilog_reader.specs.Constants.{constant_size, constant_base, constant_digits, value_bits, digit_width, digit_value, digit_bits, is_decimal_base, fill_of, bits_in, constant_bits};
+ghost use Rattle.verilog_reader.specs.Constants.{constant_size, constant_base, constant_digits, digit_width, digit_value, digit_bits, is_decimal_base, fill_of, bits_in, constant_bits};
 ghost use Rattle.verilog_reader.specs.LastBits.{masked_bit, masked_bits, without_underscores, AreLastBits};
 ghost use Rattle.verilog_reader.specs.Faults.{is_bad_size};
 
@@ -52,7 +52,6 @@ fn is_decimal_base(base: u8) -> bool
 
 fn radix_of(base: u8) -> u128
     ensures value { result ≡ 2 ^ digit_width base }
-    ensures small { result ≤ 16 }
 {
     if base == b'b' || base == b'B' {
         2
@@ -75,7 +74,7 @@ fn digit_value(digit: u8) -> u8
     }
 }
 
-/// The last 128 bits of a constant: which are 1, and which are unknown.
+/// The last bits of a constant: which are 1, and which are unknown. A size is at most 128, so those before them never show.
 #[derive(Clone, Copy)]
 struct LastBits {
     ones: u128,
@@ -102,6 +101,7 @@ fn digit_bits(base: u8, digit: u8) -> LastBits
     }
 }
 
+/// Puts a digit behind the others; the first bits are lost.
 fn with_digit(last: LastBits, base: u8, digit: u8) -> LastBits
     ensures value { (fill : Bit) (bits : List Bit) → AreLastBits fill bits last → AreLastBits fill (bits ++ digit_bits (digit_width base) digit) result }
 {
@@ -135,7 +135,7 @@ fn fill(digits: &[u8]) -> LastBits
 
 /// The bits of binary, octal or hexadecimal digits.
 fn based_bits(base: u8, digits: &[u8]) -> LastBits
-    ensures value { let ds = without_underscores digits.now in AreLastBits (fill_of ds) (flat_map (digit_bits (digit_width base)) ds) result }
+    ensures value { let plain_digits = without_underscores digits.now in AreLastBits (fill_of plain_digits) (flat_map (digit_bits (digit_width base)) plain_digits) result }
 {
     let mut last = fill(digits);
     for digit in digits {
@@ -146,7 +146,7 @@ fn based_bits(base: u8, digits: &[u8]) -> LastBits
     last
 }
 
-/// The bits of decimal digits.
+/// The last 128 bits of the number that decimal digits write.
 fn decimal_bits(digits: &[u8]) -> u128
     ensures value { result ≡ decimal_value (without_underscores digits.now) % 2 ^ 128 }
 {
@@ -198,6 +198,7 @@ fn bits_of(alloc: Global, size: u32, last: LastBits) -> Result<Rows<Bit>, NoMemo
     Ok(Rows::of(bits))
 }
 
+/// The base letter and what stands behind it, 0 and nothing where no letter stands there.
 fn base_and_digits(text: &[u8]) -> (u8, &[u8])
     ensures base { result.0 ≡ constant_base text.now }
     ensures digits { without_underscores result.1.now ≡ constant_digits text.now }

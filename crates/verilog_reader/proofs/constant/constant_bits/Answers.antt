@@ -1,4 +1,4 @@
-use Rattle.std.proofs.Common.{ℕ, ◌≡◌, ◌≤◌, List, subst, sym, ◌∙◌, arith}
+use Rattle.std.proofs.Common.{ℕ, ◌≡◌, ◌≤◌, List, subst}
 use Rattle.std.specs.Prelude.{IfOk}
 use Rattle.netlist_core.specs.declared.netlist.Bit.{Bit}
 use Rattle.verilog_reader.specs.Constants.{constant_size, constant_base, constant_digits, bits_in, constant_bits}

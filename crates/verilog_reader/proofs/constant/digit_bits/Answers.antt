@@ -1,4 +1,4 @@
-use Rattle.std.proofs.Common.{◌∙◌, ap, rules}
+use Rattle.std.proofs.Common.{rules}
 use Rattle.verilog_reader.specs.Constants.{digit_width}
 use Rattle.verilog_reader.proofs.LastBits.{known_digit, unknown_digit}
 use Rattle.verilog_reader.proofs.constant.digit_bits.Goals as goal

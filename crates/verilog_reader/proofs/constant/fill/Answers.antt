@@ -1,4 +1,4 @@
-use Rattle.std.proofs.Common.{ℕ, ◌-◌, ◌^◌, [], subst}
+use Rattle.std.proofs.Common.{◌-◌, ◌^◌, [], subst}
 use Rattle.netlist_core.specs.declared.netlist.Bit.{Bit}
 use Rattle.verilog_reader.specs.LastBits.{AreLastBits}
 use Rattle.verilog_reader.proofs.LastBits.{shows_zeros, shows_unknown}

@@ -1,4 +1,4 @@
-use Rattle.std.proofs.Common.{◌*◌, ◌+◌, ◌^◌, rules, arith}
+use Rattle.std.proofs.Common.{◌*◌, ◌^◌}
 use Rattle.verilog_reader.specs.Constants.{digit_width}
 use Rattle.verilog_reader.proofs.LastBits.{shows_digit, shows_wrapped}
 use Rattle.verilog_reader.proofs.constant.with_digit.Goals as goal

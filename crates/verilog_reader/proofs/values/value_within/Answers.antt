@@ -1,4 +1,4 @@
-use Rattle.std.proofs.Common.{rules, arith}
+use Rattle.std.proofs.Common.{rules}
 use Rattle.verilog_reader.proofs.Indexes.{too_great}
 use Rattle.verilog_reader.proofs.values.value_within.Goals as goal
 
