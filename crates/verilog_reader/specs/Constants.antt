@@ -1,5 +1,5 @@
 -- The bits of a constant (IEEE 1364-2005, 3.5.1).
-use Rattle.std.specs.Prelude.{ℕ, zero, suc, ◌+◌, ◌-◌, ◌/◌, ◌%◌, Bool, true, false, ◌||◌, not, nat_lt, nat_le, ◌==◌, if◌then◌else◌, List, [], ◌∷◌, ◌++◌, length, take, drop, replicate, filter}
+use Rattle.std.specs.Prelude.{ℕ, zero, suc, ◌+◌, ◌-◌, ◌/◌, ◌%◌, Bool, ◌||◌, not, nat_le, ◌==◌, if◌then◌else◌, List, [], ◌∷◌, ◌++◌, length, take, drop, replicate, filter}
 use Rattle.std.specs.List.{flat_map, prefix_len}
 use Rattle.text_scan.specs.VerilogTokens.{is_digit, is_unknown}
 use Rattle.netlist_core.specs.declared.netlist.Bit.{Bit}
@@ -57,8 +57,12 @@ fill_of (c ∷ cs) = if is_unknown c then Unknown else Zero
 abbrev pub fitted : ℕ → Bit → List Bit → List Bit
 fitted size fill bits = replicate (size - length bits) fill ++ drop (length bits - size) bits
 
+-- the last so many bits of the number that these digits write, from the left
+abbrev pub bits_in : ℕ → ℕ → List ℕ → List Bit
+bits_in size base digits =
+    if is_decimal_base base then value_bits size (decimal_value digits)
+    else fitted size (fill_of digits) (flat_map (digit_bits (digit_width base)) digits)
+
 -- the bits of a constant, from the left
 unfoldable pub constant_bits : List ℕ → List Bit
-constant_bits text =
-    if is_decimal_base (constant_base text) then value_bits (constant_size text) (decimal_value (constant_digits text))
-    else fitted (constant_size text) (fill_of (constant_digits text)) (flat_map (digit_bits (digit_width (constant_base text))) (constant_digits text))
+constant_bits text = bits_in (constant_size text) (constant_base text) (constant_digits text)

@@ -6,6 +6,9 @@
 #![tactic(auto)]
 
 mod bounds;
+mod constant;
+#[cfg(test)]
+mod constant_tests;
 mod laws;
 mod netlist;
 mod values;

@@ -37,19 +37,28 @@ pub(crate) fn plain_of<'a>(name: &Written<'a>) -> &'a [u8]
     without_escape(name.text())
 }
 
+/// The value of a decimal, None where it exceeds a limit.
+pub(crate) fn value_within(limit: u32, digits: &[u8]) -> Option<u32>
+    requires limit { limit ≤ 65535 }
+    ensures value { MatchOption result (limit < decimal_value digits.now) (λ v. decimal_value digits.now ≡ v) }
+    ensures small { MatchOption result (length digits.now ≡ length digits.now) (λ v. v ≤ limit) }
+{
+    let mut value = 0u32;
+    for digit in digits {
+        value = value * 10 + u32::from(digit.saturating_sub(b'0'));
+        if value > limit {
+            return None;
+        }
+    }
+    Some(value)
+}
+
 /// The value of a decimal that is an index, None where it exceeds 65535.
 pub(crate) fn index_value(digits: &[u8]) -> Option<u32>
     ensures value { MatchOption result (65535 < decimal_value digits.now) (λ v. decimal_value digits.now ≡ v) }
     ensures small { MatchOption result (length digits.now ≡ length digits.now) (λ v. v ≤ 65535) }
 {
-    let mut value = 0u32;
-    for digit in digits {
-        value = value * 10 + u32::from(digit.saturating_sub(b'0'));
-        if value > 65535 {
-            return None;
-        }
-    }
-    Some(value)
+    value_within(65535, digits)
 }
 
 /// Appends the plain name of a bit of a vector.
