@@ -2,4 +2,5 @@ pub mod Values
 pub mod Constants
 pub mod Declarations
 pub mod Faults
+pub mod Steps
 pub mod Denoted

@@ -6,6 +6,7 @@
 #![tactic(auto)]
 
 mod bounds;
+mod declared;
 mod values;
 
 pub use bounds::Bounds;
