@@ -1,2 +1,5 @@
 pub mod Indexes
 pub mod Firsts
+pub mod Counting
+pub mod Passes
+pub mod CheckLaw

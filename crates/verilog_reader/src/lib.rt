@@ -7,6 +7,9 @@
 
 mod bounds;
 mod declared;
+mod faults;
+mod number;
 mod values;
+mod vector;
 
 pub use bounds::Bounds;
