@@ -2,4 +2,5 @@ pub mod Indexes
 pub mod Firsts
 pub mod Counting
 pub mod Passes
+pub mod Ports
 pub mod CheckLaw

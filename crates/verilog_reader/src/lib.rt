@@ -9,6 +9,7 @@ mod bounds;
 mod declared;
 mod faults;
 mod number;
+mod select;
 mod values;
 mod vector;
 
