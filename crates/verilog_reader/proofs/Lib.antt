@@ -1,3 +1,9 @@
 pub mod Indexes
 pub mod OneNetlist
 pub mod LastBits
+pub mod Firsts
+pub mod Counting
+pub mod Passes
+pub mod Small
+pub mod Ports
+pub mod CheckLaw

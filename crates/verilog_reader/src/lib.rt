@@ -11,7 +11,12 @@ mod constant;
 mod constant_tests;
 mod laws;
 mod netlist;
+mod declared;
+mod faults;
+mod number;
+mod select;
 mod values;
+mod vector;
 
 pub use bounds::Bounds;
 pub use laws::netlist_law;
