@@ -1,6 +1,6 @@
 -- A flat module (IEEE 1364-2005, 12): what a clause sees of it, names in place of net numbers, and which lists are a
 -- netlist.
-use Rattle.std.specs.Prelude.{◌≡◌, ℕ, ◌<◌, ◌^◌, List, [], ◌∷◌, length, map, slice_index_or, All, Option, Some, None, option_and_then}
+use Rattle.std.specs.Prelude.{◌≡◌, ℕ, ◌<◌, ◌≤◌, ◌^◌, List, [], ◌∷◌, length, map, take, slice_index_or, All, Option, Some, None, option_and_then}
 use Rattle.std.specs.List.{find}
 use Rattle.std.specs.Str.{bytes_eq}
 use Rattle.netlist_core.specs.declared.netlist.NetId.{NetId}
@@ -32,7 +32,8 @@ pub record NamedInstance : Type 0 where
   pub cell : List ℕ
   pub pins : List (List ℕ × List NamedBit)
 
--- a module without net numbers, lines and spans; an assign is the list of its pairs of bits, left and right
+-- a module without net numbers, lines and spans: its declared net bits in order, its ports, its assigns, each the list of
+-- its pairs of bits, left and right, and its instances
 pub record NamedNetlist : Type 0 where
   pub module_name : List ℕ
   pub nets : List (List ℕ)
@@ -76,7 +77,7 @@ named_assign nets assign = map (λ p. (named_bit nets p.0, named_bit nets p.1)) 
 abbrev pub named : Netlist → NamedNetlist
 named n = record {
   module_name = n.«module»;
-  nets = map (λ net. net.plain) n.nets;
+  nets = take n.declared (map (λ net. net.plain) n.nets);
   ports = map (named_port n.nets) n.ports;
   assigns = map (named_assign n.nets) n.assigns;
   instances = map (named_instance n.nets) n.instances;
@@ -107,6 +108,7 @@ pub record IsInstance (count : ℕ) (instance : Instance) : Type 0 where
 -- what each call asks of a netlist
 pub record IsNetlist (n : Netlist) : Type 0 where
   pub few_nets : length n.nets < 2 ^ 32
+  pub declared : n.declared ≤ length n.nets
   pub few_instances : length n.instances < 2 ^ 32
   pub names : AreDistinct (map (λ net. net.plain) n.nets)
   pub port_nets : All (λ port. port.net.0 < length n.nets) n.ports

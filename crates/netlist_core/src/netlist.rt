@@ -84,8 +84,10 @@ pub struct Netlist {
     pub module: Name,
     /// The line of `module`, from 1.
     pub line: u64,
-    /// The net bits by their numbers.
+    /// The net bits by their numbers, the declared ones first.
     pub nets: Rows<NetName>,
+    /// How many of the net bits are declared; the others are only mentioned.
+    pub declared: u32,
     /// The port bits, in the order of their direction statements, those of a vector from the left.
     pub ports: Rows<Port>,
     /// The assigns, in file order.
