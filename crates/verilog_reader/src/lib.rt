@@ -5,6 +5,7 @@
 //! `specs/Faults.antt` says. Begin with `netlist.rt`.
 #![tactic(auto)]
 
+mod bit_names;
 mod bounds;
 mod values;
 
