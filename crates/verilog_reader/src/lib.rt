@@ -7,6 +7,7 @@
 
 mod bit_names;
 mod bounds;
+mod name_lists;
 mod values;
 
 pub use bounds::Bounds;
