@@ -1,3 +1,4 @@
 pub mod Indexes
 pub mod BitNames
 pub mod NameLists
+pub mod Firsts

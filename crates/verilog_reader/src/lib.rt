@@ -7,6 +7,7 @@
 
 mod bit_names;
 mod bounds;
+mod declared;
 mod name_lists;
 mod values;
 

@@ -1,0 +1,47 @@
+-- What the checks know on their way over the statements: which numbers are small, and what was declared so far.
+use Rattle.std.specs.Prelude.{ℕ, Bool, ◌||◌, not, if◌then◌else◌, List, Option, Some, None, option_map}
+use Rattle.std.specs.List.{list_any, list_all}
+use Rattle.std.specs.HashMap.{get_by}
+use Rattle.std.specs.Str.{bytes_eq}
+use Rattle.verilog_syntax.specs.declared.statement.Declared.{Declared}
+use Rattle.verilog_syntax.specs.declared.statement.Statement.{Statement}
+use Rattle.verilog_syntax.specs.declared.reading.Placed.{Placed}
+use Rattle.verilog_reader.specs.declared.bounds.Bounds.{Bounds}
+use Rattle.verilog_reader.specs.declared.declared.First.{First}
+use Rattle.verilog_reader.specs.declared.declared.DeclaredNames.{DeclaredNames}
+use Rattle.verilog_reader.specs.Values.{plain_of}
+use Rattle.verilog_reader.specs.Declarations.{Declaration, items_in, first_of}
+use Rattle.verilog_reader.specs.Faults.{is_bad_number, is_bad_range, range_in}
+
+-- a number of the statement itself passes its limit
+abbrev pub has_bad_number : Statement → Bool
+has_bad_number statement = is_bad_range (range_in statement) || list_any is_bad_number (items_in statement)
+
+-- no number of the statements does, as the number check finds out
+abbrev pub are_small : List Placed → Bool
+are_small ps = list_all (λ p. not (has_bad_number p.statement)) ps
+
+-- what is kept of a declaration
+abbrev pub kept_of : Declaration → First
+kept_of d = record { kind = d.kind; bounds = d.bounds }
+
+-- what is kept of the first declaration of a name
+abbrev pub first_kept : List Declaration → List ℕ → Option First
+first_kept ds name = option_map kept_of (first_of name ds)
+
+-- what is kept of a name that a list of names declares
+abbrev pub first_named : Declared → Option Bounds → List (List ℕ) → List ℕ → Option First
+first_named kind bounds names name = if list_any (λ other. bytes_eq (plain_of other) name) names then Some (record { kind = kind; bounds = bounds }) else None
+
+-- what is kept at one name
+abbrev pub only_at : List ℕ → First → List ℕ → Option First
+only_at name first other = if bytes_eq name other then Some first else None
+
+-- what the names of the code keep
+abbrev pub first_in : DeclaredNames → List ℕ → Option First
+first_in names name = get_by (λ k. bytes_eq name k.now) names.firsts
+
+-- the bounds where what is kept is a vector
+abbrev pub kept_bounds : Option First → Option Bounds
+kept_bounds None = None
+kept_bounds (Some first) = first.bounds
