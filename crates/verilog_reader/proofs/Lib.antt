@@ -1,4 +1,6 @@
 pub mod Indexes
 pub mod BitNames
+pub mod AnyLemmas
 pub mod NameLists
+pub mod BitLookups
 pub mod Firsts

@@ -6,6 +6,7 @@ use Rattle.std.specs.Cmp.Lexicographic.{nat_list_eq_equiv}
 use Rattle.std.proofs.lemmas.List.{drop_more, drop_all, take_more, map-append, append-nil}
 use Rattle.std.proofs.lemmas.List.Folds.{list_any-append}
 use Rattle.verilog_reader.specs.Declarations.{has}
+use Rattle.verilog_reader.proofs.AnyLemmas.{or_false, any_or, any_same}
 use Rattle.verilog_reader.specs.Faults.{has_twice}
 
 abbrev pub now_of : List (Bor (List ℕ)) → List (List ℕ)
@@ -15,30 +16,11 @@ pub or_assoc : (a b c : Bool) → (a || (b || c)) ≡ ((a || b) || c)
 or_assoc true b c = refl
 or_assoc false b c = refl
 
-pub or_false : (a : Bool) → (a || false) ≡ a
-or_false true = refl
-or_false false = refl
-
 pub or_cond : (a b : Bool) → (a || b) ≡ cond b true a
 or_cond true true = refl
 or_cond true false = refl
 or_cond false true = refl
 or_cond false false = refl
-
--- a test that is one or the other
-pub or_four : (a b c d : Bool) → ((a || b) || (c || d)) ≡ ((a || c) || (b || d))
-or_four true b c d = refl
-or_four false true true d = refl
-or_four false true false d = refl
-or_four false false c d = refl
-
-pub any_or : {X : Type 0} (p q : X → Bool) (xs : List X) → list_any (λ x. p x || q x) xs ≡ (list_any p xs || list_any q xs)
-any_or p q [] = refl
-any_or p q (x ∷ xs) = ap (λ b. (p x || q x) || b) (any_or p q xs) ∙ or_four (p x) (q x) (list_any p xs) (list_any q xs)
-
-pub any_same : {X : Type 0} (p q : X → Bool) (xs : List X) → ((x : X) → p x ≡ q x) → list_any p xs ≡ list_any q xs
-any_same p q [] e = refl
-any_same p q (x ∷ xs) e = ap (λ b. b || list_any p xs) (e x) ∙ ap (λ b. q x || b) (any_same p q xs e)
 
 pub name_symm : (a b : List ℕ) → bytes_eq a b ≡ bytes_eq b a
 name_symm a b = nat_list_eq_equiv.symm a b

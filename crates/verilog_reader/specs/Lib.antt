@@ -5,3 +5,4 @@ pub mod Faults
 pub mod Steps
 pub mod Denoted
 pub mod NameSets
+pub mod Seen

@@ -9,6 +9,7 @@ mod bit_names;
 mod bounds;
 mod declared;
 mod name_lists;
+mod twice;
 mod values;
 
 pub use bounds::Bounds;
