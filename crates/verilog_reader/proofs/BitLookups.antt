@@ -62,7 +62,7 @@ has_is b i =
       | inl there ↦ some_from (λ j. j == i) b 0 (width b) (offset b i) (omega arith) (omega (arith, offset_within b i there)) (true_eq (index_at b (offset b i)) i (index_found b i there)) ∙ sym there
       | inr absent ↦
           none_from (λ j. j == i) b 0 (width b)
-          (λ m lt. not_true (index_at b m == i) (λ e. let wrong = sym absent ∙ sym (ap (has_index b) (eq_true (index_at b m) i e)) ∙ index_within b m lt in absurd cc))
+          (λ m lt. not_true (index_at b m == i) (λ e. let wrong = sym absent ∙ sym (ap (has_index b) (eq_true (index_at b m) i e)) ∙ index_within b m (omega arith) in absurd cc))
           ∙ sym absent
     ]
 

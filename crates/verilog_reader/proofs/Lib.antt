@@ -4,3 +4,6 @@ pub mod AnyLemmas
 pub mod NameLists
 pub mod BitLookups
 pub mod Firsts
+pub mod Counting
+pub mod Passes
+pub mod CheckLaw

@@ -1,7 +1,8 @@
 -- What the checks know on their way over the statements: which numbers are small, and what was declared so far.
-use Rattle.std.specs.Prelude.{ℕ, Bool, ◌||◌, not, if◌then◌else◌, List, Option, Some, None, option_map}
+use Rattle.std.specs.Prelude.{◌≡◌, ℕ, ◌<◌, Bool, true, false, ◌&&◌, ◌||◌, not, if◌then◌else◌, List, ◌++◌, Option, Some, None, option_map}
 use Rattle.std.specs.List.{list_any, list_all}
 use Rattle.std.specs.HashMap.{get_by}
+use Rattle.std.specs.HashSet.{contains_by}
 use Rattle.std.specs.Str.{bytes_eq}
 use Rattle.verilog_syntax.specs.declared.statement.Declared.{Declared}
 use Rattle.verilog_syntax.specs.declared.statement.Statement.{Statement}
@@ -9,9 +10,10 @@ use Rattle.verilog_syntax.specs.declared.reading.Placed.{Placed}
 use Rattle.verilog_reader.specs.declared.bounds.Bounds.{Bounds}
 use Rattle.verilog_reader.specs.declared.declared.First.{First}
 use Rattle.verilog_reader.specs.declared.declared.DeclaredNames.{DeclaredNames}
+use Rattle.verilog_reader.specs.declared.number.Vectors.{Vectors}
 use Rattle.verilog_reader.specs.Values.{plain_of}
-use Rattle.verilog_reader.specs.Declarations.{Declaration, items_in, first_of}
-use Rattle.verilog_reader.specs.Faults.{is_bad_number, is_bad_range, range_in}
+use Rattle.verilog_reader.specs.Declarations.{Declaration, is_named, items_in, first_of}
+use Rattle.verilog_reader.specs.Faults.{is_bad_number, is_bad_range, range_in, is_vector, vector_bits}
 
 -- a number of the statement itself passes its limit
 abbrev pub has_bad_number : Statement → Bool
@@ -45,3 +47,13 @@ first_in names name = get_by (λ k. bytes_eq name k.now) names.firsts
 abbrev pub kept_bounds : Option First → Option Bounds
 kept_bounds None = None
 kept_bounds (Some first) = first.bounds
+
+-- the names of the code are those of the vectors that are declared, and the bits are theirs together
+pub record AreCounted (vectors : Vectors) (ds : List Declaration) : Type 0 where
+  pub names : (q : List ℕ) → contains_by (λ k. bytes_eq q k.now) vectors.names ≡ list_any (λ d. is_named q d && is_vector d) ds
+  pub bits : vectors.bits ≡ vector_bits ds
+
+-- these declarations were counted too, or are too many
+abbrev pub Counts : Bool → Vectors → Vectors → List Declaration → Type 0
+Counts true old new more = (ds : List Declaration) → AreCounted old ds → AreCounted new (ds ++ more)
+Counts false old new more = (ds : List Declaration) → AreCounted old ds → 16777216 < vector_bits (ds ++ more)

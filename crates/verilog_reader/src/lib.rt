@@ -8,8 +8,11 @@
 mod bit_names;
 mod bounds;
 mod declared;
+mod faults;
 mod name_lists;
+mod number;
 mod twice;
 mod values;
+mod vector;
 
 pub use bounds::Bounds;

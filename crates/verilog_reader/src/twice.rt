@@ -138,6 +138,12 @@ fn index_at(bounds: Bounds, place: u32) -> u32
     }
 }
 
+fn has_name(names: &HashSet<&[u8]>, name: &[u8]) -> bool
+    ensures value { (all : List (List ℕ)) → HasNames names.now all → result ≡ has all name.now }
+{
+    names.contains(&name)
+}
+
 /// Whether one of some names is that of a bit of the vector.
 fn has_bit(
     alloc: Global,
@@ -152,7 +158,7 @@ fn has_bit(
     for place in 0..width(bounds) {
         name.clear();
         push_bit_name(alloc, &mut name, vector, index_at(bounds, place))?;
-        if names.contains(&name.as_slice()) {
+        if has_name(names, name.as_slice()) {
             return Ok(true);
         }
     }
