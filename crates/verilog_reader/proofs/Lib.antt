@@ -3,6 +3,8 @@ pub mod BitNames
 pub mod AnyLemmas
 pub mod NameLists
 pub mod BitLookups
+pub mod Again
+pub mod Undeclared
 pub mod Firsts
 pub mod Counting
 pub mod Passes

@@ -80,12 +80,3 @@ module _ (xs : List (Bor (List ℕ))) (i : ℕ) (d : Bor (List ℕ)) (total : Bo
 
 pub new_passed : (xs : List (Bor (List ℕ))) (i : ℕ) (total : Bool) → length xs ≤ i → stands_behind (now_of (take i xs)) (now_of (drop i xs)) ≡ total → false ≡ total
 new_passed xs i total le so_far = sym (ap (λ l. stands_behind (now_of (take i xs)) (now_of l)) (drop_all i xs le)) ∙ so_far
-
--- a key that an insert did not add was there, and one that it added was not
-pub was_there : (is_new there : Bool) → is_new ≡ not there → is_new ≡ false → there ≡ true
-was_there is_new true e f = refl
-was_there is_new false e f = cc
-
-pub was_new : (is_new there : Bool) → is_new ≡ not there → is_new ≡ true → there ≡ false
-was_new is_new true e f = cc
-was_new is_new false e f = refl

@@ -11,6 +11,7 @@ mod declared;
 mod faults;
 mod name_lists;
 mod number;
+mod scalars;
 mod twice;
 mod values;
 mod vector;

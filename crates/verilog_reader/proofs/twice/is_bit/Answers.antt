@@ -14,7 +14,7 @@ returns-in-Some c = record {
       let bit = c.in-Some.ensures.value in
       let base = c.in-Some.vector.now in
       let i = c.in-Some.index in
-      c.has_index.ensures.value
+      c.selects.ensures.value
       ∙ ap (λ o. selects o i) (c.bounds.ensures.value ∙ ap kept_bounds (keeps base) ∙ bounds_is ds base)
       ∙ sym (is_bit_of ds base i low bit.0)
       ∙ sym (ap (is_bit ds) bit.1);
