@@ -8,4 +8,6 @@ pub mod Undeclared
 pub mod Firsts
 pub mod Counting
 pub mod Passes
+pub mod Small
+pub mod Ports
 pub mod CheckLaw

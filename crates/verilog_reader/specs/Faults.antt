@@ -163,30 +163,34 @@ selects_part (Some b) part = has_part b part
 abbrev pub part_of : List ℕ → List ℕ → Bounds
 part_of left right = record { left = decimal_value left; right = decimal_value right }
 
-abbrev pub is_bad_select : List Declaration → Item → Bool
-is_bad_select ds items.Open = false
-is_bad_select ds items.Comma = false
-is_bad_select ds items.Close = false
-is_bad_select ds (items.Name name) = false
-is_bad_select ds (items.Bit name index) = not (selects (bounds_in ds (plain_of name)) (decimal_value index))
-is_bad_select ds (items.Part name left right) = not (selects_part (bounds_in ds (plain_of name)) (part_of left right))
-is_bad_select ds (items.Constant text) = false
+-- at each name, the bounds of the declared vector
+abbrev pub BoundsAt : Type 0
+BoundsAt = List ℕ → Option Bounds
+
+abbrev pub is_bad_select : BoundsAt → Item → Bool
+is_bad_select bounds items.Open = false
+is_bad_select bounds items.Comma = false
+is_bad_select bounds items.Close = false
+is_bad_select bounds (items.Name name) = false
+is_bad_select bounds (items.Bit name index) = not (selects (bounds (plain_of name)) (decimal_value index))
+is_bad_select bounds (items.Part name left right) = not (selects_part (bounds (plain_of name)) (part_of left right))
+is_bad_select bounds (items.Constant text) = false
 
 abbrev pub width_or_one : Option Bounds → ℕ
 width_or_one None = 1
 width_or_one (Some b) = width b
 
-abbrev pub item_width : List Declaration → Item → ℕ
-item_width ds items.Open = 0
-item_width ds items.Comma = 0
-item_width ds items.Close = 0
-item_width ds (items.Name name) = width_or_one (bounds_in ds (plain_of name))
-item_width ds (items.Bit name index) = 1
-item_width ds (items.Part name left right) = width (part_of left right)
-item_width ds (items.Constant text) = constant_size text
+abbrev pub item_width : BoundsAt → Item → ℕ
+item_width bounds items.Open = 0
+item_width bounds items.Comma = 0
+item_width bounds items.Close = 0
+item_width bounds (items.Name name) = width_or_one (bounds (plain_of name))
+item_width bounds (items.Bit name index) = 1
+item_width bounds (items.Part name left right) = width (part_of left right)
+item_width bounds (items.Constant text) = constant_size text
 
-abbrev pub expression_width : List Declaration → Expression → ℕ
-expression_width ds e = sum_by (item_width ds) e.items
+abbrev pub expression_width : BoundsAt → Expression → ℕ
+expression_width bounds e = sum_by (item_width bounds) e.items
 
 abbrev pub has_direction : List Declaration → List ℕ → Bool
 has_direction ds name = list_any (λ d. is_named name d && is_port_kind d.kind) ds
@@ -194,16 +198,16 @@ has_direction ds name = list_any (λ d. is_named name d && is_port_kind d.kind) 
 abbrev pub is_badly_listed : List (List ℕ) → Declaration → Bool
 is_badly_listed ports d = is_port_kind d.kind && not (has ports d.name)
 
-abbrev pub differ_in_width : List Declaration → Statement → Bool
-differ_in_width ds (statements.Module name ports) = false
-differ_in_width ds (statements.Declare kind range names) = false
-differ_in_width ds (statements.Assign left right) = not (expression_width ds left == expression_width ds right)
-differ_in_width ds (statements.Instance cell name connections) = false
+abbrev pub differ_in_width : BoundsAt → Statement → Bool
+differ_in_width bounds (statements.Module name ports) = false
+differ_in_width bounds (statements.Declare kind range names) = false
+differ_in_width bounds (statements.Assign left right) = not (expression_width bounds left == expression_width bounds right)
+differ_in_width bounds (statements.Instance cell name connections) = false
 
 unfoldable pub bad_select : List Placed → Placed → Bool
 bad_select all p =
-    list_any (is_bad_select (declarations all)) (items_in p.statement)
-    || differ_in_width (declarations all) p.statement
+    list_any (is_bad_select (bounds_in (declarations all))) (items_in p.statement)
+    || differ_in_width (bounds_in (declarations all)) p.statement
     || list_any (λ port. not (has_direction (declarations all) port)) (ports_in p.statement)
     || list_any (is_badly_listed (header_ports all)) (declarations_in p.statement)
 

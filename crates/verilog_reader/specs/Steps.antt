@@ -1,19 +1,22 @@
 -- What the checks know on their way over the statements: which numbers are small, and what was declared so far.
-use Rattle.std.specs.Prelude.{◌≡◌, ℕ, ◌<◌, Bool, true, false, ◌&&◌, ◌||◌, not, if◌then◌else◌, List, ◌++◌, Option, Some, None, option_map}
+use Rattle.std.specs.Prelude.{◌≡◌, ℕ, ◌<◌, Bool, true, false, ◌&&◌, ◌||◌, not, if◌then◌else◌, List, [], ◌++◌, Option, Some, None, option_map}
 use Rattle.std.specs.List.{list_any, list_all}
 use Rattle.std.specs.HashMap.{get_by}
-use Rattle.std.specs.HashSet.{contains_by}
+use Rattle.std.specs.HashSet.{HashSet, contains_by}
+use Rattle.std.specs.Borrow.{Bor}
 use Rattle.std.specs.Str.{bytes_eq}
 use Rattle.verilog_syntax.specs.declared.statement.Declared.{Declared}
 use Rattle.verilog_syntax.specs.declared.statement.Statement.{Statement}
+use Rattle.verilog_syntax.specs.declared.statement.Statement.TheVariants as statements
 use Rattle.verilog_syntax.specs.declared.reading.Placed.{Placed}
 use Rattle.verilog_reader.specs.declared.bounds.Bounds.{Bounds}
 use Rattle.verilog_reader.specs.declared.declared.First.{First}
 use Rattle.verilog_reader.specs.declared.declared.DeclaredNames.{DeclaredNames}
 use Rattle.verilog_reader.specs.declared.number.Vectors.{Vectors}
+use Rattle.verilog_reader.specs.declared.select.Known.{Known}
 use Rattle.verilog_reader.specs.Values.{plain_of}
-use Rattle.verilog_reader.specs.Declarations.{Declaration, is_named, items_in, first_of}
-use Rattle.verilog_reader.specs.Faults.{is_bad_number, is_bad_range, range_in, is_vector, vector_bits}
+use Rattle.verilog_reader.specs.Declarations.{Declaration, is_named, items_in, first_of, is_port_kind, declarations, has, header_ports}
+use Rattle.verilog_reader.specs.Faults.{is_bad_number, is_bad_range, range_in, is_vector, vector_bits, is_bad_select, differ_in_width, has_direction}
 
 -- a number of the statement itself passes its limit
 abbrev pub has_bad_number : Statement → Bool
@@ -57,3 +60,39 @@ pub record AreCounted (vectors : Vectors) (ds : List Declaration) : Type 0 where
 abbrev pub Counts : Bool → Vectors → Vectors → List Declaration → Type 0
 Counts true old new more = (ds : List Declaration) → AreCounted old ds → AreCounted new (ds ++ more)
 Counts false old new more = (ds : List Declaration) → AreCounted old ds → 16777216 < vector_bits (ds ++ more)
+
+-- the bounds at a name that the names of the code keep
+abbrev pub known_bounds : DeclaredNames → List ℕ → Option Bounds
+known_bounds names name = kept_bounds (first_in names name)
+
+-- a set of the code has a name
+abbrev pub has_key : {S : Type 0} → HashSet (Bor (List ℕ)) S → List ℕ → Bool
+has_key set name = contains_by (λ k. bytes_eq name k.now) set
+
+-- the names that the header lists, as they are written
+abbrev pub listed_in : Statement → List (List ℕ)
+listed_in (statements.Module name ports) = ports
+listed_in (statements.Declare kind range names) = []
+listed_in (statements.Assign left right) = []
+listed_in (statements.Instance cell name connections) = []
+
+-- the names that a statement gives a direction
+abbrev pub directed_in : Statement → List (List ℕ)
+directed_in (statements.Module name ports) = []
+directed_in (statements.Declare kind range names) = if is_port_kind kind then names else []
+directed_in (statements.Assign left right) = []
+directed_in (statements.Instance cell name connections) = []
+
+-- what the code keeps of all the statements is so
+pub record AreKnown (known : Known) (ps : List Placed) : Type 0 where
+  pub names : (name : List ℕ) → first_in known.names name ≡ first_kept (declarations ps) name
+  pub ports : (name : List ℕ) → has_key known.ports name ≡ has (header_ports ps) name
+  pub directed : (name : List ℕ) → has_key known.directed name ≡ has_direction (declarations ps) name
+
+-- the statement is bad by what the code keeps
+abbrev pub is_bad_beside : Known → Statement → Bool
+is_bad_beside known statement =
+    list_any (is_bad_select (known_bounds known.names)) (items_in statement)
+    || differ_in_width (known_bounds known.names) statement
+    || list_any (λ name. not (has_key known.directed (plain_of name))) (listed_in statement)
+    || list_any (λ name. not (has_key known.ports (plain_of name))) (directed_in statement)

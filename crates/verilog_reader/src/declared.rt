@@ -80,7 +80,7 @@ impl<'a> DeclaredNames<'a> {
         &mut self,
         kind: Declared,
         bounds: Option<Bounds>,
-        names: &'a [Written<'a>],
+        names: &[Written<'a>],
     ) -> Result<(), NoMemory>
         ensures ok { OnOk result ((q : List ℕ) → first_in self.new q ≡ option_or (first_in self.old q) (first_named kind bounds names.now q)) }
     {
@@ -91,7 +91,7 @@ impl<'a> DeclaredNames<'a> {
     }
 
     /// Adds what a statement declares.
-    pub(crate) fn add_statement(&mut self, statement: &'a Statement<'a>) -> Result<(), NoMemory>
+    pub(crate) fn add_statement(&mut self, statement: &Statement<'a>) -> Result<(), NoMemory>
         requires small { is_bad_range (range_in statement.now) ≡ false }
         ensures ok { OnOk result ((q : List ℕ) → first_in self.new q ≡ option_or (first_in self.old q) (first_kept (declarations_in statement.now) q)) }
     {
@@ -144,7 +144,7 @@ pub(crate) fn range_bounds(range: &Option<Range>) -> Option<Bounds>
 /// The first declaration of each name that the statements declare.
 pub(crate) fn declared_names<'a>(
     alloc: Global,
-    statements: &'a [Placed<'a>],
+    statements: &[Placed<'a>],
 ) -> Result<DeclaredNames<'a>, NoMemory>
     requires small { are_small statements.now ≡ true }
     ensures value { IfOk result (λ names. (q : List ℕ) → first_in names q ≡ first_kept (declarations statements.now) q) }

@@ -12,6 +12,7 @@ mod faults;
 mod name_lists;
 mod number;
 mod scalars;
+mod select;
 mod twice;
 mod values;
 mod vector;

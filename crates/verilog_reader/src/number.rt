@@ -155,7 +155,7 @@ impl<'a> Vectors<'a> {
     }
 
     /// Counts vectors, and says whether there are few enough bits; if not, counting stops.
-    fn add_all(&mut self, bounds: Bounds, names: &'a [Written<'a>]) -> Result<bool, NoMemory>
+    fn add_all(&mut self, bounds: Bounds, names: &[Written<'a>]) -> Result<bool, NoMemory>
         requires small { self.old.bits ≤ 16777216 }
         ensures small { IfOk result (λ fits. OnTrue fits (self.new.bits ≤ 16777216)) }
         ensures counted { IfOk result (λ fits. (kind : ghost_declared) (range : ghost_range) → bounds_of range ≡ bounds → Counts fits self.old self.new (map (declaration_of kind (Some range)) names.now)) }
@@ -170,7 +170,7 @@ impl<'a> Vectors<'a> {
     }
 
     /// Counts what a statement declares.
-    fn add_statement(&mut self, statement: &'a Statement<'a>) -> Result<bool, NoMemory>
+    fn add_statement(&mut self, statement: &Statement<'a>) -> Result<bool, NoMemory>
         requires small { self.old.bits ≤ 16777216 }
         requires range { is_bad_range (range_in statement.now) ≡ false }
         ensures small { IfOk result (λ fits. OnTrue fits (self.new.bits ≤ 16777216)) }
