@@ -100,7 +100,7 @@ last_same (a ∷ xs) (b ∷ ys) x y e =
     let rest : xs ++ x ∷ [] ≡ ys ++ y ∷ [] = cc in
     ap (λ (c : ℕ). c ∷ xs) first ∙ ap (λ (l : List ℕ). b ∷ l) (last_same xs ys x y rest)
 
-bit_parts : (base : List ℕ) (i : ℕ) → bit_name base i ≡ (base ++ 91 ∷ decimal i) ++ 93 ∷ []
+pub bit_parts : (base : List ℕ) (i : ℕ) → bit_name base i ≡ (base ++ 91 ∷ decimal i) ++ 93 ∷ []
 bit_parts [] i = refl
 bit_parts (b ∷ bs) i = ap (λ (l : List ℕ). b ∷ l) (bit_parts bs i)
 

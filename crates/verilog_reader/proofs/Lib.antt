@@ -5,6 +5,7 @@ pub mod NameLists
 pub mod BitLookups
 pub mod Again
 pub mod Undeclared
+pub mod SeenMore
 pub mod Firsts
 pub mod Counting
 pub mod Passes

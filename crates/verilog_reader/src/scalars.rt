@@ -28,13 +28,7 @@ fn undeclared_of<'a>(all: &DeclaredNames, item: &Item<'a>) -> Option<&'a [u8]>
     ensures value { (ds : List Declaration) → Keeps all.now ds → MatchOption result (undeclared_in ds (mentions_of item.now) ≡ []) (λ name. undeclared_in ds (mentions_of item.now) ≡ name.now ∷ []) }
 {
     match mention_of(item) {
-        Some(name) => {
-            if all.has(name) {
-                None
-            } else {
-                Some(name)
-            }
-        }
+        Some(name) => { if all.has(name) { None } else { Some(name) } }
         None => None,
     }
 }

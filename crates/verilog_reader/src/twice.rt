@@ -17,21 +17,13 @@ use crate::declared::{DeclaredNames, First, declared_names, range_bounds};
 use crate::faults::fault_at;
 use crate::name_lists::{add_names, has_twice, pins_in, ports_in};
 use crate::scalars::scalars_in;
+use crate::select::{is_port_kind, selects};
 use crate::values::{plain_of, push_bit_name};
-use crate::vector::{has_index, index_at, width};
+use crate::vector::{index_at, width};
 use std::alloc::Global;
 use std::collections::HashSet;
 use text_scan::{Kind, NoMemory, ReadFault};
 use verilog_syntax::{Declared, Placed, Statement, Written};
-
-fn is_port_kind(kind: Declared) -> bool
-    ensures value { result ≡ is_port_kind kind }
-{
-    match kind {
-        Declared::Input | Declared::Output | Declared::Inout => true,
-        Declared::Wire | Declared::Tri | Declared::Supply0 | Declared::Supply1 => false,
-    }
-}
 
 fn is_wire(kind: Declared) -> bool
     ensures value { result ≡ is_wire kind }
@@ -69,15 +61,6 @@ fn stands_beside(first: Option<First>, kind: Declared, bounds: Option<Bounds>) -
 {
     match first {
         Some(first) => !may_stand_beside(first, kind, bounds),
-        None => false,
-    }
-}
-
-fn selects(bounds: Option<Bounds>, index: u32) -> bool
-    ensures value { result ≡ selects bounds index }
-{
-    match bounds {
-        Some(bounds) => has_index(bounds, index),
         None => false,
     }
 }
@@ -181,11 +164,7 @@ fn have_bit_within(
 }
 
 /// Whether one of some names is that of a bit of a vector that the statement declares.
-fn have_bits(
-    alloc: Global,
-    names: &HashSet<&[u8]>,
-    statement: &Statement,
-) -> Result<bool, NoMemory>
+fn have_bits(alloc: Global, names: &HashSet<&[u8]>, statement: &Statement) -> Result<bool, NoMemory>
     requires small { is_bad_range (range_in statement.now) ≡ false }
     ensures value { IfOk result (λ found. (all : List (List ℕ)) → HasNames names.now all → found ≡ have_bits (declarations_in statement.now) all) }
 {
@@ -300,19 +279,15 @@ impl<'a> Seen<'a> {
     }
 
     /// Adds the names of a statement, and says whether one of them may not stand again.
-    fn add(
-        &mut self,
-        scalars: &[&'a [u8]],
-        statement: &Statement<'a>,
-    ) -> Result<bool, NoMemory>
+    fn add(&mut self, scalars: &[&'a [u8]], statement: &Statement<'a>) -> Result<bool, NoMemory>
         requires small { is_bad_range (range_in statement.now) ≡ false }
         ensures value { IfOk result (λ again. (all : List Placed) (before : List Placed) (p : Placed) → p.statement ≡ statement.now → map (λ name. name.now) scalars.now ≡ scalars_in (declarations all) statement.now → IsSeen all before self.old → Sees again all before p self.new) }
     {
         add_names(&mut self.scalars, scalars)?;
-        self.closed = self.closed || any_closed(scalars);
+        self.closed |= any_closed(scalars);
         let again = add_declarations(&mut self.declared, statement)?;
         let repeats = add_instance(&mut self.instances, statement)?;
-        Ok(again || repeats)
+        Ok(again | repeats)
     }
 
     /// Adds a statement, and says whether it is bad beside those so far.
@@ -330,15 +305,12 @@ impl<'a> Seen<'a> {
         let scalar = are_bits(&self.declared, scalars.as_slice());
         let bit = self.bits_repeat(alloc, statement)?;
         let again = self.add(scalars.as_slice(), statement)?;
-        Ok(itself || scalar || bit || again)
+        Ok(itself | scalar | bit | again)
     }
 }
 
 /// Finds the first statement that gives a name which stood before to something else.
-pub(crate) fn check_twice<'a>(
-    alloc: Global,
-    statements: &'a [Placed<'a>],
-) -> Result<(), ReadFault>
+pub(crate) fn check_twice(alloc: Global, statements: &[Placed]) -> Result<(), ReadFault>
     requires small { are_small statements.now ≡ true }
     ensures value { Answers result (check_twice statements.now) }
 {
