@@ -1,6 +1,13 @@
 pub mod Indexes
 pub mod OneNetlist
 pub mod LastBits
+pub mod BitNames
+pub mod AnyLemmas
+pub mod NameLists
+pub mod BitLookups
+pub mod Again
+pub mod Undeclared
+pub mod SeenMore
 pub mod Firsts
 pub mod Counting
 pub mod Passes

@@ -5,3 +5,5 @@ pub mod Faults
 pub mod Steps
 pub mod Denoted
 pub mod LastBits
+pub mod NameSets
+pub mod Seen

@@ -5,6 +5,7 @@
 //! `specs/Faults.antt` says. Begin with `netlist.rt`.
 #![tactic(auto)]
 
+mod bit_names;
 mod bounds;
 mod constant;
 #[cfg(test)]
@@ -13,8 +14,11 @@ mod laws;
 mod netlist;
 mod declared;
 mod faults;
+mod name_lists;
 mod number;
+mod scalars;
 mod select;
+mod twice;
 mod values;
 mod vector;
 
