@@ -122,9 +122,10 @@ same_netlists ps n m a b gn gm =
     let ports : n.ports ≡ m.ports = same_lists (seen_port n.nets) (IsGoodPort n.nets) (port_tells n.nets gn.names) n.ports m.ports gn.port_nets ports_within ports_seen in
     let assigns : n.assigns ≡ m.assigns = same_lists (seen_assign n.nets) (IsAssign (length n.nets)) (assign_tells n.nets gn.names) n.assigns m.assigns gn.assigns assigns_good assigns_seen in
     let instances : n.instances ≡ m.instances = same_lists (seen_instance n.nets) (IsInstance (length n.nets)) (instance_tells n.nets gn.names) n.instances m.instances gn.instances instances_good instances_seen in
-    ap₂ (λ name line. record { «module» = name; line = line; nets = n.nets; ports = n.ports; assigns = n.assigns; instances = n.instances }) (a.module_name ∙ sym b.module_name) (a.line ∙ sym b.line)
-    ∙ ap₂ (λ nets ports. record { «module» = m.«module»; line = m.line; nets = nets; ports = ports; assigns = n.assigns; instances = n.instances }) nets ports
-    ∙ ap₂ (λ assigns instances. record { «module» = m.«module»; line = m.line; nets = m.nets; ports = m.ports; assigns = assigns; instances = instances }) assigns instances
+    ap₂ (λ name line. record { «module» = name; line = line; nets = n.nets; declared = n.declared; ports = n.ports; assigns = n.assigns; instances = n.instances }) (a.module_name ∙ sym b.module_name) (a.line ∙ sym b.line)
+    ∙ ap₂ (λ nets declared. record { «module» = m.«module»; line = m.line; nets = nets; declared = declared; ports = n.ports; assigns = n.assigns; instances = n.instances }) nets (a.declared ∙ sym b.declared)
+    ∙ ap₂ (λ ports assigns. record { «module» = m.«module»; line = m.line; nets = m.nets; declared = m.declared; ports = ports; assigns = assigns; instances = n.instances }) ports assigns
+    ∙ ap (λ (instances : List Instance). record { «module» = m.«module»; line = m.line; nets = m.nets; declared = m.declared; ports = m.ports; assigns = m.assigns; instances = instances }) instances
 
 abbrev value_or : List Placed → Result (List Placed) Fault → List Placed
 value_or d (Ok ps) = ps

@@ -1,6 +1,6 @@
 -- What a Verilog text denotes: the netlist of its statements (IEEE 1364-2005, 12). A net bit is named by its plain name; net
 -- numbers are free.
-use Rattle.std.specs.Prelude.{◌≡◌, ℕ, Bool, not, if◌then◌else◌, List, [], ◌∷◌, ◌++◌, map, filter, decimal, Option, Some, None, Ok}
+use Rattle.std.specs.Prelude.{length, ◌≡◌, ℕ, Bool, not, if◌then◌else◌, List, [], ◌∷◌, ◌++◌, map, filter, decimal, Option, Some, None, Ok}
 use Rattle.std.specs.List.{flat_map}
 use Rattle.text_scan.specs.declared.span.Span.{Span}
 use Rattle.netlist_core.specs.declared.netlist.Bit.{Bit}
@@ -148,6 +148,9 @@ abbrev pub entry_nets : List ℕ → Option Bounds → List NetName
 entry_nets name None = record { plain = name; text = name_text name } ∷ []
 entry_nets name (Some b) = map (λ i. record { plain = bit_name name i; text = bit_text name i }) (indexes b)
 
+abbrev pub declared_nets : List Placed → List NetName
+declared_nets ps = flat_map (λ e. entry_nets e.0 e.1) (first_declared [] (declarations ps))
+
 abbrev pub said_nets : List Placed → List NetName
 said_nets ps = flat_map (λ e. entry_nets e.0 e.1) (net_entries ps)
 
@@ -168,12 +171,13 @@ seen_connection nets c = record { pin = c.pin; expression = seen_expression nets
 abbrev pub seen_instance : List NetName → Instance → SeenInstance
 seen_instance nets i = record { name = i.name; cell = i.cell; connections = map (seen_connection nets) i.connections; line = i.line }
 
--- the netlist is that of the statements: the module's name and line, the net bits, the ports with their directions, the
+-- the netlist is that of the statements: the module's name and line, the net bits, how many are declared, the ports with their directions, the
 -- assigns and the instances in order, each with its line, each expression with its bits and its place
 pub record IsNetlistOf (ps : List Placed) (n : Netlist) : Type 0 where
   pub module_name : n.«module» ≡ header_name ps
   pub line : n.line ≡ header_line ps
   pub nets : n.nets ≡ said_nets ps
+  pub declared : n.declared ≡ length (declared_nets ps)
   pub ports : map (seen_port n.nets) n.ports ≡ said_ports ps
   pub assigns : map (seen_assign n.nets) n.assigns ≡ flat_map (λ p. said_assigns_in (declarations ps) p.line p.statement) ps
   pub instances : map (seen_instance n.nets) n.instances ≡ flat_map (λ p. said_instances_in (declarations ps) p.line p.statement) ps
