@@ -3,3 +3,4 @@ pub mod Constants
 pub mod Declarations
 pub mod Faults
 pub mod Denoted
+pub mod Numbering

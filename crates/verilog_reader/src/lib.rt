@@ -6,6 +6,9 @@
 #![tactic(auto)]
 
 mod bounds;
+mod entry;
+mod nets;
 mod values;
+mod vectors;
 
 pub use bounds::Bounds;

@@ -1,0 +1,67 @@
+//! The names of a module's nets.
+ghost use Rattle.std.specs.Prelude.{◌≡◌, ◌+◌, ◌≤◌, ◌<◌, ◌^◌, [], Some, IsSome, OnOk};
+ghost use Rattle.verilog_reader.specs.Faults.{width_or_one};
+ghost use Rattle.verilog_reader.specs.Numbering.{total, place, with_entry};
+
+use crate::bounds::Bounds;
+use crate::entry::Entry;
+use crate::vectors::width_or_one;
+use indexmap::IndexMap;
+use std::alloc::Global;
+use std::marker::Model;
+use text_scan::NoMemory;
+
+/// Names in the order of their nets, which contracts see as a list, each with the bounds of a vector.
+pub(crate) struct Nets<'a> {
+    entries: IndexMap<&'a [u8], Entry>,
+    count: u32,
+}
+
+impl<'a> Model for Nets<'a> {
+    ghost use Rattle.std.specs.Prelude.{◌≡◌, ◌<◌, ◌^◌, List, ℕ, Option};
+    ghost use Rattle.verilog_reader.specs.declared.bounds.Bounds.{Bounds as ghost_bounds};
+    ghost use Rattle.verilog_reader.specs.Numbering.{entries_of, total, IsNumbered};
+
+    ghost Value = { List (List ℕ × Option ghost_bounds) };
+
+    ghost view = { λ n. entries_of n.entries.entries };
+
+    ghost invariant = { λ n. IsNumbered 0 n.entries.entries × (n.count ≡ total (entries_of n.entries.entries)) × (n.count < 2 ^ 32) };
+}
+
+impl<'a> Nets<'a> {
+    pub(crate) fn new(alloc: Global) -> Nets<'a>
+        ensures value { result ≡ [] }
+    {
+        Nets {
+            entries: IndexMap::new(alloc),
+            count: 0,
+        }
+    }
+
+    /// Gives a name its nets, unless it has them. Their numbers have 32 bits: more would not fit in memory.
+    pub(crate) fn add(&mut self, name: &'a [u8], bounds: Option<Bounds>) -> Result<(), NoMemory>
+        ensures ok { OnOk result (self.new ≡ with_entry self.old name.now bounds) }
+    {
+        if self.entries.contains_key(name) {
+            return Ok(());
+        }
+        let first = self.count;
+        let Ok(count) = u32::try_from(u64::from(first) + width_or_one(bounds)) else {
+            return Err(NoMemory);
+        };
+        self.entries.insert(name, Entry { first, bounds })?;
+        self.count = count;
+        Ok(())
+    }
+
+    /// The nets of a name.
+    pub(crate) fn entry(&self, name: &[u8]) -> Entry
+        requires { IsSome (place self.now name.now) }
+        ensures found { place self.now name.now ≡ Some result }
+        ensures within { result.first + width_or_one result.bounds ≤ total self.now }
+        ensures few { total self.now < 2 ^ 32 }
+    {
+        *self.entries.get(name).unwrap()
+    }
+}
