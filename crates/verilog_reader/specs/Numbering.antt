@@ -60,13 +60,15 @@ bounds_or (Some e) = e.bounds
 abbrev pub with_entry : List (List ℕ × Option Bounds) → List ℕ → Option Bounds → List (List ℕ × Option Bounds)
 with_entry es name bounds = if is_some (place es name) then es else es ++ (name, bounds) ∷ []
 
-unfoldable pub with_declared : List (List ℕ × Option Bounds) → List Declaration → List (List ℕ × Option Bounds)
-with_declared es [] = es
-with_declared es (d ∷ ds) = with_declared (with_entry es d.name d.bounds) ds
+abbrev pub with_entries : List (List ℕ × Option Bounds) → List (List ℕ × Option Bounds) → List (List ℕ × Option Bounds)
+with_entries es [] = es
+with_entries es (x ∷ xs) = with_entries (with_entry es x.0 x.1) xs
 
-unfoldable pub with_mentioned : List (List ℕ × Option Bounds) → List (List ℕ) → List (List ℕ × Option Bounds)
-with_mentioned es [] = es
-with_mentioned es (name ∷ names) = with_mentioned (with_entry es name None) names
+abbrev pub with_declared : List (List ℕ × Option Bounds) → List Declaration → List (List ℕ × Option Bounds)
+with_declared es ds = with_entries es (map (λ d. (d.name, d.bounds)) ds)
+
+abbrev pub with_mentioned : List (List ℕ × Option Bounds) → List (List ℕ) → List (List ℕ × Option Bounds)
+with_mentioned es names = with_entries es (map (λ name. (name, None)) names)
 
 -- the entries of statements: what they declare, and then what they mention alone
 abbrev pub entries : List Placed → List (List ℕ × Option Bounds)

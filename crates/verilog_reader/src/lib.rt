@@ -7,6 +7,8 @@
 
 mod bounds;
 mod entry;
+mod fill;
+mod net_names;
 mod nets;
 mod values;
 mod vectors;

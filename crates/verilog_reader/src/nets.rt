@@ -12,6 +12,7 @@ use std::marker::Model;
 use text_scan::NoMemory;
 
 /// Names in the order of their nets, which contracts see as a list, each with the bounds of a vector.
+#[derive(Drop)]
 pub(crate) struct Nets<'a> {
     entries: IndexMap<&'a [u8], Entry>,
     count: u32,

@@ -20,4 +20,5 @@ mod written;
 
 pub use reading::Placed;
 pub use statement::{Connection, Declared, Expression, Item, Range, Statement};
+pub use words::{is_identifier, is_reserved};
 pub use written::Written;
