@@ -5,7 +5,9 @@
 //! `specs/Faults.antt` says. Begin with `netlist.rt`.
 #![tactic(auto)]
 
+mod bits;
 mod bounds;
+mod constant;
 mod entry;
 mod fill;
 mod net_names;

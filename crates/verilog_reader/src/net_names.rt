@@ -1,6 +1,5 @@
 //! How nets are named.
-ghost use Rattle.std.specs.Prelude.{◌≡◌, ◌++◌, ◌∷◌, [], IfOk, OnOk};
-ghost use Rattle.std.specs.List.{flat_map};
+ghost use Rattle.std.specs.Prelude.{◌≡◌, ◌++◌, ◌∷◌, [], Option, Some, None, IfOk, OnOk};
 ghost use Rattle.verilog_reader.specs.Values.{bit_name, name_text};
 ghost use Rattle.verilog_reader.specs.Denoted.{entry_nets, bit_text};
 
@@ -38,4 +37,43 @@ fn bit_of(alloc: Global, name: &[u8], text: &[u8], index: u32) -> Result<NetName
         plain: Name::of(plain),
         text: Name::of(written),
     })
+}
+
+fn push_scalar(alloc: Global, names: &mut Rows<NetName>, name: &[u8]) -> Result<(), NoMemory>
+    ensures ok { OnOk result (names.new ≡ names.old ++ entry_nets name.now None) }
+{
+    names.push(NetName {
+        plain: Name::copy(alloc, name)?,
+        text: Name::of(name_text(alloc, name)?),
+    })
+}
+
+fn push_vector(
+    alloc: Global,
+    names: &mut Rows<NetName>,
+    name: &[u8],
+    bounds: Bounds,
+) -> Result<(), NoMemory>
+    ensures ok { OnOk result (names.new ≡ names.old ++ entry_nets name.now (Some bounds)) }
+{
+    let text = name_text(alloc, name)?;
+    for at in 0..width(bounds) {
+        names.push(bit_of(alloc, name, &text, index_at(bounds, at))?)?;
+    }
+    Ok(())
+}
+
+/// Appends the names of the nets that a name stands for.
+pub(crate) fn push_names(
+    alloc: Global,
+    names: &mut Rows<NetName>,
+    name: &[u8],
+    bounds: Option<Bounds>,
+) -> Result<(), NoMemory>
+    ensures ok { OnOk result (names.new ≡ names.old ++ entry_nets name.now bounds) }
+{
+    match bounds {
+        Some(bounds) => push_vector(alloc, names, name, bounds),
+        None => push_scalar(alloc, names, name),
+    }
 }

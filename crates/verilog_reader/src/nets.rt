@@ -1,15 +1,19 @@
 //! The names of a module's nets.
-ghost use Rattle.std.specs.Prelude.{◌≡◌, ◌+◌, ◌≤◌, ◌<◌, ◌^◌, [], Some, IsSome, OnOk};
+ghost use Rattle.std.specs.Prelude.{◌≡◌, ◌+◌, ◌≤◌, ◌<◌, ◌^◌, [], length, Some, IsSome, OnOk, IfOk};
+ghost use Rattle.std.specs.List.{flat_map};
+ghost use Rattle.verilog_reader.specs.Denoted.{entry_nets};
 ghost use Rattle.verilog_reader.specs.Faults.{width_or_one};
 ghost use Rattle.verilog_reader.specs.Numbering.{total, place, with_entry};
 
 use crate::bounds::Bounds;
 use crate::entry::Entry;
+use crate::net_names::push_names;
 use crate::vectors::width_or_one;
 use indexmap::IndexMap;
 use std::alloc::Global;
+use netlist_core::NetName;
 use std::marker::Model;
-use text_scan::NoMemory;
+use text_scan::{NoMemory, Rows};
 
 /// Names in the order of their nets, which contracts see as a list, each with the bounds of a vector.
 #[derive(Drop)]
@@ -54,6 +58,18 @@ impl<'a> Nets<'a> {
         self.entries.insert(name, Entry { first, bounds })?;
         self.count = count;
         Ok(())
+    }
+
+    /// How the nets are named, by their numbers.
+    pub(crate) fn names(&self, alloc: Global) -> Result<Rows<NetName>, NoMemory>
+        ensures value { IfOk result (λ names. names ≡ flat_map (λ e. entry_nets e.0 e.1) self.now) }
+        ensures few { IfOk result (λ names. length names < 2 ^ 32) }
+    {
+        let mut names = Rows::new(alloc);
+        for (name, entry) in self.entries.iter() {
+            push_names(alloc, &mut names, name, entry.bounds)?;
+        }
+        Ok(names)
     }
 
     /// The nets of a name.

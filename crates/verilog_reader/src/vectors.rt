@@ -2,7 +2,8 @@
 ghost use Rattle.std.specs.Prelude.{◌≡◌, ◌<◌, ◌≤◌, false, true, option_map, MatchOption};
 ghost use Rattle.verilog_reader.specs.Values.{decimal_value, is_big_index};
 ghost use Rattle.verilog_reader.specs.Declarations.{bounds_of, width, has_index, offset, index_at};
-ghost use Rattle.verilog_reader.specs.Faults.{width_or_one, is_bad_range};
+ghost use Rattle.verilog_reader.specs.Faults.{width_or_one, selects, is_bad_range};
+ghost use Rattle.verilog_reader.specs.Numbering.{offset_in};
 
 use crate::bounds::Bounds;
 use crate::values::index_value;
@@ -65,11 +66,24 @@ pub(crate) fn offset(bounds: Bounds, index: u32) -> u32
     bounds.left.abs_diff(index)
 }
 
+/// The place of an index that a name has, from the left.
+pub(crate) fn offset_in(bounds: Option<Bounds>, index: u32) -> u32
+    requires { selects bounds index ≡ true }
+    ensures value { result ≡ offset_in bounds index }
+    ensures within { result < width_or_one bounds }
+{
+    match bounds {
+        Some(bounds) => offset(bounds, index),
+        None => 0,
+    }
+}
+
 /// The index at a place from the left.
-pub(crate) fn index_at(bounds: Bounds, at: u32) -> u32
+pub(crate) fn index_at(bounds: Bounds, at: u64) -> u32
     requires { at < width bounds }
     ensures { result ≡ index_at bounds at }
 {
+    let at = at as u32;
     if bounds.right <= bounds.left {
         bounds.left - at
     } else {
