@@ -1,5 +1,5 @@
 -- Lists that a loop over numbers makes, one member for each number.
-use Rattle.std.proofs.Common.{◌≡◌, ℕ, zero, suc, ◌+◌, ◌-◌, ◌<◌, ◌≤◌, List, [], ◌∷◌, ◌++◌, length, map, Option, Some, None, refl, sym, ap, ◌∙◌, arith}
+use Rattle.std.proofs.Common.{◌≡◌, ℕ, zero, suc, ◌+◌, ◌-◌, ◌^◌, ◌<◌, ◌≤◌, List, [], ◌∷◌, ◌++◌, length, map, Option, Some, None, Bor, refl, sym, ap, ◌∙◌, arith}
 use Rattle.std.specs.List.{flat_map}
 use Rattle.std.proofs.lemmas.List.{append_assoc, append-nil, length-append, length-map}
 use Rattle.netlist_core.specs.declared.netlist.Bit.{Bit}
@@ -7,10 +7,12 @@ use Rattle.netlist_core.specs.declared.netlist.Direction.{Direction}
 use Rattle.netlist_core.specs.declared.netlist.Port.{Port}
 use Rattle.netlist_core.specs.declared.netlist.NetName.{NetName}
 use Rattle.verilog_reader.specs.declared.bounds.Bounds.{Bounds}
+use Rattle.verilog_reader.specs.declared.entry.Entry.{Entry}
 use Rattle.verilog_reader.specs.Declarations.{index_at, indexes_from, indexes, width}
 use Rattle.verilog_reader.specs.Faults.{width_or_one}
-use Rattle.verilog_reader.specs.Denoted.{entry_nets}
-use Rattle.verilog_reader.specs.Numbering.{numbers_from, net_bit, net_bits, numbered_port, total}
+use Rattle.verilog_reader.specs.Values.{bit_name, name_text}
+use Rattle.verilog_reader.specs.Denoted.{entry_nets, bit_text}
+use Rattle.verilog_reader.specs.Numbering.{numbers_from, net_bit, net_bits, numbered_port, total, entries_of}
 
 -- one number more
 pub goes_on : {X : Type 0} (G : ℕ → ℕ → List X) (f : ℕ → X) → ((at n : ℕ) → G at (suc n) ≡ f at ∷ G (at + 1) n) → (at end : ℕ) (out new all : List X)
@@ -68,3 +70,22 @@ length-nets [] = refl
 length-nets (e ∷ es) =
     length-append (entry_nets e.0 e.1) (flat_map (λ (e : List ℕ × Option Bounds). entry_nets e.0 e.1) es)
     ∙ ap (λ (n : ℕ). n + length (flat_map (λ (e : List ℕ × Option Bounds). entry_nets e.0 e.1) es)) (length-entry e.0 e.1) ∙ ap (λ (n : ℕ). width_or_one e.1 + n) (length-nets es)
+
+-- the names of so many nets are as many
+pub names_few : (names : List NetName) (left all table : List (Bor (List ℕ) × Entry)) (count : ℕ) → left ≡ []
+    → names ++ flat_map (λ (e : List ℕ × Option Bounds). entry_nets e.0 e.1) (entries_of left) ≡ flat_map (λ (e : List ℕ × Option Bounds). entry_nets e.0 e.1) (entries_of all)
+    → all ≡ table → count ≡ total (entries_of table) → count < 2 ^ 32 → length names < 2 ^ 32
+names_few names left all table count done is same counted few =
+    let rest = ap (λ (es : List (Bor (List ℕ) × Entry)). names ++ flat_map (λ (e : List ℕ × Option Bounds). entry_nets e.0 e.1) (entries_of es)) done ∙ append-nil names in
+    let long = ap length (sym rest ∙ is) ∙ length-nets (entries_of all) ∙ ap (λ (es : List (Bor (List ℕ) × Entry)). total (entries_of es)) same in
+    omega (arith, long, counted, few)
+
+-- the name of a bit, by the text of its vector
+pub bit_is : (net : NetName) (name text : List ℕ) (index at : ℕ) → net ≡ record { plain = bit_name name index; text = bit_name text index } → index ≡ at → text ≡ name_text name
+    → net ≡ record { plain = bit_name name at; text = bit_text name at }
+bit_is net name text index at is same written =
+    is ∙ ap (λ (i : ℕ). let n : NetName = record { plain = bit_name name i; text = bit_name text i } in n) same
+    ∙ ap (λ (t : List ℕ). let n : NetName = record { plain = bit_name name at; text = bit_name t at } in n) written
+
+pub pushed : {X : Type 0} (out new : List X) (x y : X) → new ≡ out ++ x ∷ [] → x ≡ y → new ≡ out ++ y ∷ []
+pushed {X} out new x y is same = is ∙ ap (λ (x : X). out ++ x ∷ []) same

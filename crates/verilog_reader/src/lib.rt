@@ -10,6 +10,7 @@ mod bounds;
 mod constant;
 mod entry;
 mod fill;
+mod fold;
 mod net_names;
 mod nets;
 mod values;
