@@ -2,3 +2,4 @@ pub mod Indexes
 pub mod Tables
 pub mod Filling
 pub mod Counting
+pub mod DeclaredPorts

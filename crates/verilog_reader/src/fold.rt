@@ -1,18 +1,19 @@
 //! The netlist of statements that have no fault.
-ghost use Rattle.std.specs.Prelude.{◌≡◌, ◌+◌, ◌-◌, ◌<◌, ◌^◌, ◌++◌, All, Some, IsSome, length, map, option_to_list, OnOk, IfOk};
+ghost use Rattle.std.specs.Prelude.{◌≡◌, false, ◌+◌, ◌-◌, ◌<◌, ◌^◌, ◌++◌, All, Some, IsSome, length, map, option_to_list, OnOk, IfOk};
 ghost use Rattle.std.specs.List.{flat_map};
 ghost use Rattle.verilog_reader.specs.Values.{plain_of};
 ghost use Rattle.verilog_reader.specs.Declarations.{declaration_of};
-ghost use Rattle.verilog_reader.specs.Faults.{width_or_one};
+ghost use Rattle.verilog_reader.specs.Faults.{width_or_one, is_bad_range, range_in};
 ghost use Rattle.verilog_reader.specs.Denoted.{directions_of, module_name, header_name, header_line};
-ghost use Rattle.verilog_reader.specs.Numbering.{place, port_bits, numbers_from, numbered_port, numbered_ports_of, numbered_ports_in, numbered_ports, numbered_connection, numbered_assigns_in, numbered_assigns, numbered_instances_in, numbered_instances, IsListed, IsFineExpression, IsFineStatement};
+ghost use Rattle.verilog_reader.specs.Numbering.{entries, numbered, place, port_bits, numbers_from, numbered_port, numbered_ports_of, numbered_ports_in, numbered_ports, numbered_connection, numbered_assigns_in, numbered_assigns, numbered_instances_in, numbered_instances, IsListed, IsFineExpression, IsFineStatement};
 
 use crate::bits::expression_of;
 use crate::entry::Entry;
+use crate::fill::nets_of;
 use crate::nets::Nets;
 use crate::values::plain_of;
 use crate::vectors::width_or_one;
-use netlist_core::{Assign, Connection as Pin, Direction, Instance, NetId, Port};
+use netlist_core::{Assign, Connection as Pin, Direction, Instance, NetId, Netlist, Port};
 use std::alloc::Global;
 use text_scan::{Name, NoMemory, Rows};
 use verilog_syntax::{Connection, Declared, Placed, Statement, Written};
@@ -179,10 +180,14 @@ fn instances_of(
 ) -> Result<Rows<Instance>, NoMemory>
     requires { All (λ p. IsFineStatement nets.now p.statement) statements.now }
     ensures value { IfOk result (λ instances. instances ≡ numbered_instances nets.now statements.now) }
+    ensures few { IfOk result (λ instances. length instances < 2 ^ 32) }
 {
     let mut instances = Rows::new(alloc);
     for placed in statements {
         push_instance(alloc, &mut instances, nets, placed.line, &placed.statement)?;
+    }
+    if instances.as_slice().len() > u32::MAX as usize {
+        return Err(NoMemory);
     }
     Ok(instances)
 }
@@ -195,4 +200,40 @@ fn module_name<'a>(statement: &Statement<'a>) -> &'a [u8]
         Statement::Module { name, .. } => plain_of(name),
         _ => &[],
     }
+}
+
+fn header_name<'a>(statements: &[Placed<'a>]) -> &'a [u8]
+    ensures value { result.now ≡ header_name statements.now }
+{
+    match statements {
+        [header, ..] => module_name(&header.statement),
+        [] => &[],
+    }
+}
+
+fn header_line(statements: &[Placed]) -> u64
+    ensures value { result ≡ header_line statements.now }
+{
+    match statements {
+        [header, ..] => header.line,
+        [] => 0,
+    }
+}
+
+fn folded(alloc: Global, statements: &[Placed]) -> Result<Netlist, NoMemory>
+    requires ranges { All (λ p. is_bad_range (range_in p.statement) ≡ false) statements.now }
+    requires fine { All (λ p. IsFineStatement (entries statements.now) p.statement) statements.now }
+    ensures value { IfOk result (λ n. n ≡ numbered (entries statements.now) statements.now) }
+    ensures few_nets { IfOk result (λ n. length n.nets < 2 ^ 32) }
+    ensures few_instances { IfOk result (λ n. length n.instances < 2 ^ 32) }
+{
+    let nets = nets_of(alloc, statements)?;
+    Ok(Netlist {
+        module: Name::copy(alloc, header_name(statements))?,
+        line: header_line(statements),
+        nets: nets.names(alloc)?,
+        ports: ports_of(alloc, &nets, statements)?,
+        assigns: assigns_of(alloc, &nets, statements)?,
+        instances: instances_of(alloc, &nets, statements)?,
+    })
 }
