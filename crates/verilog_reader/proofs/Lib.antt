@@ -3,3 +3,4 @@ pub mod Tables
 pub mod Filling
 pub mod Counting
 pub mod DeclaredPorts
+pub mod Places
