@@ -61,7 +61,7 @@ pub length-indexes_from : (b : Bounds) (k n : ℕ) → length (indexes_from b k 
 length-indexes_from b k zero = refl
 length-indexes_from b k (suc n) = ap suc (length-indexes_from b (k + 1) n)
 
-length-entry : (name : List ℕ) (b : Option Bounds) → length (entry_nets name b) ≡ width_or_one b
+pub length-entry : (name : List ℕ) (b : Option Bounds) → length (entry_nets name b) ≡ width_or_one b
 length-entry name None = refl
 length-entry name (Some b) = length-map (indexes b) _ ∙ length-indexes_from b 0 (width b)
 

@@ -4,3 +4,5 @@ pub mod Filling
 pub mod Counting
 pub mod DeclaredPorts
 pub mod Places
+pub mod NetBits
+pub mod ConstantMarks
