@@ -6,3 +6,4 @@ pub mod DeclaredPorts
 pub mod Places
 pub mod NetBits
 pub mod ConstantMarks
+pub mod Seen
