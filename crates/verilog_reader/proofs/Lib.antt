@@ -7,3 +7,6 @@ pub mod Places
 pub mod NetBits
 pub mod ConstantMarks
 pub mod Seen
+pub mod Checked
+pub mod PortNames
+pub mod NetlistOf

@@ -1,10 +1,10 @@
 //! The netlist of statements that have no fault.
-ghost use Rattle.std.specs.Prelude.{◌≡◌, false, ◌+◌, ◌-◌, ◌<◌, ◌^◌, ◌++◌, All, Some, IsSome, length, map, option_to_list, OnOk, IfOk};
+ghost use Rattle.std.specs.Prelude.{◌≡◌, false, ◌+◌, ◌-◌, ◌<◌, ◌^◌, ◌++◌, All, Ok, Some, IsSome, length, map, option_to_list, OnOk, IfOk};
 ghost use Rattle.std.specs.List.{flat_map};
 ghost use Rattle.verilog_reader.specs.Values.{plain_of};
 ghost use Rattle.verilog_reader.specs.Declarations.{declaration_of};
-ghost use Rattle.verilog_reader.specs.Faults.{width_or_one, is_bad_range, range_in};
-ghost use Rattle.verilog_reader.specs.Denoted.{directions_of, module_name, header_name, header_line};
+ghost use Rattle.verilog_reader.specs.Faults.{width_or_one, is_bad_range, range_in, check_number, check_twice, check_select};
+ghost use Rattle.verilog_reader.specs.Denoted.{directions_of, module_name, header_name, header_line, IsNetlistOf};
 ghost use Rattle.verilog_reader.specs.Numbering.{entries, numbered, place, port_bits, numbers_from, numbered_port, numbered_ports_of, numbered_ports_in, numbered_ports, numbered_connection, numbered_assigns_in, numbered_assigns, numbered_instances_in, numbered_instances, IsListed, IsFineExpression, IsFineStatement};
 
 use crate::bits::expression_of;
@@ -236,4 +236,14 @@ fn folded(alloc: Global, statements: &[Placed]) -> Result<Netlist, NoMemory>
         assigns: assigns_of(alloc, &nets, statements)?,
         instances: instances_of(alloc, &nets, statements)?,
     })
+}
+
+/// The netlist of statements that have no fault.
+pub(crate) fn netlist_of(alloc: Global, statements: Rows<Placed<'_>>) -> Result<Netlist, NoMemory>
+    requires number { check_number statements ≡ Ok tt }
+    requires twice { check_twice statements ≡ Ok tt }
+    requires select { check_select statements ≡ Ok tt }
+    ensures value { IfOk result (λ n. IsNetlistOf statements.entry n) }
+{
+    folded(alloc, statements.as_slice())
 }
