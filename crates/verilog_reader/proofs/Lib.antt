@@ -14,3 +14,14 @@ pub mod Passes
 pub mod Small
 pub mod Ports
 pub mod CheckLaw
+pub mod Tables
+pub mod Filling
+pub mod DeclaredPorts
+pub mod Places
+pub mod NetBits
+pub mod ConstantMarks
+pub mod Seen
+pub mod Checked
+pub mod PortNames
+pub mod NetlistOf
+pub mod NumberedLists

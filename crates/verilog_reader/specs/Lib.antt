@@ -7,3 +7,4 @@ pub mod Denoted
 pub mod LastBits
 pub mod NameSets
 pub mod Seen
+pub mod Numbering

@@ -6,22 +6,30 @@
 #![tactic(auto)]
 
 mod bit_names;
+mod bits;
 mod bounds;
 mod constant;
-#[cfg(test)]
-mod constant_tests;
-mod laws;
-mod netlist;
 mod declared;
+mod entry;
 mod faults;
+mod fill;
+mod fold;
+mod laws;
 mod name_lists;
+mod net_names;
+mod netlist;
+mod nets;
 mod number;
 mod scalars;
 mod select;
 mod twice;
 mod values;
 mod vector;
+mod vectors;
 
 pub use bounds::Bounds;
 pub use laws::netlist_law;
 pub use netlist::read_netlist;
+
+#[cfg(test)]
+mod constant_tests;

@@ -3,17 +3,27 @@ ghost use Rattle.std.specs.Prelude.{◌≡◌, ◌<◌, ◌^◌, length, IfOk};
 ghost use Rattle.verilog_reader.specs.Faults.{IsRefused, read_faultless};
 ghost use Rattle.verilog_reader.specs.Denoted.{DenotesNetlist};
 
+use crate::fold::netlist_of;
+use crate::number::check_number;
+use crate::select::check_select;
+use crate::twice::check_twice;
 use netlist_core::Netlist;
 use std::alloc::Global;
 use text_scan::ReadFault;
+use verilog_syntax::read_statements;
 
 /// The netlist of a Verilog text of less than 4 GiB, or its first fault: VerilogSyntax at the first statement that matches no
 /// form, or where the module isn't closed; SecondModule; then VerilogNumber, VerilogTwice and BadSelect, each at the first
 /// statement that has it; or want of memory (IEEE 1364-2005, in this profile).
-pub fn read_netlist(_alloc: Global, _bytes: &[u8]) -> Result<Netlist, ReadFault>
-    requires size { length _bytes.now < 2 ^ 32 }
-    ensures value { IfOk result (DenotesNetlist _bytes.now) }
-    ensures refused { IsRefused result (read_faultless _bytes.now) }
+#[tactic(auto, unfolding(crate::specs::Faults::read_faultless))]
+pub fn read_netlist(alloc: Global, bytes: &[u8]) -> Result<Netlist, ReadFault>
+    requires size { length bytes.now < 2 ^ 32 }
+    ensures value { IfOk result (DenotesNetlist bytes.now) }
+    ensures refused { IsRefused result (read_faultless bytes.now) }
 {
-    Err(ReadFault::NoMemory)
+    let statements = read_statements(alloc, bytes)?;
+    check_number(alloc, statements.as_slice())?;
+    check_twice(alloc, statements.as_slice())?;
+    check_select(alloc, statements.as_slice())?;
+    Ok(netlist_of(alloc, statements)?)
 }

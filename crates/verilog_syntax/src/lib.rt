@@ -23,4 +23,5 @@ mod written;
 pub use laws::grammar_law;
 pub use reading::{Placed, read_statements};
 pub use statement::{Connection, Declared, Expression, Item, Range, Statement};
+pub use words::{is_identifier, is_reserved};
 pub use written::Written;

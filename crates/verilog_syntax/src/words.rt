@@ -6,7 +6,8 @@ ghost use Rattle.text_scan.specs.VerilogSplit.{are_digits_of, is_based, is_escap
 ghost use Rattle.text_scan.specs.Seams.{is_identifier};
 ghost use Rattle.verilog_syntax.specs.Words.{is_reserved, is_name, is_decimal, is_constant};
 
-fn is_reserved(text: &[u8]) -> bool
+/// A word of the language that is no name.
+pub fn is_reserved(text: &[u8]) -> bool
     ensures value { result ≡ is_reserved text.now }
 {
     text == b"module".as_slice()
@@ -45,7 +46,8 @@ fn are_words(bytes: &[u8]) -> bool
     bytes.iter().all(|b| is_word(*b))
 }
 
-fn is_identifier(text: &[u8]) -> bool
+/// A letter or `_`, and then letters, digits, `_` and `$`.
+pub fn is_identifier(text: &[u8]) -> bool
     ensures value { result ≡ is_identifier text.now }
 {
     match text {

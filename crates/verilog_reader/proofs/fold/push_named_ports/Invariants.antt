@@ -1,0 +1,8 @@
+use Rattle.std.proofs.Common.{◌≡◌, ◌++◌, drop, map}
+use Rattle.std.specs.List.{flat_map}
+use Rattle.verilog_reader.specs.Values.{plain_of}
+use Rattle.verilog_reader.specs.Numbering.{place, port_bits, numbered_ports, numbered_connection, numbered_assigns, numbered_instances}
+use Rattle.verilog_reader.proofs.fold.push_named_ports.Given as goal
+
+abbrev pub invariant-loop-name : goal.invariant-loop-name
+invariant-loop-name l = l.ports ++ flat_map (λ name. port_bits l.line l.direction (place l.nets (plain_of name))) (drop l.name-index l.names) ≡ l.initial.ports ++ flat_map (λ name. port_bits l.line l.direction (place l.nets (plain_of name))) l.names

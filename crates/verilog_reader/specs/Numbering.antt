@@ -1,0 +1,193 @@
+-- The netlist of statements by its net numbers: the nets of a name stand in a row, and the names in the order of the
+-- entries. Meaning: Denoted.
+use Rattle.std.specs.Prelude.{◌≡◌, ◌≤◌, ℕ, zero, suc, ◌+◌, Bool, true, false, if◌then◌else◌, List, [], ◌∷◌, ◌++◌, map, All, Option, Some, None, IsSome, is_some}
+use Rattle.std.specs.Borrow.{Bor}
+use Rattle.std.specs.List.{flat_map}
+use Rattle.std.specs.Str.{bytes_eq}
+use Rattle.netlist_core.specs.declared.netlist.NetId.{NetId}
+use Rattle.netlist_core.specs.declared.netlist.Bit.{Bit}
+use Rattle.netlist_core.specs.declared.netlist.Bit.TheVariants.{Net}
+use Rattle.netlist_core.specs.declared.netlist.Direction.{Direction}
+use Rattle.netlist_core.specs.declared.netlist.Expr.{Expr}
+use Rattle.netlist_core.specs.declared.netlist.Port.{Port}
+use Rattle.netlist_core.specs.declared.netlist.Assign.{Assign}
+use Rattle.netlist_core.specs.declared.netlist.Connection.{Connection as NetConnection}
+use Rattle.netlist_core.specs.declared.netlist.Instance.{Instance}
+use Rattle.netlist_core.specs.declared.netlist.Netlist.{Netlist}
+use Rattle.verilog_syntax.specs.declared.statement.Item.{Item}
+use Rattle.verilog_syntax.specs.declared.statement.Item.TheVariants as items
+use Rattle.verilog_syntax.specs.declared.statement.Expression.{Expression}
+use Rattle.verilog_syntax.specs.declared.statement.Connection.{Connection}
+use Rattle.verilog_syntax.specs.declared.statement.Statement.{Statement}
+use Rattle.verilog_syntax.specs.declared.statement.Statement.TheVariants as statements
+use Rattle.verilog_syntax.specs.declared.reading.Placed.{Placed}
+use Rattle.verilog_reader.specs.declared.bounds.Bounds.{Bounds}
+use Rattle.verilog_reader.specs.declared.entry.Entry.{Entry}
+use Rattle.verilog_reader.specs.Values.{plain_of, decimal_value, is_big_index}
+use Rattle.verilog_reader.specs.Constants.{constant_bits}
+use Rattle.verilog_reader.specs.Declarations.{width, offset, Declaration, declarations_in, declarations, mentions}
+use Rattle.verilog_reader.specs.Faults.{width_or_one, part_of, is_bad_size, is_bad_range, selects, selects_part}
+use Rattle.verilog_reader.specs.Denoted.{directions_of, header_name, header_line, entry_nets}
+
+-- the names of a table in order, each with its bounds
+abbrev pub entries_of : List (Bor (List ℕ) × Entry) → List (List ℕ × Option Bounds)
+entries_of table = map (λ e. (e.0.now, e.1.bounds)) table
+
+-- how many nets they have
+abbrev pub total : List (List ℕ × Option Bounds) → ℕ
+total [] = 0
+total (e ∷ es) = width_or_one e.1 + total es
+
+-- the first nets are numbered one behind the other
+abbrev pub IsNumbered : ℕ → List (Bor (List ℕ) × Entry) → Type 0
+IsNumbered at [] = Unit {0}
+IsNumbered at (e ∷ es) = (e.1.first ≡ at) × IsNumbered (at + width_or_one e.1.bounds) es
+
+-- where the nets of a name stand
+abbrev pub place_from : ℕ → List (List ℕ × Option Bounds) → List ℕ → Option Entry
+place_from at [] name = None
+place_from at (e ∷ es) name =
+    if bytes_eq name e.0 then Some (record { first = at; bounds = e.1 }) else place_from (at + width_or_one e.1) es name
+
+abbrev pub place : List (List ℕ × Option Bounds) → List ℕ → Option Entry
+place es name = place_from 0 es name
+
+abbrev pub bounds_or : Option Entry → Option Bounds
+bounds_or None = None
+bounds_or (Some e) = e.bounds
+
+-- with a name, unless it stands there
+abbrev pub with_entry : List (List ℕ × Option Bounds) → List ℕ → Option Bounds → List (List ℕ × Option Bounds)
+with_entry es name bounds = if is_some (place es name) then es else es ++ (name, bounds) ∷ []
+
+abbrev pub with_entries : List (List ℕ × Option Bounds) → List (List ℕ × Option Bounds) → List (List ℕ × Option Bounds)
+with_entries es [] = es
+with_entries es (x ∷ xs) = with_entries (with_entry es x.0 x.1) xs
+
+abbrev pub with_declared : List (List ℕ × Option Bounds) → List Declaration → List (List ℕ × Option Bounds)
+with_declared es ds = with_entries es (map (λ d. (d.name, d.bounds)) ds)
+
+abbrev pub with_mentioned : List (List ℕ × Option Bounds) → List (List ℕ) → List (List ℕ × Option Bounds)
+with_mentioned es names = with_entries es (map (λ name. (name, None)) names)
+
+-- the entries of statements: what they declare, and then what they mention alone
+abbrev pub entries : List Placed → List (List ℕ × Option Bounds)
+entries ps = with_mentioned (with_declared [] (declarations ps)) (mentions ps)
+
+-- so many numbers from a first one on
+abbrev pub numbers_from : ℕ → ℕ → List ℕ
+numbers_from first zero = []
+numbers_from first (suc n) = first ∷ numbers_from (first + 1) n
+
+abbrev pub net_bit : ℕ → Bit
+net_bit number = Net (record { 0 = number })
+
+abbrev pub net_bits : ℕ → ℕ → List Bit
+net_bits first n = map net_bit (numbers_from first n)
+
+-- the bits of an item by the entry of its name
+
+abbrev pub all_bits : Option Entry → List Bit
+all_bits None = []
+all_bits (Some e) = net_bits e.first (width_or_one e.bounds)
+
+abbrev pub offset_in : Option Bounds → ℕ → ℕ
+offset_in None index = 0
+offset_in (Some b) index = offset b index
+
+abbrev pub one_bit : Option Entry → ℕ → List Bit
+one_bit None index = []
+one_bit (Some e) index = net_bit (e.first + offset_in e.bounds index) ∷ []
+
+abbrev pub part_bits : Option Entry → Bounds → List Bit
+part_bits None part = []
+part_bits (Some e) part = net_bits (e.first + offset_in e.bounds part.left) (width part)
+
+abbrev pub numbered_item : List (List ℕ × Option Bounds) → Item → List Bit
+numbered_item es items.Open = []
+numbered_item es items.Comma = []
+numbered_item es items.Close = []
+numbered_item es (items.Name name) = all_bits (place es (plain_of name))
+numbered_item es (items.Bit name index) = one_bit (place es (plain_of name)) (decimal_value index)
+numbered_item es (items.Part name left right) = part_bits (place es (plain_of name)) (part_of left right)
+numbered_item es (items.Constant text) = constant_bits text
+
+abbrev pub numbered_items : List (List ℕ × Option Bounds) → List Item → List Bit
+numbered_items es items = flat_map (numbered_item es) items
+
+abbrev pub numbered_expression : List (List ℕ × Option Bounds) → Expression → Expr
+numbered_expression es e = record { bits = numbered_items es e.items; span = e.span }
+
+abbrev pub numbered_connection : List (List ℕ × Option Bounds) → Connection → NetConnection
+numbered_connection es c = record { pin = plain_of c.pin; expr = numbered_expression es c.expression }
+
+abbrev pub numbered_port : ℕ → Direction → ℕ → Port
+numbered_port line direction number = record { net = record { 0 = number }; direction = direction; line = line }
+
+abbrev pub port_bits : ℕ → Direction → Option Entry → List Port
+port_bits line direction None = []
+port_bits line direction (Some e) = map (numbered_port line direction) (numbers_from e.first (width_or_one e.bounds))
+
+abbrev pub numbered_ports_of : List (List ℕ × Option Bounds) → ℕ → Declaration → List Port
+numbered_ports_of es line d = flat_map (λ direction. port_bits line direction (place es d.name)) (directions_of d.kind)
+
+abbrev pub numbered_ports_in : List (List ℕ × Option Bounds) → ℕ → Statement → List Port
+numbered_ports_in es line statement = flat_map (numbered_ports_of es line) (declarations_in statement)
+
+abbrev pub numbered_assigns_in : List (List ℕ × Option Bounds) → ℕ → Statement → List Assign
+numbered_assigns_in es line (statements.Module name ports) = []
+numbered_assigns_in es line (statements.Declare kind range names) = []
+numbered_assigns_in es line (statements.Assign left right) =
+    record { left = numbered_expression es left; right = numbered_expression es right; line = line } ∷ []
+numbered_assigns_in es line (statements.Instance cell name connections) = []
+
+abbrev pub numbered_instances_in : List (List ℕ × Option Bounds) → ℕ → Statement → List Instance
+numbered_instances_in es line (statements.Module name ports) = []
+numbered_instances_in es line (statements.Declare kind range names) = []
+numbered_instances_in es line (statements.Assign left right) = []
+numbered_instances_in es line (statements.Instance cell name connections) =
+    record { name = plain_of name; cell = plain_of cell; connections = map (numbered_connection es) connections; line = line } ∷ []
+
+abbrev pub numbered_ports : List (List ℕ × Option Bounds) → List Placed → List Port
+numbered_ports es ps = flat_map (λ p. numbered_ports_in es p.line p.statement) ps
+
+abbrev pub numbered_assigns : List (List ℕ × Option Bounds) → List Placed → List Assign
+numbered_assigns es ps = flat_map (λ p. numbered_assigns_in es p.line p.statement) ps
+
+abbrev pub numbered_instances : List (List ℕ × Option Bounds) → List Placed → List Instance
+numbered_instances es ps = flat_map (λ p. numbered_instances_in es p.line p.statement) ps
+
+abbrev pub numbered : List (List ℕ × Option Bounds) → List Placed → Netlist
+numbered es ps = record {
+  «module» = header_name ps;
+  line = header_line ps;
+  nets = flat_map (λ e. entry_nets e.0 e.1) es;
+  declared = total (with_declared [] (declarations ps));
+  ports = numbered_ports es ps;
+  assigns = numbered_assigns es ps;
+  instances = numbered_instances es ps;
+}
+
+-- what stands there has an entry, fits its numbers, and lies within it
+
+abbrev pub IsListed : List (List ℕ × Option Bounds) → List ℕ → Type 0
+IsListed es name = IsSome (place es (plain_of name))
+
+abbrev pub IsFineItem : List (List ℕ × Option Bounds) → Item → Type 0
+IsFineItem es items.Open = Unit {0}
+IsFineItem es items.Comma = Unit {0}
+IsFineItem es items.Close = Unit {0}
+IsFineItem es (items.Name name) = IsListed es name
+IsFineItem es (items.Bit name index) = (is_big_index index ≡ false) × (selects (bounds_or (place es (plain_of name))) (decimal_value index) ≡ true)
+IsFineItem es (items.Part name left right) =
+    (is_big_index left ≡ false) × (is_big_index right ≡ false) × (selects_part (bounds_or (place es (plain_of name))) (part_of left right) ≡ true)
+IsFineItem es (items.Constant text) = is_bad_size text ≡ false
+
+abbrev pub IsFineExpression : List (List ℕ × Option Bounds) → Expression → Type 0
+IsFineExpression es e = All (IsFineItem es) e.items
+
+abbrev pub IsFineStatement : List (List ℕ × Option Bounds) → Statement → Type 0
+IsFineStatement es (statements.Module name ports) = Unit {0}
+IsFineStatement es (statements.Declare kind range names) = (is_bad_range range ≡ false) × All (IsListed es) names
+IsFineStatement es (statements.Assign left right) = IsFineExpression es left × IsFineExpression es right
+IsFineStatement es (statements.Instance cell name connections) = All (λ c. IsFineExpression es c.expression) connections

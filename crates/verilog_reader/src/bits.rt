@@ -1,0 +1,112 @@
+//! The bits of expressions.
+ghost use Rattle.std.specs.Prelude.{◌≡◌, ◌+◌, ◌-◌, ◌<◌, ◌^◌, ◌++◌, true, false, All, Some, OnOk, IfOk};
+ghost use Rattle.verilog_reader.specs.Faults.{width_or_one, is_bad_size, selects, selects_part};
+ghost use Rattle.verilog_reader.specs.Constants.{constant_bits};
+ghost use Rattle.verilog_reader.specs.Numbering.{net_bits, all_bits, one_bit, part_bits, numbered_item, numbered_items, numbered_expression, IsFineItem, IsFineExpression};
+
+use crate::bounds::Bounds;
+use crate::constant::constant_bits;
+use crate::entry::Entry;
+use crate::nets::Nets;
+use crate::values::plain_of;
+use crate::vectors::{number_of, offset_in, width, width_or_one};
+use netlist_core::{Bit, Expr, NetId};
+use std::alloc::Global;
+use text_scan::{NoMemory, Rows};
+use verilog_syntax::{Expression, Item};
+
+fn push_nets(bits: &mut Rows<Bit>, first: u32, end: u32) -> Result<(), NoMemory>
+    ensures ok { OnOk result (bits.new ≡ bits.old ++ net_bits first (end - first)) }
+{
+    for number in first..end {
+        bits.push(Bit::Net(NetId(number)))?;
+    }
+    Ok(())
+}
+
+fn push_all(bits: &mut Rows<Bit>, entry: Entry) -> Result<(), NoMemory>
+    requires { entry.first + width_or_one entry.bounds < 2 ^ 32 }
+    ensures ok { OnOk result (bits.new ≡ bits.old ++ all_bits (Some entry)) }
+{
+    let end = entry.first + width_or_one(entry.bounds) as u32;
+    push_nets(bits, entry.first, end)
+}
+
+fn push_one(bits: &mut Rows<Bit>, entry: Entry, index: u32) -> Result<(), NoMemory>
+    requires within { entry.first + width_or_one entry.bounds < 2 ^ 32 }
+    requires selects { selects entry.bounds index ≡ true }
+    ensures ok { OnOk result (bits.new ≡ bits.old ++ one_bit (Some entry) index) }
+{
+    bits.push(Bit::Net(NetId(entry.first + offset_in(entry.bounds, index))))
+}
+
+fn push_part(bits: &mut Rows<Bit>, entry: Entry, part: Bounds) -> Result<(), NoMemory>
+    requires within { entry.first + width_or_one entry.bounds < 2 ^ 32 }
+    requires selects { selects_part entry.bounds part ≡ true }
+    ensures ok { OnOk result (bits.new ≡ bits.old ++ part_bits (Some entry) part) }
+{
+    let first = entry.first + offset_in(entry.bounds, part.left);
+    push_nets(bits, first, first + width(part) as u32)
+}
+
+fn push_constant(alloc: Global, bits: &mut Rows<Bit>, text: &[u8]) -> Result<(), NoMemory>
+    requires { is_bad_size text.now ≡ false }
+    ensures ok { OnOk result (bits.new ≡ bits.old ++ constant_bits text.now) }
+{
+    for bit in constant_bits(alloc, text)?.into_vec() {
+        bits.push(bit)?;
+    }
+    Ok(())
+}
+
+fn push_item(
+    alloc: Global,
+    bits: &mut Rows<Bit>,
+    nets: &Nets,
+    item: &Item,
+) -> Result<(), NoMemory>
+    requires { IsFineItem nets.now item.now }
+    ensures ok { OnOk result (bits.new ≡ bits.old ++ numbered_item nets.now item.now) }
+{
+    match item {
+        Item::Open | Item::Comma | Item::Close => Ok(()),
+        Item::Name(name) => push_all(bits, nets.entry(plain_of(name))),
+        Item::Bit { name, index } => {
+            push_one(bits, nets.entry(plain_of(name)), number_of(index.text()))
+        }
+        Item::Part { name, left, right } => {
+            let part = Bounds {
+                left: number_of(left.text()),
+                right: number_of(right.text()),
+            };
+            push_part(bits, nets.entry(plain_of(name)), part)
+        }
+        Item::Constant(text) => push_constant(alloc, bits, text.text()),
+    }
+}
+
+fn bits_of(alloc: Global, nets: &Nets, items: &[Item]) -> Result<Rows<Bit>, NoMemory>
+    requires { All (IsFineItem nets.now) items.now }
+    ensures value { IfOk result (λ bits. bits ≡ numbered_items nets.now items.now) }
+{
+    let mut bits = Rows::new(alloc);
+    for item in items {
+        push_item(alloc, &mut bits, nets, item)?;
+    }
+    Ok(bits)
+}
+
+/// The bits of an expression, and where it stands.
+pub(crate) fn expression_of(
+    alloc: Global,
+    nets: &Nets,
+    expression: &Expression,
+) -> Result<Expr, NoMemory>
+    requires { IsFineExpression nets.now expression.now }
+    ensures value { IfOk result (λ expr. expr ≡ numbered_expression nets.now expression.now) }
+{
+    Ok(Expr {
+        bits: bits_of(alloc, nets, expression.items.as_slice())?,
+        span: expression.span,
+    })
+}

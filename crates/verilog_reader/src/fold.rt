@@ -1,0 +1,250 @@
+//! The netlist of statements that have no fault.
+ghost use Rattle.std.specs.Prelude.{◌≡◌, false, ◌+◌, ◌-◌, ◌<◌, ◌^◌, ◌++◌, All, Ok, Some, IsSome, length, map, option_to_list, OnOk, IfOk};
+ghost use Rattle.std.specs.List.{flat_map};
+ghost use Rattle.verilog_reader.specs.Values.{plain_of};
+ghost use Rattle.verilog_reader.specs.Declarations.{declaration_of};
+ghost use Rattle.verilog_reader.specs.Faults.{width_or_one, is_bad_range, range_in, check_number, check_twice, check_select};
+ghost use Rattle.verilog_reader.specs.Denoted.{directions_of, module_name, header_name, header_line, IsNetlistOf};
+ghost use Rattle.verilog_reader.specs.Numbering.{entries, numbered, place, port_bits, numbers_from, numbered_port, numbered_ports_of, numbered_ports_in, numbered_ports, numbered_connection, numbered_assigns_in, numbered_assigns, numbered_instances_in, numbered_instances, IsListed, IsFineExpression, IsFineStatement};
+
+use crate::bits::expression_of;
+use crate::entry::Entry;
+use crate::fill::nets_of;
+use crate::nets::Nets;
+use crate::values::plain_of;
+use crate::vectors::width_or_one;
+use netlist_core::{Assign, Connection as Pin, Direction, Instance, NetId, Netlist, Port};
+use std::alloc::Global;
+use text_scan::{Name, NoMemory, Rows};
+use verilog_syntax::{Connection, Declared, Placed, Statement, Written};
+
+fn direction_of(kind: Declared) -> Option<Direction>
+    ensures { directions_of kind ≡ option_to_list result }
+{
+    match kind {
+        Declared::Input => Some(Direction::Input),
+        Declared::Output => Some(Direction::Output),
+        Declared::Inout => Some(Direction::Inout),
+        Declared::Wire | Declared::Tri | Declared::Supply0 | Declared::Supply1 => None,
+    }
+}
+
+fn push_ports(
+    ports: &mut Rows<Port>,
+    line: u64,
+    direction: Direction,
+    entry: Entry,
+) -> Result<(), NoMemory>
+    requires { entry.first + width_or_one entry.bounds < 2 ^ 32 }
+    ensures ok { OnOk result (ports.new ≡ ports.old ++ port_bits line direction (Some entry)) }
+{
+    let end = entry.first + width_or_one(entry.bounds) as u32;
+    for number in entry.first..end {
+        ports.push(Port {
+            net: NetId(number),
+            direction,
+            line,
+        })?;
+    }
+    Ok(())
+}
+
+fn push_named_ports(
+    ports: &mut Rows<Port>,
+    nets: &Nets,
+    line: u64,
+    direction: Direction,
+    names: &[Written],
+) -> Result<(), NoMemory>
+    requires { All (IsListed nets.now) names.now }
+    ensures ok { OnOk result (ports.new ≡ ports.old ++ flat_map (λ name. port_bits line direction (place nets.now (plain_of name))) names.now) }
+{
+    for name in names {
+        push_ports(ports, line, direction, nets.entry(plain_of(name)))?;
+    }
+    Ok(())
+}
+
+fn push_declared(
+    ports: &mut Rows<Port>,
+    nets: &Nets,
+    line: u64,
+    statement: &Statement,
+) -> Result<(), NoMemory>
+    requires { IsFineStatement nets.now statement.now }
+    ensures ok { OnOk result (ports.new ≡ ports.old ++ numbered_ports_in nets.now line statement.now) }
+{
+    if let Statement::Declare { kind, names, .. } = statement {
+        if let Some(direction) = direction_of(*kind) {
+            return push_named_ports(ports, nets, line, direction, names.as_slice());
+        }
+    }
+    Ok(())
+}
+
+/// The port bits, in the order of their direction statements.
+fn ports_of(alloc: Global, nets: &Nets, statements: &[Placed]) -> Result<Rows<Port>, NoMemory>
+    requires { All (λ p. IsFineStatement nets.now p.statement) statements.now }
+    ensures value { IfOk result (λ ports. ports ≡ numbered_ports nets.now statements.now) }
+{
+    let mut ports = Rows::new(alloc);
+    for placed in statements {
+        push_declared(&mut ports, nets, placed.line, &placed.statement)?;
+    }
+    Ok(ports)
+}
+
+fn push_assign(
+    alloc: Global,
+    assigns: &mut Rows<Assign>,
+    nets: &Nets,
+    line: u64,
+    statement: &Statement,
+) -> Result<(), NoMemory>
+    requires { IsFineStatement nets.now statement.now }
+    ensures ok { OnOk result (assigns.new ≡ assigns.old ++ numbered_assigns_in nets.now line statement.now) }
+{
+    if let Statement::Assign { left, right } = statement {
+        return assigns.push(Assign {
+            left: expression_of(alloc, nets, left)?,
+            right: expression_of(alloc, nets, right)?,
+            line,
+        });
+    }
+    Ok(())
+}
+
+fn assigns_of(alloc: Global, nets: &Nets, statements: &[Placed]) -> Result<Rows<Assign>, NoMemory>
+    requires { All (λ p. IsFineStatement nets.now p.statement) statements.now }
+    ensures value { IfOk result (λ assigns. assigns ≡ numbered_assigns nets.now statements.now) }
+{
+    let mut assigns = Rows::new(alloc);
+    for placed in statements {
+        push_assign(alloc, &mut assigns, nets, placed.line, &placed.statement)?;
+    }
+    Ok(assigns)
+}
+
+fn pin_of(alloc: Global, nets: &Nets, connection: &Connection) -> Result<Pin, NoMemory>
+    requires { IsFineExpression nets.now connection.now.expression }
+    ensures value { IfOk result (λ pin. pin ≡ numbered_connection nets.now connection.now) }
+{
+    Ok(Pin {
+        pin: Name::copy(alloc, plain_of(&connection.pin))?,
+        expr: expression_of(alloc, nets, &connection.expression)?,
+    })
+}
+
+fn pins_of(alloc: Global, nets: &Nets, connections: &[Connection]) -> Result<Rows<Pin>, NoMemory>
+    requires { All (λ c. IsFineExpression nets.now c.expression) connections.now }
+    ensures value { IfOk result (λ pins. pins ≡ map (numbered_connection nets.now) connections.now) }
+{
+    let mut pins = Rows::new(alloc);
+    for connection in connections {
+        pins.push(pin_of(alloc, nets, connection)?)?;
+    }
+    Ok(pins)
+}
+
+fn push_instance(
+    alloc: Global,
+    instances: &mut Rows<Instance>,
+    nets: &Nets,
+    line: u64,
+    statement: &Statement,
+) -> Result<(), NoMemory>
+    requires { IsFineStatement nets.now statement.now }
+    ensures ok { OnOk result (instances.new ≡ instances.old ++ numbered_instances_in nets.now line statement.now) }
+{
+    if let Statement::Instance {
+        cell,
+        name,
+        connections,
+    } = statement
+    {
+        return instances.push(Instance {
+            name: Name::copy(alloc, plain_of(name))?,
+            cell: Name::copy(alloc, plain_of(cell))?,
+            connections: pins_of(alloc, nets, connections.as_slice())?,
+            line,
+        });
+    }
+    Ok(())
+}
+
+/// The instances. Their numbers have 32 bits: more would not fit in memory.
+fn instances_of(
+    alloc: Global,
+    nets: &Nets,
+    statements: &[Placed],
+) -> Result<Rows<Instance>, NoMemory>
+    requires { All (λ p. IsFineStatement nets.now p.statement) statements.now }
+    ensures value { IfOk result (λ instances. instances ≡ numbered_instances nets.now statements.now) }
+    ensures few { IfOk result (λ instances. length instances < 2 ^ 32) }
+{
+    let mut instances = Rows::new(alloc);
+    for placed in statements {
+        push_instance(alloc, &mut instances, nets, placed.line, &placed.statement)?;
+    }
+    if instances.as_slice().len() > u32::MAX as usize {
+        return Err(NoMemory);
+    }
+    Ok(instances)
+}
+
+/// The name of a module whose header this is.
+fn module_name<'a>(statement: &Statement<'a>) -> &'a [u8]
+    ensures value { result.now ≡ module_name statement.now }
+{
+    match statement {
+        Statement::Module { name, .. } => plain_of(name),
+        _ => &[],
+    }
+}
+
+fn header_name<'a>(statements: &[Placed<'a>]) -> &'a [u8]
+    ensures value { result.now ≡ header_name statements.now }
+{
+    match statements {
+        [header, ..] => module_name(&header.statement),
+        [] => &[],
+    }
+}
+
+fn header_line(statements: &[Placed]) -> u64
+    ensures value { result ≡ header_line statements.now }
+{
+    match statements {
+        [header, ..] => header.line,
+        [] => 0,
+    }
+}
+
+fn folded(alloc: Global, statements: &[Placed]) -> Result<Netlist, NoMemory>
+    requires ranges { All (λ p. is_bad_range (range_in p.statement) ≡ false) statements.now }
+    requires fine { All (λ p. IsFineStatement (entries statements.now) p.statement) statements.now }
+    ensures value { IfOk result (λ n. n ≡ numbered (entries statements.now) statements.now) }
+    ensures few_nets { IfOk result (λ n. length n.nets < 2 ^ 32) }
+    ensures few_instances { IfOk result (λ n. length n.instances < 2 ^ 32) }
+{
+    let (nets, declared) = nets_of(alloc, statements)?;
+    Ok(Netlist {
+        module: Name::copy(alloc, header_name(statements))?,
+        line: header_line(statements),
+        nets: nets.names(alloc)?,
+        declared,
+        ports: ports_of(alloc, &nets, statements)?,
+        assigns: assigns_of(alloc, &nets, statements)?,
+        instances: instances_of(alloc, &nets, statements)?,
+    })
+}
+
+/// The netlist of statements that have no fault.
+pub(crate) fn netlist_of(alloc: Global, statements: Rows<Placed<'_>>) -> Result<Netlist, NoMemory>
+    requires number { check_number statements ≡ Ok tt }
+    requires twice { check_twice statements ≡ Ok tt }
+    requires select { check_select statements ≡ Ok tt }
+    ensures value { IfOk result (λ n. IsNetlistOf statements.entry n) }
+{
+    folded(alloc, statements.as_slice())
+}
