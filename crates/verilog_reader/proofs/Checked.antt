@@ -91,7 +91,7 @@ declared_named ps = each_from (λ (d : Declaration). named (entries ps) d.name �
 
 -- fine items
 module _ (es : Entries) (ds : List Declaration) (agree : (q : List ℕ) → bounds_or (place es q) ≡ bounds_in ds q) where
-  fine_item : (x : Item) → is_bad_number x ≡ false → is_bad_select ds x ≡ false → Each (λ q. named es q ≡ true) (mentions_of x) → IsFineItem es x
+  fine_item : (x : Item) → is_bad_number x ≡ false → is_bad_select (bounds_in ds) x ≡ false → Each (λ q. named es q ≡ true) (mentions_of x) → IsFineItem es x
   fine_item items.Open number select listed = tt
   fine_item items.Comma number select listed = tt
   fine_item items.Close number select listed = tt
@@ -103,11 +103,11 @@ module _ (es : Entries) (ds : List Declaration) (agree : (q : List ℕ) → boun
       (both.0, both.1, ap (λ (b : Option Bounds). selects_part b (part_of left right)) (agree (plain_of name)) ∙ not-false (selects_part (bounds_in ds (plain_of name)) (part_of left right)) select)
   fine_item (items.Constant text) number select listed = number
 
-  pub fine_items : (xs : List Item) → list_any is_bad_number xs ≡ false → list_any (is_bad_select ds) xs ≡ false → Each (λ q. named es q ≡ true) (flat_map mentions_of xs) → All (IsFineItem es) xs
+  pub fine_items : (xs : List Item) → list_any is_bad_number xs ≡ false → list_any (is_bad_select (bounds_in ds)) xs ≡ false → Each (λ q. named es q ≡ true) (flat_map mentions_of xs) → All (IsFineItem es) xs
   fine_items [] number select listed = All-nil (IsFineItem es)
   fine_items (x ∷ xs) number select listed =
       let numbers = or_parts (is_bad_number x) (list_any is_bad_number xs) number in
-      let chosen = or_parts (is_bad_select ds x) (list_any (is_bad_select ds) xs) select in
+      let chosen = or_parts (is_bad_select (bounds_in ds) x) (list_any (is_bad_select (bounds_in ds)) xs) select in
       All-cons (IsFineItem es) x xs (fine_item x numbers.0 chosen.0 (each_left (λ (q : List ℕ). named es q ≡ true) (mentions_of x) (flat_map mentions_of xs) listed))
         (fine_items xs numbers.1 chosen.1 (each_right (λ (q : List ℕ). named es q ≡ true) (mentions_of x) (flat_map mentions_of xs) listed))
 
@@ -121,12 +121,12 @@ module _ (es : Entries) (ds : List Declaration) (agree : (q : List ℕ) → boun
       let all = subst (λ (ns : List (List ℕ)). Each P ns) (flat_map-append mentions_of xs ys) is in
       (each_left P (flat_map mentions_of xs) (flat_map mentions_of ys) all, each_right P (flat_map mentions_of xs) (flat_map mentions_of ys) all)
 
-  fine_connections : (cs : List Connection) → list_any is_bad_number (connection_items cs) ≡ false → list_any (is_bad_select ds) (connection_items cs) ≡ false
+  fine_connections : (cs : List Connection) → list_any is_bad_number (connection_items cs) ≡ false → list_any (is_bad_select (bounds_in ds)) (connection_items cs) ≡ false
       → Each (λ q. named es q ≡ true) (flat_map mentions_of (connection_items cs)) → All (λ (c : Connection). IsFineExpression es c.expression) cs
   fine_connections [] number select listed = All-nil (λ (c : Connection). IsFineExpression es c.expression)
   fine_connections (c ∷ cs) number select listed =
       let numbers = none_left is_bad_number c.expression.items (connection_items cs) number in
-      let chosen = none_left (is_bad_select ds) c.expression.items (connection_items cs) select in
+      let chosen = none_left (is_bad_select (bounds_in ds)) c.expression.items (connection_items cs) select in
       let names = listed_parts c.expression.items (connection_items cs) listed in
       All-cons (λ (c : Connection). IsFineExpression es c.expression) c cs (fine_items c.expression.items numbers.0 chosen.0 names.0) (fine_connections cs numbers.1 chosen.1 names.1)
 
@@ -134,13 +134,13 @@ module _ (es : Entries) (ds : List Declaration) (agree : (q : List ℕ) → boun
   fine_names kind range [] listed = All-nil (IsListed es)
   fine_names kind range (name ∷ names) listed = All-cons (IsListed es) name names (placed es (plain_of name) ∙ listed.0) (fine_names kind range names listed.1)
 
-  pub fine_statement : (s : Statement) → is_bad_range (range_in s) ≡ false → list_any is_bad_number (items_in s) ≡ false → list_any (is_bad_select ds) (items_in s) ≡ false
+  pub fine_statement : (s : Statement) → is_bad_range (range_in s) ≡ false → list_any is_bad_number (items_in s) ≡ false → list_any (is_bad_select (bounds_in ds)) (items_in s) ≡ false
       → Each (λ q. named es q ≡ true) (mentions_in s) → Each (λ d. named es d.name ≡ true) (declarations_in s) → IsFineStatement es s
   fine_statement (statements.Module name ports) range number select listed declared = tt
   fine_statement (statements.Declare kind range names) bounds number select listed declared = (bounds, fine_names kind range names declared)
   fine_statement (statements.Assign left right) range number select listed declared =
       let numbers = none_left is_bad_number left.items right.items number in
-      let chosen = none_left (is_bad_select ds) left.items right.items select in
+      let chosen = none_left (is_bad_select (bounds_in ds)) left.items right.items select in
       let names = listed_parts left.items right.items listed in
       (fine_items left.items numbers.0 chosen.0 names.0, fine_items right.items numbers.1 chosen.1 names.1)
   fine_statement (statements.Instance cell name connections) range number select listed declared = fine_connections connections number select listed
@@ -149,8 +149,8 @@ module _ (es : Entries) (ds : List Declaration) (agree : (q : List ℕ) → boun
 pub record IsSound (all : List Placed) (s : Statement) : Type 0 where
   pub range : is_bad_range (range_in s) ≡ false
   pub number : list_any is_bad_number (items_in s) ≡ false
-  pub select : list_any (is_bad_select (declarations all)) (items_in s) ≡ false
-  pub widths : differ_in_width (declarations all) s ≡ false
+  pub select : list_any (is_bad_select (bounds_in (declarations all))) (items_in s) ≡ false
+  pub widths : differ_in_width (bounds_in (declarations all)) s ≡ false
 
 pub sound : (all before ps : List Placed) → Passes bad_number before ps → Passes (λ before p. bad_select all p) before ps → Each (λ p. IsSound all p.statement) ps
 unfolding bad_number bad_select
@@ -158,10 +158,10 @@ sound all before [] number select = tt
 sound all before (p ∷ ps) number select =
     let n = or_parts (is_bad_range (range_in p.statement) || list_any is_bad_number (items_in p.statement)) (nat_lt 16777216 (vector_bits (declarations (before ++ p ∷ [])))) number.0 in
     let m = or_parts (is_bad_range (range_in p.statement)) (list_any is_bad_number (items_in p.statement)) n.0 in
-    let s = or_parts (list_any (is_bad_select (declarations all)) (items_in p.statement) || differ_in_width (declarations all) p.statement || list_any (λ port. not (has_direction (declarations all) port)) (ports_in p.statement))
+    let s = or_parts (list_any (is_bad_select (bounds_in (declarations all))) (items_in p.statement) || differ_in_width (bounds_in (declarations all)) p.statement || list_any (λ port. not (has_direction (declarations all) port)) (ports_in p.statement))
         (list_any (is_badly_listed (header_ports all)) (declarations_in p.statement)) select.0 in
-    let t = or_parts (list_any (is_bad_select (declarations all)) (items_in p.statement) || differ_in_width (declarations all) p.statement) (list_any (λ port. not (has_direction (declarations all) port)) (ports_in p.statement)) s.0 in
-    let u = or_parts (list_any (is_bad_select (declarations all)) (items_in p.statement)) (differ_in_width (declarations all) p.statement) t.0 in
+    let t = or_parts (list_any (is_bad_select (bounds_in (declarations all))) (items_in p.statement) || differ_in_width (bounds_in (declarations all)) p.statement) (list_any (λ port. not (has_direction (declarations all) port)) (ports_in p.statement)) s.0 in
+    let u = or_parts (list_any (is_bad_select (bounds_in (declarations all))) (items_in p.statement)) (differ_in_width (bounds_in (declarations all)) p.statement) t.0 in
     (record { range = m.0; number = m.1; select = u.0; widths = u.1 }, sound all (before ++ p ∷ []) ps number.1 select.1)
 
 pub ranges : (all ps : List Placed) → Each (λ p. IsSound all p.statement) ps → All (λ (p : Placed). is_bad_range (range_in p.statement) ≡ false) ps

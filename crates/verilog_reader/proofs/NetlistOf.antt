@@ -7,7 +7,8 @@ use Rattle.netlist_core.specs.declared.netlist.NetName.{NetName}
 use Rattle.verilog_syntax.specs.declared.reading.Placed.{Placed}
 use Rattle.verilog_reader.specs.declared.bounds.Bounds.{Bounds}
 use Rattle.verilog_reader.specs.Declarations.{declarations}
-use Rattle.verilog_reader.specs.Faults.{check_number, check_twice, check_select, bad_number, bad_twice, bad_select, is_bad_range, range_in}
+use Rattle.verilog_syntax.specs.Reading.{read_statements}
+use Rattle.verilog_reader.specs.Faults.{read_faultless, check_number, check_twice, check_select, bad_number, bad_twice, bad_select, is_bad_range, range_in}
 use Rattle.verilog_reader.specs.Denoted.{IsNetlistOf, entry_nets, first_declared, declared_nets}
 use Rattle.verilog_reader.specs.Numbering.{total, with_declared, entries, numbered, IsFineStatement}
 use Rattle.verilog_reader.proofs.Filling.{Entries}
@@ -39,3 +40,8 @@ is_netlist_of ps number twice select = record {
   assigns = seen_assigns (entries ps) (declarations ps) (bounds_are ps) ps (statements_fit ps number select);
   instances = seen_instances (entries ps) (declarations ps) (bounds_are ps) ps (statements_fit ps number select);
 }
+
+-- statements that pass the checks are those of a text without a fault
+pub faultless : (text : List ℕ) (ps : List Placed) → read_statements text ≡ Ok ps → check_number ps ≡ Ok tt → check_twice ps ≡ Ok tt → check_select ps ≡ Ok tt → read_faultless text ≡ Ok ps
+unfolding read_faultless
+faultless text ps read number twice select = rw (read, number, twice, select) refl
