@@ -24,3 +24,6 @@ pub use laws::grammar_law;
 pub use reading::{Placed, read_statements};
 pub use statement::{Connection, Declared, Expression, Item, Range, Statement};
 pub use written::Written;
+
+#[cfg(test)]
+mod tests;
