@@ -25,3 +25,6 @@ pub use reading::{Placed, read_statements};
 pub use statement::{Connection, Declared, Expression, Item, Range, Statement};
 pub use words::{is_identifier, is_reserved};
 pub use written::Written;
+
+#[cfg(test)]
+mod tests;
