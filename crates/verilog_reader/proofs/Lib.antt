@@ -10,3 +10,5 @@ pub mod Seen
 pub mod Checked
 pub mod PortNames
 pub mod NetlistOf
+pub mod Distinct
+pub mod BitNames
