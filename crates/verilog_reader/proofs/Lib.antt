@@ -12,3 +12,4 @@ pub mod PortNames
 pub mod NetlistOf
 pub mod Distinct
 pub mod BitNames
+pub mod Within
