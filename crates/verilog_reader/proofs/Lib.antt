@@ -13,3 +13,4 @@ pub mod NetlistOf
 pub mod Distinct
 pub mod BitNames
 pub mod Within
+pub mod PortNumbers
