@@ -14,3 +14,4 @@ pub mod Distinct
 pub mod BitNames
 pub mod Within
 pub mod PortNumbers
+pub mod NamesApart
