@@ -15,3 +15,4 @@ pub mod BitNames
 pub mod Within
 pub mod PortNumbers
 pub mod NamesApart
+pub mod ScalarNames
