@@ -25,3 +25,9 @@ pub mod Checked
 pub mod PortNames
 pub mod NetlistOf
 pub mod NumberedLists
+pub mod Distinct
+pub mod Within
+pub mod PortNumbers
+pub mod NamesApart
+pub mod ScalarNames
+pub mod BitNaming

@@ -191,7 +191,7 @@ mentioned_first es ds before (name ∷ names) same =
     by true is skips takes = ap (λ (es : Entries). with_mentioned es names) (known is) ∙ skips
     by false is skips takes = takes ∙ joins (is_some (place es name)) (has before name) (placed es name ∙ same name ∙ ap (λ (t : Bool). t || has before name) is)
 
-declared_named : (ds : List Declaration) (q : List ℕ) → named (map (λ (d : Declaration). let e : List ℕ × Option Bounds = (d.name, d.bounds) in e) ds) q ≡ is_declared ds q
+pub declared_named : (ds : List Declaration) (q : List ℕ) → named (map (λ (d : Declaration). let e : List ℕ × Option Bounds = (d.name, d.bounds) in e) ds) q ≡ is_declared ds q
 declared_named [] q = refl
 declared_named (d ∷ ds) q =
     ap (λ (t : Bool). t || named (map (λ (d : Declaration). let e : List ℕ × Option Bounds = (d.name, d.bounds) in e) ds) q) (bytes_swap q d.name)

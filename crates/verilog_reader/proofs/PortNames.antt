@@ -68,7 +68,7 @@ apart all before p is =
     let one = or_parts a b two.0 in
     record { again = one.1; instances = two.1; pins = three.1; no_scalar = four.1; no_vector = five.1 }
 
-all_again : (all before ps : List Placed) → Passes (bad_twice all) before ps → any_again (declarations before) (declarations ps) ≡ false
+pub all_again : (all before ps : List Placed) → Passes (bad_twice all) before ps → any_again (declarations before) (declarations ps) ≡ false
 unfolding any_again
 all_again all before [] passes = refl
 all_again all before (p ∷ ps) passes =
@@ -78,7 +78,7 @@ all_again all before (p ∷ ps) passes =
     ∙ all_again all (before ++ p ∷ []) ps passes.1
 
 -- a port's declaration is the first of its name
-find_any : (test : Declaration → Bool) (ds : List Declaration) → is_some (find test ds) ≡ list_any test ds
+pub find_any : (test : Declaration → Bool) (ds : List Declaration) → is_some (find test ds) ≡ list_any test ds
 find_any test [] = refl
 find_any test (d ∷ ds) = by (test d) (find_any test ds)
   where
@@ -95,7 +95,7 @@ no_wire Tri is = refl
 no_wire Supply0 is = refl
 no_wire Supply1 is = refl
 
-first_port : (before : List Declaration) (d : Declaration) → is_port_kind d.kind ≡ true → stands_again (first_of d.name before) d ≡ false → is_some (first_of d.name before) ≡ false
+pub first_port : (before : List Declaration) (d : Declaration) → is_port_kind d.kind ≡ true → stands_again (first_of d.name before) d ≡ false → is_some (first_of d.name before) ≡ false
 first_port before d port is = by (first_of d.name before) is
   where
     by : (o : Option Declaration) → stands_again o d ≡ false → is_some o ≡ false

@@ -1,6 +1,7 @@
 //! The netlist of statements that have no fault.
 ghost use Rattle.std.specs.Prelude.{◌≡◌, false, ◌+◌, ◌-◌, ◌<◌, ◌^◌, ◌++◌, All, Ok, Some, IsSome, length, map, option_to_list, OnOk, IfOk};
 ghost use Rattle.std.specs.List.{flat_map};
+ghost use Rattle.netlist_core.specs.Netlists.{IsNetlist};
 ghost use Rattle.verilog_reader.specs.Values.{plain_of};
 ghost use Rattle.verilog_reader.specs.Declarations.{declaration_of};
 ghost use Rattle.verilog_reader.specs.Faults.{width_or_one, is_bad_range, range_in, check_number, check_twice, check_select};
@@ -245,6 +246,7 @@ pub(crate) fn netlist_of(alloc: Global, statements: Rows<Placed<'_>>) -> Result<
     requires twice { check_twice statements ≡ Ok tt }
     requires select { check_select statements ≡ Ok tt }
     ensures value { IfOk result (λ n. IsNetlistOf statements.entry n) }
+    ensures netlist { IfOk result (λ n. IsNetlist n) }
 {
     folded(alloc, statements.as_slice())
 }

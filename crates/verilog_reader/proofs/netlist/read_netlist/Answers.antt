@@ -7,5 +7,5 @@ returns-clause-value c = record {
   statements = c.in_ok-statements.statements;
   reads = faultless c.args.bytes.now c.in_ok-statements.statements c.in_ok-statements.ensures.value (search rules) (search rules) (search rules);
   is = c.in_ok-netlist_of.ensures.value;
-  sound = ?;
+  sound = c.in_ok-netlist_of.ensures.netlist;
 }
