@@ -1,5 +1,5 @@
 -- An order that the words say has values that are apart.
-use Rattle.std.proofs.Common.{◌≡◌, ◌≢◌, Bool, true, false, ◌&&◌, not, List, [], ◌∷◌, length, codes, Option, Some, None, refl, sym, ap, ◌∙◌, subst}
+use Rattle.std.proofs.Common.{◌≡◌, ◌≢◌, Bool, true, false, List, [], ◌∷◌, length, codes, Option, Some, None, refl, sym, ap, ◌∙◌}
 use Rattle.std.specs.Str.{bytes_eq}
 use Rattle.std.specs.Prelude.{slice_index_or}
 use Rattle.std.proofs.lemmas.Option.{same_Some}
@@ -24,6 +24,7 @@ pins_apart (a ∷ b ∷ c ∷ d ∷ e ∷ f ∷ g ∷ i ∷ rest) h = absurd cc
 
 apart_by : (verb : Verb) (order : Order) → are_apart verb order.values ≡ true → IsApart verb order
 apart_by verbs.Rewire order h = pins_apart order.values h
+apart_by verbs.Trace order h = tt
 
 -- the values that an order is made of are apart
 made_apart : (verb : Verb) (values : Text → List Text) (order : Order) → order_by verb values ≡ Some order → are_apart verb order.values ≡ true

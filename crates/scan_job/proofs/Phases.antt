@@ -1,5 +1,5 @@
 -- What a run leaves, from what its phases leave.
-use Rattle.std.proofs.Common.{◌≡◌, ◌≢◌, ◌<◌, ◌≤◌, ◌⊎◌, ℕ, zero, suc, Bool, true, false, ◌&&◌, cond, List, [], ◌∷◌, ◌++◌, length, Option, Some, None, option_map, is_some, IfSome, IsSome, Result, Ok, Err, nat_lt, refl, sym, ◌∙◌, ap, ap₂, subst, append-nil, length-append, arith, inl, inr}
+use Rattle.std.proofs.Common.{◌≡◌, ◌≢◌, ◌<◌, ◌≤◌, ◌⊎◌, ℕ, zero, suc, Bool, true, false, ◌&&◌, List, [], ◌++◌, length, Option, Some, None, option_map, is_some, IfSome, IsSome, Result, Ok, Err, nat_lt, refl, sym, ◌∙◌, ap, subst, append-nil, length-append, arith, inl, inr}
 use Rattle.std.proofs.lemmas.Bool.Decides.{nat_tests}
 use Rattle.text_scan.specs.declared.fault.Fault.{Fault}
 use Rattle.desk_io.specs.declared.slot.Slot.{Slot}
@@ -9,10 +9,10 @@ use Rattle.desk_io.specs.declared.outputs.Outputs.{Outputs}
 use Rattle.desk_io.specs.Number.{number}
 use Rattle.desk_io.specs.Desk.{SlotState, SameElsewhere, IsInput, IsOutput, IsUnopened, IsOpen, IsClosed, AllUnopened}
 use Rattle.desk_io.specs.Causes.{HasRisen}
-use Rattle.desk_io.specs.Prefixes.{IsFront, IsAtEnd, IsAppended, HasTakenFile, IsTooLarge, HasFailedToTake, HasRunOut, HasPutFile, HoldsPrefix}
+use Rattle.desk_io.specs.Prefixes.{IsAtEnd, IsAppended, HasTakenFile, IsTooLarge, HasFailedToTake, HasRunOut, HoldsPrefix}
 use Rattle.desk_io.specs.Names.{name_at, IsNamed}
 use Rattle.desk_io.specs.Inputs.{limit_of, input_at, HasTakenInputs, HasStoppedAt}
-use Rattle.desk_io.specs.Outputs.{output_at, turn, HasPutOutputs, HasStoppedPutting}
+use Rattle.desk_io.specs.Outputs.{output_at, turn}
 use Rattle.scan_words.specs.declared.order.Order.{Order}
 use Rattle.scan_words.specs.declared.verb.Verb.{Verb}
 use Rattle.scan_words.specs.declared.verb.Verb.TheVariants as verbs
@@ -20,12 +20,13 @@ use Rattle.scan_job.specs.declared.stop.Stop.{Stop}
 use Rattle.scan_job.specs.declared.stop.Stop.TheVariants.{NoForm, Refused, InputFailed, OutputFailed, NoMemory}
 use Rattle.narrow_rewire.specs.Erased.{AreErasedAlike}
 use Rattle.narrow_rewire.specs.Texts.{first_fault as rewire_fault, written_verilog, moved_count}
-use Rattle.scan_job.specs.Commands.{names_by, names_of, rewire_of}
-use Rattle.scan_job.specs.FirstFault.{size_fault, is_too_large, first_too_large, input_slots, command_fault, or_else, first_fault, fault_text}
-use Rattle.scan_job.specs.Texts.{rewire_text, AreTexts, AreRewired, AreOutputsOf}
-use Rattle.scan_job.specs.TopCall.{Slots, IsUsed, IsFile, SameEverywhere, SameUnused, SameCounts, SomeRose, HoldsFiles, SameFiles, SameOutputs, HasRefused, HasDone, HasBegun, HasBegunRefusing, HoldsPrefixes}
+use Rattle.path_report.specs.Reports.{IsPathText, IsPathFault}
+use Rattle.scan_job.specs.Commands.{value_at, names_by, names_of, rewire_of}
+use Rattle.scan_job.specs.FirstFault.{size_fault, is_too_large, first_too_large, input_slots, IsCommandFault, HasNoCommandFault, IsFirstFault, HasNoFault}
+use Rattle.scan_job.specs.Texts.{rewire_text, AreTexts, AreOutputsOf}
+use Rattle.scan_job.specs.TopCall.{Slots, IsUsed, IsFile, SameEverywhere, SameUnused, SameCounts, HoldsFiles, SameFiles, SameOutputs}
 use Rattle.scan_job.specs.Ended.{IsDone, IsRefused, IsInputFailed, IsOutputFailed, IsOutOfMemory, HasEnded}
-use Rattle.scan_job.specs.Phases.{HasPutLine, HasFailedAtLine, HasSaid, AreJudged, HasPutAll, HasPutSome, HasFound, HasFinished}
+use Rattle.scan_job.specs.Phases.{HasPutLine, HasFailedAtLine, HasSaid, AreJudged, HasPutAll, HasPutSome, HasFinished}
 
 -- what was taken to the end is the whole file
 text_is : (u v : Option (List ℕ)) (text file : List ℕ) → u ≡ Some file → u ≡ option_map (λ rest. text ++ rest) v → IfSome v (λ rest. rest ≡ []) → text ≡ file
@@ -239,24 +240,36 @@ module _ (names : Names) (files : Slot → List ℕ) where
 
 -- a command looks at its inputs alone
 
-rewire_uses : (order : Order) → order.verb ≡ verbs.Rewire → IsUsed order Verilog
-rewire_uses order e = subst (λ (v : Verb). IsNamed (names_by v order) Verilog) (sym e) refl
+verilog_used : (order : Order) (verb : Verb) → order.verb ≡ verb → IsUsed order Verilog
+verilog_used order verbs.Rewire e = subst (λ (v : Verb). IsNamed (names_by v order) Verilog) (sym e) refl
+verilog_used order verbs.Trace e = subst (λ (v : Verb). IsNamed (names_by v order) Verilog) (sym e) refl
+
+table_used : (order : Order) → order.verb ≡ verbs.Trace → IsUsed order Table
+table_used order e = subst (λ (v : Verb). IsNamed (names_by v order) Table) (sym e) refl
 
 abbrev AgreeAt : Verb → Order → (Slot → List ℕ) → (Slot → List ℕ) → Type 0
 AgreeAt verb order one other = (slot : Slot) → IsInput slot → IsUsed order slot → one slot ≡ other slot
 
-command_same : (verb : Verb) (order : Order) (one other : Slot → List ℕ) → order.verb ≡ verb → AgreeAt verb order one other → command_fault verb order one ≡ command_fault verb order other
-command_same verbs.Rewire order one other e agree = ap (λ (text : List ℕ). rewire_fault text (rewire_of order)) (agree Verilog tt (rewire_uses order e))
+command_same : (verb : Verb) (order : Order) (one other : Slot → List ℕ) (fault : Fault) → order.verb ≡ verb → AgreeAt verb order one other
+    → IsCommandFault verb order one fault → IsCommandFault verb order other fault
+command_same verbs.Rewire order one other fault e agree is =
+    subst (λ (text : List ℕ). rewire_fault text (rewire_of order) ≡ Some fault) (agree Verilog tt (verilog_used order verbs.Rewire e)) is
+command_same verbs.Trace order one other fault e agree is =
+    subst (λ (table : List ℕ). IsPathFault table (other Verilog) (value_at order 2) fault) (agree Table tt (table_used order e))
+    (subst (λ (text : List ℕ). IsPathFault (one Table) text (value_at order 2) fault) (agree Verilog tt (verilog_used order verbs.Trace e)) is)
 
 texts_same : (verb : Verb) (order : Order) (one other : Slot → List ℕ) (outputs : Outputs) → order.verb ≡ verb → AgreeAt verb order one other → AreTexts verb order one outputs → AreTexts verb order other outputs
 texts_same verbs.Rewire order one other outputs e agree are =
-    let same = agree Verilog tt (rewire_uses order e) in
+    let same = agree Verilog tt (verilog_used order verbs.Rewire e) in
     record {
       verilog = are.verilog ∙ ap (λ (text : List ℕ). written_verilog text (rewire_of order)) same;
       console = are.console ∙ ap (λ (text : List ℕ). rewire_text (moved_count text (rewire_of order))) same;
       erased = subst (λ (text : List ℕ). AreErasedAlike (rewire_of order) text outputs.verilog) same are.erased;
       path = are.path;
     }
+texts_same verbs.Trace order one other outputs e agree are =
+    subst (λ (table : List ℕ). IsPathText table (other Verilog) (value_at order 2) outputs.console) (agree Table tt (table_used order e))
+    (subst (λ (text : List ℕ). IsPathText (one Table) text (value_at order 2) outputs.console) (agree Verilog tt (verilog_used order verbs.Trace e)) are)
 
 -- the inputs of an order were taken
 
@@ -294,15 +307,17 @@ module _ (order : Order) (texts : List (Option (List ℕ))) (a b : Slots) (taken
     none_large : first_too_large (names_of order) files input_slots ≡ None
     none_large = none_too_large (names_of order) files is_small
 
-    command_is : command_fault order.verb order (input_at texts) ≡ command_fault order.verb order files
-    command_is = command_same order.verb order (input_at texts) files refl file_is
+    found_first : (fault : Fault) → IsCommandFault order.verb order (input_at texts) fault → IsFirstFault order files fault
+    found_first fault found = rw none_large (command_same order.verb order (input_at texts) files fault refl file_is found)
 
-    found_first : (fault : Fault) → command_fault order.verb order (input_at texts) ≡ Some fault → first_fault order files ≡ Some fault
-    found_first fault found = rw none_large (sym command_is ∙ found)
+    none_first : HasNoCommandFault order.verb order (input_at texts) → HasNoFault order files
+    none_first none fault first =
+        let own : IsCommandFault order.verb order files fault = rw none_large at first in
+        none fault (command_same order.verb order files (input_at texts) fault refl (λ slot input used. sym (file_is slot input used)) own)
 
     judged_outputs : (outputs : Outputs) → AreJudged order texts outputs → AreOutputsOf order files outputs
     judged_outputs outputs judged = record {
-      no_fault = rw none_large (sym command_is ∙ judged.no_fault);
+      no_fault = none_first judged.no_fault;
       texts = texts_same order.verb order (input_at texts) files outputs refl file_is judged.are;
     }
 
@@ -313,7 +328,7 @@ pub record Found (order : Order) (fault : Fault) (a b : Slots) : Type 0 where
   pub outputs : SameOutputs a b
   pub counts : SameCounts a b
   pub none_open : (slot : Slot) → IsOpen (b slot) → ⊥
-  pub first : (files : Slot → List ℕ) → HoldsFiles order files a → first_fault order files ≡ Some fault
+  pub first : (files : Slot → List ℕ) → HoldsFiles order files a → IsFirstFault order files fault
 
 not_open_closed : (s : SlotState) → IsClosed s → IsOpen s → ⊥
 not_open_closed s shut open_now = cc
@@ -483,7 +498,7 @@ module _ (order : Order) (texts : List (Option (List ℕ))) (a b c : Slots) (uno
     | inr output ↦ not_open_unopened (a slot) (unopened slot) (state_same IsOpen (a slot) (b slot) (sym (kept slot output)) open_now)
   ]
 
-  found_own : (fault : Fault) → command_fault order.verb order (input_at texts) ≡ Some fault → Found order fault a b
+  found_own : (fault : Fault) → IsCommandFault order.verb order (input_at texts) fault → Found order fault a b
   found_own fault found = record {
     unused = unused_kept order texts a b taken;
     outputs = kept;

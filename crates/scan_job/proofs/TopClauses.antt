@@ -1,18 +1,17 @@
 -- The clauses of the top call, from how its run ended.
-use Rattle.std.proofs.Common.{◌≡◌, ◌⊎◌, ℕ, List, [], ◌++◌, Result, Ok, Err, Some, None, IsSome, sym, ◌∙◌, ap, subst, append-nil, arith, inl, inr}
+use Rattle.std.proofs.Common.{◌≡◌, ◌⊎◌, ℕ, List, [], Result, Ok, Err, sym, ◌∙◌, subst, append-nil, arith, inl, inr}
 use Rattle.std.proofs.lemmas.Option.{same_Some}
+use Rattle.text_scan.specs.declared.fault.Fault.{Fault}
 use Rattle.desk_io.specs.declared.slot.Slot.{Slot}
-use Rattle.desk_io.specs.declared.slot.Slot.TheVariants.{Table, Lef, Verilog, Def, Stil, OutVerilog, OutDef, OutStil, Console}
-use Rattle.desk_io.specs.Desk.{SlotState, IsOutput}
+use Rattle.desk_io.specs.Desk.{SlotState}
 use Rattle.desk_io.specs.Prefixes.{IsAppended, HoldsPrefix}
 use Rattle.scan_words.specs.declared.order.Order.{Order}
-use Rattle.scan_words.specs.Form.{order_in}
 use Rattle.scan_words.specs.Written.{Says}
 use Rattle.scan_words.proofs.Written.{says_read}
 use Rattle.scan_job.specs.declared.stop.Stop.{Stop}
 use Rattle.scan_job.specs.declared.stop.Stop.TheVariants.{NoForm, Refused, InputFailed, OutputFailed, NoMemory}
-use Rattle.scan_job.specs.FirstFault.{first_fault}
-use Rattle.scan_job.specs.TopCall.{Slots, SaysNothing, IsFile, IsUsed, SameEverywhere, HoldsFiles, NoneRose, HasDone, HasBegun, HasRefused, HasBegunRefusing, HoldsPrefixes, AllClosed, AllRead}
+use Rattle.scan_job.specs.FirstFault.{IsFirstFault, HasNoFault}
+use Rattle.scan_job.specs.TopCall.{Slots, SaysNothing, SameEverywhere, HoldsFiles, NoneRose, HasDone, HasRefused, HoldsPrefixes, AllClosed, AllRead}
 use Rattle.scan_job.specs.Ended.{IsDone, IsRefused, IsOutputFailed, HasRun, status_of}
 
 -- the words say one order at most
@@ -62,24 +61,24 @@ module _ (words : List (List ℕ)) (old new : Slots) where
 
     module _ (files : Slot → List ℕ) (holds : HoldsFiles order files old) where
       pub refuses : (ended : Result (Unit {0}) Stop) (status : ℕ) → status ≡ status_of ended → HasRun words old new ended
-          → IsSome (first_fault order files) → NoneRose old new → (status ≡ 2) ⊎ (status ≡ 5)
-      refuses (Err NoForm) status is run fault none = absurd (run.0 order says)
-      refuses (Err NoMemory) status is run fault none = inr is
-      refuses (Ok done) status is run fault none =
+          → (fault : Fault) → IsFirstFault order files fault → NoneRose old new → (status ≡ 2) ⊎ (status ≡ 5)
+      refuses (Err NoForm) status is run fault first none = absurd (run.0 order says)
+      refuses (Err NoMemory) status is run fault first none = inr is
+      refuses (Ok done) status is run fault first none =
           let had : HasDone order files old new = (for_order words (λ o. IsDone o old new) run.0 order run.1 says run.2).done files holds in
-          let no_fault = had.are.no_fault in absurd cc
-      refuses (Err Refused) status is run fault none = inl is
-      refuses (Err InputFailed) status is run fault none = absurd (none run.2.rose.0 run.2.rose.2)
-      refuses (Err OutputFailed) status is run fault none = absurd (none run.2.rose.0 run.2.rose.2)
+          absurd (had.are.no_fault fault first)
+      refuses (Err Refused) status is run fault first none = inl is
+      refuses (Err InputFailed) status is run fault first none = absurd (none run.2.rose.0 run.2.rose.2)
+      refuses (Err OutputFailed) status is run fault first none = absurd (none run.2.rose.0 run.2.rose.2)
 
       pub complete : (ended : Result (Unit {0}) Stop) (status : ℕ) → status ≡ status_of ended → HasRun words old new ended
-          → first_fault order files ≡ None → NoneRose old new → (status ≡ 0) ⊎ (status ≡ 5)
+          → HasNoFault order files → NoneRose old new → (status ≡ 0) ⊎ (status ≡ 5)
       complete (Err NoForm) status is run fine none = absurd (run.0 order says)
       complete (Err NoMemory) status is run fine none = inr is
       complete (Ok done) status is run fine none = inl is
       complete (Err Refused) status is run fine none =
           let had : HasRefused order files old new = (for_order words (λ o. IsRefused o old new) run.0 order run.1 says run.2).refused files holds in
-          let first = had.first in absurd cc
+          absurd (fine had.fault had.first)
       complete (Err InputFailed) status is run fine none = absurd (none run.2.rose.0 run.2.rose.2)
       complete (Err OutputFailed) status is run fine none = absurd (none run.2.rose.0 run.2.rose.2)
 

@@ -22,6 +22,16 @@ names_by verbs.Rewire order = record {
   out_def = None;
   out_stil = None;
 }
+names_by verbs.Trace order = record {
+  table = Some (value_at order 0);
+  lef = None;
+  verilog = Some (value_at order 1);
+  def = None;
+  stil = None;
+  out_verilog = None;
+  out_def = None;
+  out_stil = None;
+}
 
 abbrev pub names_of : Order → Names
 names_of order = names_by order.verb order
@@ -37,9 +47,10 @@ rewire_of order = record {
   units = order.further;
 }
 
--- the values of an order that the words say: the in pin and the out pin differ
+-- the values of an order that the words say: the in pin and the out pin of `rewire` differ
 abbrev pub IsApart : Verb → Order → Type 0
 IsApart verbs.Rewire order = value_at order 2 ≢ value_at order 3
+IsApart verbs.Trace order = Unit {0}
 
 abbrev pub IsFit : Order → Type 0
 IsFit order = IsApart order.verb order

@@ -1,5 +1,5 @@
 -- The first fault of a command's files, and the line that says it.
-use Rattle.std.specs.Prelude.{◌≡◌, ℕ, ◌<◌, nat_lt, Bool, ◌&&◌, if◌then◌else◌, List, [], ◌∷◌, ◌++◌, length, codes, Option, Some, None, is_some, unwrap_or, Result, Ok, Err}
+use Rattle.std.specs.Prelude.{◌≡◌, ℕ, nat_lt, Bool, ◌&&◌, if◌then◌else◌, List, [], ◌∷◌, ◌++◌, length, codes, Option, Some, None, is_some, unwrap_or, Result, Ok, Err}
 use Rattle.std.specs.Fmt.{decimal}
 use Rattle.text_scan.specs.declared.fault.Fault.{Fault}
 use Rattle.text_scan.specs.declared.fault.FileKind.{FileKind}
@@ -18,7 +18,8 @@ use Rattle.desk_io.specs.Names.{name_at}
 use Rattle.scan_words.specs.declared.order.Order.{Order}
 use Rattle.scan_words.specs.declared.verb.Verb.{Verb}
 use Rattle.scan_words.specs.declared.verb.Verb.TheVariants as verbs
-use Rattle.scan_job.specs.Commands.{names_of, rewire_of}
+use Rattle.path_report.specs.Reports.{IsPathFault}
+use Rattle.scan_job.specs.Commands.{value_at, names_of, rewire_of}
 use Rattle.narrow_rewire.specs.Texts.{first_fault as rewire_fault}
 
 -- the file of an input slot, as faults name it
@@ -51,16 +52,24 @@ abbrev pub input_slots : List Slot
 input_slots = Table ∷ Lef ∷ Verilog ∷ Def ∷ Stil ∷ []
 
 -- the first fault that the command itself finds in its files, of which none is too large
-abbrev pub command_fault : Verb → Order → (Slot → List ℕ) → Option Fault
-command_fault verbs.Rewire order files = rewire_fault (files Verilog) (rewire_of order)
+abbrev pub IsCommandFault : Verb → Order → (Slot → List ℕ) → Fault → Type 0
+IsCommandFault verbs.Rewire order files fault = rewire_fault (files Verilog) (rewire_of order) ≡ Some fault
+IsCommandFault verbs.Trace order files fault = IsPathFault (files Table) (files Verilog) (value_at order 2) fault
 
-abbrev pub or_else : Option Fault → Option Fault → Option Fault
-or_else None later = later
-or_else (Some fault) later = Some fault
+abbrev pub HasNoCommandFault : Verb → Order → (Slot → List ℕ) → Type 0
+HasNoCommandFault verb order files = (fault : Fault) → IsCommandFault verb order files fault → ⊥
+
+-- the file that is too large where there is one, and else the fault that the command finds
+abbrev pub IsFirstOf : Option Fault → (Fault → Type 0) → Fault → Type 0
+IsFirstOf None IsOwn fault = IsOwn fault
+IsFirstOf (Some large) IsOwn fault = fault ≡ large
 
 -- the first fault of the files: a file that is too large before all else
-abbrev pub first_fault : Order → (Slot → List ℕ) → Option Fault
-first_fault order files = or_else (first_too_large (names_of order) files input_slots) (command_fault order.verb order files)
+abbrev pub IsFirstFault : Order → (Slot → List ℕ) → Fault → Type 0
+IsFirstFault order files fault = IsFirstOf (first_too_large (names_of order) files input_slots) (IsCommandFault order.verb order files) fault
+
+abbrev pub HasNoFault : Order → (Slot → List ℕ) → Type 0
+HasNoFault order files = (fault : Fault) → IsFirstFault order files fault → ⊥
 
 -- the word by which a fault names its file
 abbrev pub file_word : Names → FileKind → List ℕ
@@ -82,8 +91,8 @@ abbrev pub fault_text : Names → Fault → List ℕ
 fault_text names fault =
     file_word names fault.file ++ 58 ∷ spot_text fault.spot ++ 58 ∷ 32 ∷ kind_name fault.kind ++ 10 ∷ []
 
--- what a judgement answers in place of a value is the first fault, or that memory ran out
-abbrev pub Refuses : {X : Type 0} → Result X ReadFault → Option Fault → Type 0
-Refuses (Ok x) first = Unit {0}
-Refuses (Err (read_faults.Fault fault)) first = first ≡ Some fault
-Refuses (Err read_faults.NoMemory) first = Unit {0}
+-- what a judgement answers in place of a value is such a fault, or that memory ran out
+abbrev pub Refuses : {X : Type 0} → Result X ReadFault → (Fault → Type 0) → Type 0
+Refuses (Ok x) IsFirst = Unit {0}
+Refuses (Err (read_faults.Fault fault)) IsFirst = IsFirst fault
+Refuses (Err read_faults.NoMemory) IsFirst = Unit {0}

@@ -1,7 +1,6 @@
 -- What the phases of a command leave at the slots.
-use Rattle.std.specs.Prelude.{◌≡◌, ◌⊎◌, ℕ, List, Option, Some, None, Result, Ok, Err}
+use Rattle.std.specs.Prelude.{◌⊎◌, ℕ, List, Option, Result, Ok, Err}
 use Rattle.text_scan.specs.declared.fault.Fault.{Fault}
-use Rattle.desk_io.specs.declared.slot.Slot.{Slot}
 use Rattle.desk_io.specs.declared.slot.Slot.TheVariants.{Console}
 use Rattle.desk_io.specs.declared.names.Names.{Names}
 use Rattle.desk_io.specs.declared.outputs.Outputs.{Outputs}
@@ -14,7 +13,7 @@ use Rattle.scan_words.specs.declared.order.Order.{Order}
 use Rattle.scan_job.specs.declared.stop.Stop.{Stop}
 use Rattle.scan_job.specs.declared.stop.Stop.TheVariants.{NoForm, Refused, InputFailed, OutputFailed, NoMemory}
 use Rattle.scan_job.specs.Commands.{names_of}
-use Rattle.scan_job.specs.FirstFault.{command_fault, fault_text}
+use Rattle.scan_job.specs.FirstFault.{IsCommandFault, HasNoCommandFault, fault_text}
 use Rattle.scan_job.specs.Texts.{AreTexts}
 use Rattle.scan_job.specs.TopCall.{Slots, SameEverywhere}
 
@@ -39,7 +38,7 @@ HasSaid names fault old new (Err NoMemory) = SameEverywhere old new
 
 -- the inputs' texts have no fault of the command's own, and these are its texts
 pub record AreJudged (order : Order) (texts : List (Option (List ℕ))) (outputs : Outputs) : Type 0 where
-  pub no_fault : command_fault order.verb order (input_at texts) ≡ None
+  pub no_fault : HasNoCommandFault order.verb order (input_at texts)
   pub are : AreTexts order.verb order (input_at texts) outputs
 
 pub record HasPutAll (order : Order) (texts : List (Option (List ℕ))) (old new : Slots) : Type 0 where
@@ -55,7 +54,7 @@ pub record HasPutSome (order : Order) (texts : List (Option (List ℕ))) (old ne
 -- the command's own first fault in the inputs' texts was found, and this happened at it
 pub record HasFound (order : Order) (texts : List (Option (List ℕ))) (did : Fault → Type 0) : Type 0 where
   pub fault : Fault
-  pub first : command_fault order.verb order (input_at texts) ≡ Some fault
+  pub first : IsCommandFault order.verb order (input_at texts) fault
   pub then_did : did fault
 
 -- what was done once the inputs were taken

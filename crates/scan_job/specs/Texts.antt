@@ -1,16 +1,17 @@
 -- The texts of a command's outputs.
-use Rattle.std.specs.Prelude.{◌≡◌, ℕ, List, [], ◌∷◌, ◌++◌, codes, None}
+use Rattle.std.specs.Prelude.{◌≡◌, ℕ, List, [], ◌∷◌, ◌++◌, codes}
 use Rattle.std.specs.Fmt.{decimal}
 use Rattle.desk_io.specs.declared.slot.Slot.{Slot}
-use Rattle.desk_io.specs.declared.slot.Slot.TheVariants.{Verilog}
+use Rattle.desk_io.specs.declared.slot.Slot.TheVariants.{Table, Verilog}
 use Rattle.desk_io.specs.declared.outputs.Outputs.{Outputs}
 use Rattle.scan_words.specs.declared.order.Order.{Order}
 use Rattle.scan_words.specs.declared.verb.Verb.{Verb}
 use Rattle.scan_words.specs.declared.verb.Verb.TheVariants as verbs
-use Rattle.scan_job.specs.Commands.{rewire_of}
-use Rattle.scan_job.specs.FirstFault.{first_fault}
+use Rattle.scan_job.specs.Commands.{value_at, rewire_of}
+use Rattle.scan_job.specs.FirstFault.{HasNoFault}
 use Rattle.narrow_rewire.specs.Erased.{AreErasedAlike, HasScanPath}
 use Rattle.narrow_rewire.specs.Texts.{written_verilog, moved_count}
+use Rattle.path_report.specs.Reports.{IsPathText}
 
 -- what `rewire` says: how many in pins and ports it edited
 abbrev pub rewire_text : ℕ → List ℕ
@@ -27,8 +28,9 @@ pub record AreRewired (order : Order) (files : Slot → List ℕ) (outputs : Out
 
 abbrev pub AreTexts : Verb → Order → (Slot → List ℕ) → Outputs → Type 0
 AreTexts verbs.Rewire order files outputs = AreRewired order files outputs
+AreTexts verbs.Trace order files outputs = IsPathText (files Table) (files Verilog) (value_at order 2) outputs.console
 
 -- the files have no fault, and the outputs are those of the command
 pub record AreOutputsOf (order : Order) (files : Slot → List ℕ) (outputs : Outputs) : Type 0 where
-  pub no_fault : first_fault order files ≡ None
+  pub no_fault : HasNoFault order files
   pub texts : AreTexts order.verb order files outputs

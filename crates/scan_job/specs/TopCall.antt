@@ -1,5 +1,5 @@
 -- What a run leaves at its slots.
-use Rattle.std.specs.Prelude.{◌≡◌, ◌⊎◌, ◌<◌, ℕ, Bool, List, [], Some, IsSome, IsTrue}
+use Rattle.std.specs.Prelude.{◌≡◌, ◌⊎◌, ℕ, List, Some}
 use Rattle.text_scan.specs.declared.fault.Fault.{Fault}
 use Rattle.desk_io.specs.declared.slot.Slot.{Slot}
 use Rattle.desk_io.specs.declared.slot.Slot.TheVariants.{Table, Lef, Verilog, Def, Stil, OutVerilog, OutDef, OutStil, Console}
@@ -12,7 +12,7 @@ use Rattle.desk_io.specs.Outputs.{output_at}
 use Rattle.scan_words.specs.declared.order.Order.{Order}
 use Rattle.scan_words.specs.Written.{Says}
 use Rattle.scan_job.specs.Commands.{names_of}
-use Rattle.scan_job.specs.FirstFault.{first_fault, fault_text}
+use Rattle.scan_job.specs.FirstFault.{IsFirstFault, fault_text}
 use Rattle.scan_job.specs.Texts.{AreOutputsOf}
 
 abbrev pub Slots : Type 0
@@ -80,7 +80,7 @@ SameOutputs old new = (slot : Slot) → IsOutput slot → new slot ≡ old slot
 -- the files have a first fault; its line was said on the console, and the output files are as they were
 pub record HasRefused (order : Order) (files : Slot → List ℕ) (old new : Slots) : Type 0 where
   pub fault : Fault
-  pub first : first_fault order files ≡ Some fault
+  pub first : IsFirstFault order files fault
   pub untouched : SameFiles old new
   pub line : IsAppended (fault_text (names_of order) fault) (old Console) (new Console)
 
@@ -99,7 +99,7 @@ pub record HasBegun (order : Order) (files : Slot → List ℕ) (old new : Slots
 -- the files have a first fault; the console holds a prefix of its line, and the output files are as they were
 pub record HasBegunRefusing (order : Order) (files : Slot → List ℕ) (old new : Slots) : Type 0 where
   pub fault : Fault
-  pub first : first_fault order files ≡ Some fault
+  pub first : IsFirstFault order files fault
   pub untouched : SameFiles old new
   pub prefix : HoldsPrefix (fault_text (names_of order) fault) (old Console) (new Console)
 

@@ -8,7 +8,7 @@ use std::alloc::Global;
 use text_scan::{Name, NoMemory, Rows, Word};
 
 /// The value of the option at a place of the command's list; empty where there is none.
-fn value_at(order: &Order, place: usize) -> &str
+pub(crate) fn value_at(order: &Order, place: usize) -> &str
     ensures value { result.now ≡ value_at order.now place }
 {
     match order.values.as_slice().get(place) {
@@ -41,6 +41,16 @@ pub(crate) fn names_of(alloc: Global, order: &Order) -> Result<Names, NoMemory>
             def: None,
             stil: None,
             out_verilog: Some(word_at(alloc, order, 6)?),
+            out_def: None,
+            out_stil: None,
+        }),
+        Verb::Trace => Ok(Names {
+            table: Some(word_at(alloc, order, 0)?),
+            lef: None,
+            verilog: Some(word_at(alloc, order, 1)?),
+            def: None,
+            stil: None,
+            out_verilog: None,
             out_def: None,
             out_stil: None,
         }),

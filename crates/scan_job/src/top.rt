@@ -1,4 +1,5 @@
-ghost use Rattle.std.specs.Prelude.{◌≡◌, ◌≢◌, ◌⊎◌, ◌<◌, ◌≤◌, List, ℕ, None, IsSome};
+ghost use Rattle.std.specs.Prelude.{◌≡◌, ◌≢◌, ◌⊎◌, ◌<◌, ◌≤◌, List, ℕ};
+ghost use Rattle.text_scan.specs.declared.fault.Fault.{Fault};
 ghost use Rattle.desk_io.specs.declared.slot.Slot.{Slot};
 ghost use Rattle.desk_io.specs.declared.slot.Slot.TheVariants.{Console};
 ghost use Rattle.desk_io.specs.Desk.{IsInput, IsOutput, AllUnopened};
@@ -6,7 +7,7 @@ ghost use Rattle.desk_io.specs.Names.{AllowsNames};
 ghost use Rattle.scan_words.specs.declared.order.Order.{Order};
 ghost use Rattle.scan_words.specs.Written.{Says};
 ghost use Rattle.scan_job.specs.Commands.{names_of};
-ghost use Rattle.scan_job.specs.FirstFault.{first_fault};
+ghost use Rattle.scan_job.specs.FirstFault.{IsFirstFault, HasNoFault};
 ghost use Rattle.scan_job.specs.TopCall.{SaysNothing, SameEverywhere, SameUnused, SameCounts, NoneRose, SomeRose, NoneOpen, AllClosed, AllRead, HoldsFiles, HasRefused, HasDone, HoldsPrefixes};
 ghost use Rattle.scan_job.specs.Ended.{HasRun, status_of};
 
@@ -68,7 +69,7 @@ pub fn run<D: Desk>(alloc: Global, words: &[Word], desk: &mut D) -> u8
         HasRefused order files (D.state desk.old) (D.state desk.new) }
     ensures refusal_counts { (result ≡ 0) ⊎ (result ≡ 2) → SameCounts (D.state desk.old) (D.state desk.new) }
     ensures refuses { (order : Order) (files : Slot → List ℕ) → Says words.now order → HoldsFiles order files (D.state desk.old) →
-        IsSome (first_fault order files) → NoneRose (D.state desk.old) (D.state desk.new) → (result ≡ 2) ⊎ (result ≡ 5) }
+        (fault : Fault) → IsFirstFault order files fault → NoneRose (D.state desk.old) (D.state desk.new) → (result ≡ 2) ⊎ (result ≡ 5) }
 
     // Causes of faults of the outside.
     ensures input_fault { result ≡ 3 → SomeRose IsInput (D.state desk.old) (D.state desk.new) }
@@ -86,7 +87,7 @@ pub fn run<D: Desk>(alloc: Global, words: &[Word], desk: &mut D) -> u8
 
     // Completeness.
     ensures complete { (order : Order) (files : Slot → List ℕ) → Says words.now order → HoldsFiles order files (D.state desk.old) →
-        first_fault order files ≡ None → NoneRose (D.state desk.old) (D.state desk.new) → (result ≡ 0) ⊎ (result ≡ 5) }
+        HasNoFault order files → NoneRose (D.state desk.old) (D.state desk.new) → (result ≡ 0) ⊎ (result ≡ 5) }
 
     // The texts of the command.
     ensures done { result ≡ 0 → (order : Order) (files : Slot → List ℕ) → Says words.now order → HoldsFiles order files (D.state desk.old) →
