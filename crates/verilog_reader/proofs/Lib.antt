@@ -1,4 +1,12 @@
 pub mod Indexes
+pub mod BitNames
+pub mod AnyLemmas
+pub mod NameLists
+pub mod BitLookups
+pub mod Again
+pub mod Undeclared
+pub mod Clean
+pub mod SeenMore
 pub mod Firsts
 pub mod Counting
 pub mod Passes

@@ -4,3 +4,5 @@ pub mod Declarations
 pub mod Faults
 pub mod Steps
 pub mod Denoted
+pub mod NameSets
+pub mod Seen

@@ -130,7 +130,8 @@ pub(crate) fn bounds_of(range: &Range) -> Bounds
     }
 }
 
-fn range_bounds(range: &Option<Range>) -> Option<Bounds>
+/// The bounds that a range states, where there is one.
+pub(crate) fn range_bounds(range: &Option<Range>) -> Option<Bounds>
     requires small { is_bad_range range.now ≡ false }
     ensures value { result ≡ option_map bounds_of range.now }
 {

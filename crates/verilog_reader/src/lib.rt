@@ -5,11 +5,15 @@
 //! `specs/Faults.antt` says. Begin with `netlist.rt`.
 #![tactic(auto)]
 
+mod bit_names;
 mod bounds;
 mod declared;
 mod faults;
+mod name_lists;
 mod number;
+mod scalars;
 mod select;
+mod twice;
 mod values;
 mod vector;
 

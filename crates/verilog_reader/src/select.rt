@@ -29,7 +29,7 @@ fn part_of(left: &Written, right: &Written) -> Bounds
     }
 }
 
-fn selects(bounds: Option<Bounds>, index: u32) -> bool
+pub(crate) fn selects(bounds: Option<Bounds>, index: u32) -> bool
     ensures value { result ≡ selects bounds index }
 {
     match bounds {
@@ -151,7 +151,7 @@ fn differ_in_width(names: &DeclaredNames, statement: &Statement) -> bool
     }
 }
 
-fn is_port_kind(kind: Declared) -> bool
+pub(crate) fn is_port_kind(kind: Declared) -> bool
     ensures value { result ≡ is_port_kind kind }
 {
     match kind {

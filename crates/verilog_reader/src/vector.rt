@@ -1,6 +1,6 @@
 //! The indexes of a vector.
-ghost use Rattle.std.specs.Prelude.{◌≡◌, ◌≤◌, ◌^◌};
-ghost use Rattle.verilog_reader.specs.Declarations.{width, has_index, offset, has_part};
+ghost use Rattle.std.specs.Prelude.{◌≡◌, ◌<◌, ◌≤◌, ◌^◌};
+ghost use Rattle.verilog_reader.specs.Declarations.{width, has_index, offset, index_at, has_part};
 
 use crate::bounds::Bounds;
 
@@ -28,6 +28,19 @@ fn offset(bounds: Bounds, index: u32) -> u32
         bounds.left.saturating_sub(index)
     } else {
         index.saturating_sub(bounds.left)
+    }
+}
+
+/// The index at a place from the left.
+pub(crate) fn index_at(bounds: Bounds, place: u64) -> u32
+    requires within { place < width bounds }
+    ensures value { result ≡ index_at bounds place }
+{
+    let place = place as u32;
+    if bounds.right <= bounds.left {
+        bounds.left - place
+    } else {
+        bounds.left + place
     }
 }
 

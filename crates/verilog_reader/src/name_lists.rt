@@ -1,0 +1,85 @@
+//! Lists and sets of plain names.
+ghost use Rattle.std.specs.Prelude.{◌≡◌, ◌++◌, List, ℕ, map, IfOk, OnOk};
+ghost use Rattle.verilog_reader.specs.Values.{plain_of};
+ghost use Rattle.verilog_reader.specs.Declarations.{ports_in};
+ghost use Rattle.verilog_reader.specs.Faults.{has_twice, pins_in};
+ghost use Rattle.verilog_reader.specs.NameSets.{HasNames};
+
+use crate::values::plain_of;
+use std::alloc::Global;
+use std::collections::HashSet;
+use text_scan::NoMemory;
+use verilog_syntax::{Connection, Statement, Written};
+
+/// Puts the plain names of these behind the last one.
+pub(crate) fn push_names<'a>(
+    names: &mut Vec<&'a [u8]>,
+    written: &[Written<'a>],
+) -> Result<(), NoMemory>
+    ensures value { OnOk result (map (λ name. name.now) names.new.items ≡ map (λ name. name.now) names.old.items ++ map plain_of written.now) }
+{
+    for name in written {
+        names.push(plain_of(name))?;
+    }
+    Ok(())
+}
+
+/// The ports that a header lists.
+pub(crate) fn ports_in<'a>(
+    alloc: Global,
+    statement: &Statement<'a>,
+) -> Result<Vec<&'a [u8]>, NoMemory>
+    ensures value { IfOk result (λ names. map (λ name. name.now) names.items ≡ ports_in statement.now) }
+{
+    let mut names = Vec::new(alloc);
+    if let Statement::Module { ports, .. } = statement {
+        push_names(&mut names, ports.as_slice())?;
+    }
+    Ok(names)
+}
+
+fn push_pins<'a>(names: &mut Vec<&'a [u8]>, connections: &[Connection<'a>]) -> Result<(), NoMemory>
+    ensures value { OnOk result (map (λ name. name.now) names.new.items ≡ map (λ name. name.now) names.old.items ++ map (λ c. plain_of c.pin) connections.now) }
+{
+    for connection in connections {
+        names.push(plain_of(&connection.pin))?;
+    }
+    Ok(())
+}
+
+/// The pins that an instance connects.
+pub(crate) fn pins_in<'a>(
+    alloc: Global,
+    statement: &Statement<'a>,
+) -> Result<Vec<&'a [u8]>, NoMemory>
+    ensures value { IfOk result (λ names. map (λ name. name.now) names.items ≡ pins_in statement.now) }
+{
+    let mut names = Vec::new(alloc);
+    if let Statement::Instance { connections, .. } = statement {
+        push_pins(&mut names, connections.as_slice())?;
+    }
+    Ok(names)
+}
+
+/// Whether a name stands twice.
+pub(crate) fn has_twice(alloc: Global, names: &[&[u8]]) -> Result<bool, NoMemory>
+    ensures value { IfOk result (λ twice. twice ≡ has_twice (map (λ name. name.now) names.now)) }
+{
+    let mut seen = HashSet::new(alloc);
+    for name in names {
+        if !seen.insert(*name)? {
+            return Ok(true);
+        }
+    }
+    Ok(false)
+}
+
+/// Adds names to a set.
+pub(crate) fn add_names<'a>(set: &mut HashSet<&'a [u8]>, names: &[&'a [u8]]) -> Result<(), NoMemory>
+    ensures value { OnOk result ((before : List (List ℕ)) → HasNames set.old before → HasNames set.new (before ++ map (λ name. name.now) names.now)) }
+{
+    for name in names {
+        set.insert(*name)?;
+    }
+    Ok(())
+}

@@ -1,0 +1,102 @@
+//! The scalar nets of statements.
+ghost use Rattle.std.specs.Prelude.{◌≡◌, ◌∷◌, ◌++◌, [], List, map, is_some, if◌then◌else◌, IfOk, OnOk, MatchOption};
+ghost use Rattle.std.specs.List.{flat_map};
+ghost use Rattle.verilog_reader.specs.Values.{plain_of};
+ghost use Rattle.verilog_reader.specs.Declarations.{Declaration, connection_items, mentions_of, undeclared_in};
+ghost use Rattle.verilog_reader.specs.Faults.{scalars_in};
+ghost use Rattle.verilog_reader.specs.Seen.{Keeps};
+
+use crate::declared::DeclaredNames;
+use crate::name_lists::push_names;
+use crate::values::plain_of;
+use std::alloc::Global;
+use text_scan::NoMemory;
+use verilog_syntax::{Connection, Item, Range, Statement, Written};
+
+/// The name that an operand mentions.
+fn mention_of<'a>(item: &Item<'a>) -> Option<&'a [u8]>
+    ensures value { MatchOption result (mentions_of item.now ≡ []) (λ name. mentions_of item.now ≡ name.now ∷ []) }
+{
+    match item {
+        Item::Name(name) | Item::Bit { name, .. } | Item::Part { name, .. } => Some(plain_of(name)),
+        Item::Open | Item::Comma | Item::Close | Item::Constant(_) => None,
+    }
+}
+
+/// The name that an operand mentions, where it isn't declared.
+fn undeclared_of<'a>(all: &DeclaredNames, item: &Item<'a>) -> Option<&'a [u8]>
+    ensures value { (ds : List Declaration) → Keeps all.now ds → MatchOption result (undeclared_in ds (mentions_of item.now) ≡ []) (λ name. undeclared_in ds (mentions_of item.now) ≡ name.now ∷ []) }
+{
+    let name = mention_of(item)?;
+    if all.has(name) { None } else { Some(name) }
+}
+
+/// Puts the names that operands mention and none declares behind the last name.
+fn push_undeclared<'a>(
+    names: &mut Vec<&'a [u8]>,
+    all: &DeclaredNames,
+    items: &[Item<'a>],
+) -> Result<(), NoMemory>
+    ensures value { OnOk result ((ds : List Declaration) → Keeps all.now ds → map (λ name. name.now) names.new.items ≡ map (λ name. name.now) names.old.items ++ undeclared_in ds (flat_map mentions_of items.now)) }
+{
+    for item in items {
+        if let Some(name) = undeclared_of(all, item) {
+            names.push(name)?;
+        }
+    }
+    Ok(())
+}
+
+fn push_connected<'a>(
+    names: &mut Vec<&'a [u8]>,
+    all: &DeclaredNames,
+    connections: &[Connection<'a>],
+) -> Result<(), NoMemory>
+    ensures value { OnOk result ((ds : List Declaration) → Keeps all.now ds → map (λ name. name.now) names.new.items ≡ map (λ name. name.now) names.old.items ++ undeclared_in ds (flat_map mentions_of (connection_items connections.now))) }
+{
+    for connection in connections {
+        push_undeclared(names, all, connection.expression.items.as_slice())?;
+    }
+    Ok(())
+}
+
+/// Puts what a declaration without a range declares behind the last name.
+fn push_scalars<'a>(
+    names: &mut Vec<&'a [u8]>,
+    range: &Option<Range<'a>>,
+    declared: &[Written<'a>],
+) -> Result<(), NoMemory>
+    ensures value { OnOk result (map (λ name. name.now) names.new.items ≡ map (λ name. name.now) names.old.items ++ (if is_some range.now then [] else map plain_of declared.now)) }
+{
+    match range {
+        Some(_) => Ok(()),
+        None => push_names(names, declared),
+    }
+}
+
+/// The scalar nets that a statement declares, or mentions where none of all declares them.
+pub(crate) fn scalars_in<'a>(
+    alloc: Global,
+    all: &DeclaredNames,
+    statement: &Statement<'a>,
+) -> Result<Vec<&'a [u8]>, NoMemory>
+    ensures value { IfOk result (λ names. (ds : List Declaration) → Keeps all.now ds → map (λ name. name.now) names.items ≡ scalars_in ds statement.now) }
+{
+    let mut scalars = Vec::new(alloc);
+    match statement {
+        Statement::Module { .. } => Ok(scalars),
+        Statement::Declare { range, names, .. } => {
+            push_scalars(&mut scalars, range, names.as_slice())?;
+            Ok(scalars)
+        }
+        Statement::Assign { left, right } => {
+            push_undeclared(&mut scalars, all, left.items.as_slice())?;
+            push_undeclared(&mut scalars, all, right.items.as_slice())?;
+            Ok(scalars)
+        }
+        Statement::Instance { connections, .. } => {
+            push_connected(&mut scalars, all, connections.as_slice())?;
+            Ok(scalars)
+        }
+    }
+}
