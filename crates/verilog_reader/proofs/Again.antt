@@ -1,8 +1,10 @@
 -- Declarations that stand again, as declarations are added one by one.
-use Rattle.std.proofs.Common.{◌≡◌, ℕ, ◌+◌, ◌<◌, ◌≤◌, Bool, true, false, cond, ◌||◌, List, [], ◌∷◌, ◌++◌, length, map, get_or, take, drop, Option, Some, None, option_map, Result, Ok, Err, IfOk, refl, sym, ap, ◌∙◌, append_assoc}
+use Rattle.std.proofs.Common.{◌≡◌, ℕ, ◌+◌, ◌<◌, ◌≤◌, Bool, true, false, cond, not, ◌||◌, List, [], ◌∷◌, ◌++◌, length, map, get_or, take, drop, Option, Some, None, option_map, is_some, refl, sym, ap, ◌∙◌, subst, append_assoc}
 use Rattle.std.specs.Option.{option_or}
+use Rattle.std.specs.List.{list_any}
 use Rattle.std.specs.Str.{bytes_eq}
-use Rattle.std.proofs.lemmas.List.{take_more, drop_more, drop_all, take_all, map-append, append-nil}
+use Rattle.std.proofs.lemmas.List.{take_more, drop_more, drop_all, map-append, append-nil}
+use Rattle.std.proofs.lemmas.Slice.Eq.{bytes_eq-Decides}
 use Rattle.verilog_syntax.specs.declared.statement.Declared.{Declared}
 use Rattle.verilog_syntax.specs.declared.statement.Range.{Range}
 use Rattle.verilog_syntax.specs.declared.statement.Statement.{Statement}
@@ -10,21 +12,16 @@ use Rattle.verilog_syntax.specs.declared.statement.Statement.TheVariants as stat
 use Rattle.verilog_reader.specs.declared.bounds.Bounds.{Bounds}
 use Rattle.verilog_reader.specs.declared.declared.First.{First}
 use Rattle.verilog_reader.specs.declared.declared.DeclaredNames.{DeclaredNames}
-use Rattle.verilog_reader.specs.Values.{plain_of}
-use Rattle.verilog_reader.specs.Declarations.{Declaration, declaration_of, bounds_of, first_of, declarations_in}
-use Rattle.verilog_reader.specs.Faults.{stands_again, any_again}
+use Rattle.verilog_reader.specs.declared.twice.Nets.{Nets}
+use Rattle.verilog_reader.specs.Declarations.{Declaration, bounds_of, first_of, declarations_in}
+use Rattle.verilog_reader.specs.Faults.{stands_again, any_again, has_bit_in, have_bits}
 use Rattle.verilog_reader.specs.Steps.{first_in, first_kept, only_at, kept_of}
-use Rattle.verilog_reader.specs.Seen.{Keeps, Adds, declared_as, stands_beside}
+use Rattle.verilog_reader.specs.Seen.{Keeps, AddsOne, Adds, AreKnown, IsClean, declared_as, may_stand_beside}
+use Rattle.verilog_reader.proofs.AnyLemmas.{or_true, or_four}
+use Rattle.verilog_reader.proofs.Clean.{known_step, known_clean, new_clean}
 use Rattle.verilog_reader.proofs.Firsts.{first_kept-append}
 
 -- one declaration behind others
-pub again_is : (before : List Declaration) (d : Declaration) → stands_beside (first_kept before d.name) d.kind d.bounds ≡ stands_again (first_of d.name before) d
-again_is before d = cases (first_of d.name before)
-  where
-    cases : (o : Option Declaration) → stands_beside (option_map kept_of o) d.kind d.bounds ≡ stands_again o d
-    cases None = refl
-    cases (Some first) = refl
-
 only_is : (d : Declaration) (q : List ℕ) → only_at d.name (kept_of d) q ≡ first_kept (d ∷ []) q
 only_is d q = cases (bytes_eq d.name q)
   where
@@ -36,46 +33,104 @@ pub kept_more : (before : List Declaration) (d : Declaration) (q : List ℕ) (ne
 kept_more before d q new old is was =
     is ∙ ap (λ o. option_or o (only_at d.name (kept_of d) q)) was ∙ ap (option_or (first_kept before q)) (only_is d q) ∙ sym (first_kept-append before (d ∷ []) q)
 
+-- a name that is known
+record KeptOf (o : Option Declaration) (k : First) : Type 0 where
+  pub declaration : Declaration
+  pub is : o ≡ Some declaration
+  pub same : kept_of declaration ≡ k
+
+kept_some : (o : Option Declaration) (k : First) → option_map kept_of o ≡ Some k → KeptOf o k
+kept_some None k h = absurd cc
+kept_some (Some f) k h = record { declaration = f; is = refl; same = cc }
+
+kept_none : (o : Option Declaration) → option_map kept_of o ≡ None → o ≡ None
+kept_none None h = refl
+kept_none (Some f) h = absurd cc
+
+or_first : (o p : Option First) (t : Bool) → (t ≡ true → is_some o ≡ true) → option_or o (cond t p None) ≡ o
+or_first None p true h = let wrong = h refl in absurd cc
+or_first None p false h = refl
+or_first (Some x) p t h = refl
+
+same_known : (before : List Declaration) (d : Declaration) (k : First) (q : List ℕ) → first_kept before d.name ≡ Some k → first_kept before q ≡ first_kept (before ++ d ∷ []) q
+same_known before d k q known =
+    sym (first_kept-append before (d ∷ []) q ∙ ap (option_or (first_kept before q)) (sym (only_is d q))
+    ∙ or_first (first_kept before q) (Some (kept_of d)) (bytes_eq d.name q) (λ e. ap (λ o. is_some o) (sym (ap (first_kept before) ((bytes_eq-Decides d.name q).0 e)) ∙ known)))
+
+pub known_adds : (names : DeclaredNames) (before : List Declaration) (d : Declaration) (all : List (List ℕ)) (k : First) → first_kept before d.name ≡ Some k → Keeps names before → IsClean before all
+    → AddsOne (not (may_stand_beside k d.kind d.bounds)) names before d all
+known_adds names before d all k known keeps clean =
+    let f = kept_some (first_of d.name before) k known in
+    record {
+      is = sym (known_step before d f.declaration all f.is clean ∙ ap (λ o. stands_again o d) f.is ∙ ap (λ x. not (may_stand_beside x d.kind d.bounds)) f.same);
+      kept = λ e q. keeps q ∙ same_known before d k q known;
+      clean = λ e. known_clean before d f.declaration all f.is clean;
+    }
+
+-- a name that is new
+pub new_fails : (names : DeclaredNames) (before : List Declaration) (d : Declaration) (all : List (List ℕ)) → list_any (has_bit_in d.name d.bounds) all ≡ true → AddsOne true names before d all
+new_fails names before d all there = record {
+  is = sym (ap (λ t. stands_again (first_of d.name before) d || t) there ∙ or_true (stands_again (first_of d.name before) d));
+  kept = λ e. absurd cc;
+  clean = λ e. absurd cc;
+}
+
+pub new_adds : (names old : DeclaredNames) (before : List Declaration) (d : Declaration) (all : List (List ℕ)) → first_kept before d.name ≡ None → list_any (has_bit_in d.name d.bounds) all ≡ false
+    → ((q : List ℕ) → first_in names q ≡ option_or (first_in old q) (only_at d.name (kept_of d) q)) → Keeps old before → IsClean before all → AddsOne false names before d all
+new_adds names old before d all new none adds keeps clean =
+    let absent = kept_none (first_of d.name before) new in
+    record {
+      is = sym (ap (λ o. stands_again o d || list_any (has_bit_in d.name d.bounds) all) absent ∙ none);
+      kept = λ e q. kept_more before d q (first_in names q) (first_in old q) (adds q) (keeps q);
+      clean = λ e. new_clean before d all absent clean none;
+    }
+
 -- a loop over names that are declared alike
-module _ (first : First) (before : List Declaration) (names : List (List ℕ)) (i : ℕ) (d : List ℕ) (total : Bool) where
+module _ (first : First) (before : List Declaration) (all : List (List ℕ)) (names : List (List ℕ)) (i : ℕ) (d : List ℕ) (total : Bool) where
   abbrev pub So : ℕ → List Declaration
   So i = before ++ map (declared_as first) (take i names)
 
   abbrev pub Rest : ℕ → List Declaration
   Rest i = map (declared_as first) (drop i names)
 
-  pub so_more : i < length names → So i ++ declared_as first (get_or names i d) ∷ [] ≡ So (i + 1)
+  abbrev pub Both : ℕ → Bool
+  Both i = any_again (So i) (Rest i) || have_bits (Rest i) all
+
+  abbrev it : Declaration
+  it = declared_as first (get_or names i d)
+
+  pub so_more : i < length names → So i ++ it ∷ [] ≡ So (i + 1)
   so_more lt =
-      append_assoc before (map (declared_as first) (take i names)) (declared_as first (get_or names i d) ∷ [])
+      append_assoc before (map (declared_as first) (take i names)) (it ∷ [])
       ∙ ap (λ l. before ++ l) (sym (ap (map (declared_as first)) (take_more names i d lt) ∙ map-append (declared_as first) (take i names) (get_or names i d ∷ [])))
 
-  again_turn : i < length names → any_again (So i) (Rest i) ≡ (stands_beside (first_kept (So i) (plain_of (get_or names i d))) first.kind first.bounds || any_again (So (i + 1)) (Rest (i + 1)))
+  both_turn : i < length names → Both i ≡ ((stands_again (first_of it.name (So i)) it || list_any (has_bit_in it.name it.bounds) all) || Both (i + 1))
   unfolding any_again
-  again_turn lt =
-      ap (λ l. any_again (So i) (map (declared_as first) l)) (drop_more names i d lt)
-      ∙ ap (λ t. t || any_again (So i ++ declared_as first (get_or names i d) ∷ []) (Rest (i + 1))) (sym (again_is (So i) (declared_as first (get_or names i d))))
-      ∙ ap (λ l. stands_beside (first_kept (So i) (plain_of (get_or names i d))) first.kind first.bounds || any_again l (Rest (i + 1))) (so_more lt)
+  both_turn lt =
+      ap (λ l. any_again (So i) (map (declared_as first) l) || have_bits (map (declared_as first) l) all) (drop_more names i d lt)
+      ∙ ap (λ l. (stands_again (first_of it.name (So i)) it || any_again l (Rest (i + 1))) || (list_any (has_bit_in it.name it.bounds) all || have_bits (Rest (i + 1)) all)) (so_more lt)
+      ∙ or_four (stands_again (first_of it.name (So i)) it) (any_again (So (i + 1)) (Rest (i + 1))) (list_any (has_bit_in it.name it.bounds) all) (have_bits (Rest (i + 1)) all)
 
-  pub again_passes : i < length names → stands_beside (first_kept (So i) (plain_of (get_or names i d))) first.kind first.bounds ≡ false → any_again (So i) (Rest i) ≡ total → any_again (So (i + 1)) (Rest (i + 1)) ≡ total
-  again_passes lt other so_far = sym (again_turn lt ∙ ap (λ t. t || any_again (So (i + 1)) (Rest (i + 1))) other) ∙ so_far
+  pub both_passes : (kept : DeclaredNames) → i < length names → AddsOne false kept (So i) it all → Both i ≡ total → Both (i + 1) ≡ total
+  both_passes kept lt one so_far = sym (both_turn lt ∙ ap (λ t. t || Both (i + 1)) (sym one.is)) ∙ so_far
 
-  pub again_fails : i < length names → stands_beside (first_kept (So i) (plain_of (get_or names i d))) first.kind first.bounds ≡ true → any_again (So i) (Rest i) ≡ total → true ≡ total
-  again_fails lt there so_far = sym (again_turn lt ∙ ap (λ t. t || any_again (So (i + 1)) (Rest (i + 1))) there) ∙ so_far
+  pub both_fails : (kept : DeclaredNames) → i < length names → AddsOne true kept (So i) it all → Both i ≡ total → true ≡ total
+  both_fails kept lt one so_far = sym (both_turn lt ∙ ap (λ t. t || Both (i + 1)) (sym one.is)) ∙ so_far
 
-  pub again_passed : length names ≤ i → any_again (So i) (Rest i) ≡ total → false ≡ total
+  pub both_passed : length names ≤ i → Both i ≡ total → false ≡ total
   unfolding any_again
-  again_passed le so_far = sym (ap (λ l. any_again (So i) (map (declared_as first) l)) (drop_all i names le)) ∙ so_far
-
-  pub kept_last : (q : List ℕ) (new old : Option First) → i < length names → new ≡ option_or old (only_at (plain_of (get_or names i d)) first q) → old ≡ first_kept (So i) q → new ≡ first_kept (So (i + 1)) q
-  kept_last q new old lt is was = kept_more (So i) (declared_as first (get_or names i d)) q new old is was ∙ ap (λ l. first_kept l q) (so_more lt)
+  both_passed le so_far = sym (ap (λ l. any_again (So i) (map (declared_as first) l) || have_bits (map (declared_as first) l) all) (drop_all i names le)) ∙ so_far
 
 -- a statement declares nothing
-pub adds_none : (names : DeclaredNames) (before ds : List Declaration) → ds ≡ [] → Keeps names before → Adds false names before ds
+pub adds_none : (names : DeclaredNames) (nets : Nets) (before ds : List Declaration) (all : List (List ℕ)) → ds ≡ [] → AreKnown names nets before all → Adds false names before ds all
 unfolding any_again
-adds_none names before ds none keeps = record {
-  is = sym (ap (any_again before) none);
-  kept = λ e q. keeps q ∙ ap (λ l. first_kept l q) (sym (ap (λ l. before ++ l) none ∙ append-nil before));
-}
+adds_none names nets before ds all none known =
+    let same : before ≡ before ++ ds = sym (ap (λ l. before ++ l) none ∙ append-nil before) in
+    record {
+      is = sym (ap (λ l. any_again before l || have_bits l all) none);
+      kept = λ e q. known.keeps q ∙ ap (λ l. first_kept l q) same;
+      clean = λ e. subst (λ l. IsClean l all) same known.clean;
+    }
 
 -- a list of names that a statement declares
 pub names_in : (s : Statement) (kind : Declared) (range : Option Range) (names listed : List (List ℕ)) (bounds : Option Bounds) → s ≡ statements.Declare kind range names → bounds ≡ option_map bounds_of range → listed ≡ names

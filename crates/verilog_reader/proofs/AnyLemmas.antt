@@ -11,6 +11,18 @@ pub or_false : (a : Bool) → (a || false) ≡ a
 or_false true = refl
 or_false false = refl
 
+pub or_false_left : (a b : Bool) → (a || b) ≡ false → a ≡ false
+or_false_left true b h = h
+or_false_left false b h = refl
+
+pub or_false_right : (a b : Bool) → (a || b) ≡ false → b ≡ false
+or_false_right true b h = cc
+or_false_right false b h = h
+
+pub not_true : (b : Bool) → (b ≡ true → ⊥) → b ≡ false
+not_true true f = absurd (f refl)
+not_true false f = refl
+
 pub and_false : (a : Bool) → (a && false) ≡ false
 and_false true = refl
 and_false false = refl
@@ -26,7 +38,7 @@ same_tests false true f g = g refl
 same_tests false false f g = refl
 
 -- a test that is one or the other
-or_four : (a b c d : Bool) → ((a || b) || (c || d)) ≡ ((a || c) || (b || d))
+pub or_four : (a b c d : Bool) → ((a || b) || (c || d)) ≡ ((a || c) || (b || d))
 or_four true b c d = refl
 or_four false true true d = refl
 or_four false true false d = refl

@@ -1,23 +1,19 @@
 -- Which names are those of bits of declared vectors.
-use Rattle.std.proofs.Common.{◌≡◌, ℕ, zero, suc, ◌+◌, ◌-◌, ◌<◌, ◌≤◌, min, max, Bool, true, false, cond, not, ◌&&◌, ◌||◌, nat_le, nat_lt, List, [], ◌∷◌, map, option_map, Option, Some, None, is_some, Result, Ok, Err, IfOk, inl, inr, ⊎_elim, refl, sym, ap, ◌∙◌, subst, arith, rules}
+use Rattle.std.proofs.Common.{◌≡◌, ℕ, zero, suc, ◌+◌, ◌-◌, ◌<◌, ◌≤◌, Bool, true, false, cond, ◌&&◌, ◌||◌, List, [], ◌∷◌, Option, Some, None, is_some, inl, inr, ⊎_elim, refl, sym, ap, ◌∙◌, arith}
 use Rattle.std.specs.Prelude.{◌==◌}
 use Rattle.std.specs.List.{list_any}
 use Rattle.std.specs.Str.{bytes_eq}
 use Rattle.std.proofs.lemmas.Bool.{cases_eq, cases_Bool}
 use Rattle.std.proofs.lemmas.Bool.Decides.{nat_tests}
 use Rattle.std.proofs.lemmas.Slice.Eq.{bytes_eq-Decides}
-use Rattle.verilog_syntax.specs.declared.statement.Declared.{Declared}
-use Rattle.verilog_syntax.specs.declared.statement.Range.{Range}
-use Rattle.verilog_syntax.specs.declared.statement.Statement.{Statement}
-use Rattle.verilog_syntax.specs.declared.statement.Statement.TheVariants as statements
 use Rattle.verilog_reader.specs.declared.bounds.Bounds.{Bounds}
 use Rattle.verilog_reader.specs.declared.declared.First.{First}
-use Rattle.verilog_reader.specs.Values.{plain_of, bit_name}
-use Rattle.verilog_reader.specs.Declarations.{Declaration, declarations_in, declaration_of, bounds_of, has, width, has_index, offset, index_at, indexes_from, indexes, is_named, first_of, is_declared, bounds_or_none, bounds_in}
-use Rattle.verilog_reader.specs.Faults.{has_bit_in, selects, are_bits, have_bits}
+use Rattle.verilog_reader.specs.Values.{bit_name}
+use Rattle.verilog_reader.specs.Declarations.{Declaration, has, width, has_index, offset, index_at, indexes_from, indexes, is_named, first_of, bounds_or_none, bounds_in}
+use Rattle.verilog_reader.specs.Faults.{has_bit_in, selects, are_bits}
 use Rattle.verilog_reader.specs.Steps.{first_kept, kept_bounds}
 use Rattle.verilog_reader.specs.Seen.{is_small, have_small, is_bit}
-use Rattle.verilog_reader.proofs.AnyLemmas.{or_true, and_false, and_parts, same_tests, any_same, any_map, any_none, any_and, any_swap}
+use Rattle.verilog_reader.proofs.AnyLemmas.{or_true, and_false, not_true, and_parts, same_tests, any_same, any_and, any_swap}
 use Rattle.verilog_reader.proofs.NameLists.{name_symm}
 use Rattle.verilog_reader.proofs.BitNames.{IsNoBit, same_bit}
 use Rattle.verilog_reader.proofs.Firsts.{bounds_is, declared_is}
@@ -51,15 +47,11 @@ within_small b i low e = grind (arith, nat_tests)
 index_small : (b : Bounds) (m : ℕ) → is_small (Some b) ≡ true → m < width b → index_at b m ≤ 65535
 index_small b m low lt = within_small b (index_at b m) low (index_within b m lt)
 
-eq_true : (m n : ℕ) → (m == n) ≡ true → m ≡ n
+pub eq_true : (m n : ℕ) → (m == n) ≡ true → m ≡ n
 eq_true m n e = grind (arith, nat_tests)
 
 true_eq : (m n : ℕ) → m ≡ n → (m == n) ≡ true
 true_eq m n e = grind (arith, nat_tests)
-
-not_true : (b : Bool) → (b ≡ true → ⊥) → b ≡ false
-not_true true f = absurd (f refl)
-not_true false f = refl
 
 pub has_is : (b : Bounds) (i : ℕ) → list_any (λ j. j == i) (indexes b) ≡ has_index b i
 has_is b i =
@@ -174,25 +166,3 @@ bits_among all v b =
     any_swap (λ i other. bytes_eq other (bit_name v i)) (indexes b) all
     ∙ any_same (λ other. list_any (λ i. bytes_eq other (bit_name v i)) (indexes b)) (has_bit_in v (Some b)) all
     (λ other. any_same (λ i. bytes_eq other (bit_name v i)) (λ i. bytes_eq (bit_name v i) other) (indexes b) (λ i. name_symm other (bit_name v i)))
-
--- the vectors that a list of names declares
-pub declared_bits : (kind : Declared) (range : Option Range) (names all : List (List ℕ))
-    → have_bits (map (declaration_of kind range) names) all ≡ list_any (λ vector. list_any (has_bit_in (plain_of vector) (option_map bounds_of range)) all) names
-declared_bits kind range names all = any_map (λ d. list_any (has_bit_in d.name d.bounds) all) (declaration_of kind range) names
-
-pub no_vectors : (names all : List (List ℕ)) → list_any (λ vector. list_any (has_bit_in (plain_of vector) None) all) names ≡ false
-no_vectors names all = any_same (λ vector. list_any (has_bit_in (plain_of vector) None) all) (λ vector. false) names (λ vector. any_none all) ∙ any_none names
-
-pub vectors_in : (s : Statement) (kind : Declared) (range : Option Range) (names listed : List (List ℕ)) (bounds : Option Bounds) → s ≡ statements.Declare kind range names → bounds ≡ option_map bounds_of range → listed ≡ names
-    → (all : List (List ℕ)) → list_any (λ vector. list_any (has_bit_in (plain_of vector) bounds) all) listed ≡ have_bits (declarations_in s) all
-vectors_in s kind range names listed bounds is same list all =
-    ap (λ b. list_any (λ vector. list_any (has_bit_in (plain_of vector) b) all) listed) same
-    ∙ ap (list_any (λ vector. list_any (has_bit_in (plain_of vector) (option_map bounds_of range)) all)) list
-    ∙ sym (declared_bits kind range names all)
-    ∙ ap (λ s. have_bits (declarations_in s) all) (sym is)
-
--- what is found is told by another word
-pub told_as : {E : Type 0} (r : Result Bool E) (P : List (List ℕ) → Type 0) (f g : List (List ℕ) → Bool) → ((all : List (List ℕ)) → f all ≡ g all) → IfOk r (λ found. (all : List (List ℕ)) → P all → found ≡ f all)
-    → IfOk r (λ found. (all : List (List ℕ)) → P all → found ≡ g all)
-told_as (Ok found) P f g same h = λ all p. h all p ∙ same all
-told_as (Err e) P f g same h = h

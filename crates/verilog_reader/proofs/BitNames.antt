@@ -1,5 +1,5 @@
 -- The names of bits: a base, an index and the brackets round it.
-use Rattle.std.proofs.Common.{◌≡◌, ℕ, zero, suc, ◌+◌, ◌-◌, ◌*◌, ◌^◌, ◌<◌, ◌≤◌, Bool, true, false, cond, ◌&&◌, ◌||◌, List, [], ◌∷◌, ◌++◌, length, get_or, decimal, Option, Some, None, MatchOption, inl, inr, ⊎_elim, refl, sym, ap, ◌∙◌, subst, arith, rules}
+use Rattle.std.proofs.Common.{◌≡◌, ℕ, ◌^◌, ◌<◌, ◌≤◌, Bool, true, false, ◌&&◌, ◌||◌, List, [], ◌∷◌, ◌++◌, length, get_or, decimal, Option, Some, None, MatchOption, ⊎_elim, refl, sym, ap, ◌∙◌, arith, rules}
 use Rattle.std.specs.Prelude.{◌==◌, fold}
 use Rattle.std.specs.List.{list_any, list_all}
 use Rattle.std.proofs.lemmas.Bool.{cases_eq}
@@ -123,10 +123,6 @@ not_open name front closed none base i h e =
 pub not_plain : (name front start digits : List ℕ) → name ≡ front ++ 93 ∷ [] → front ≡ start ++ 91 ∷ digits → has_open digits ≡ false → ((i : ℕ) → i ≤ 65535 → digits ≡ decimal i → ⊥) → IsNoBit name
 not_plain name front start digits closed is none other base i h e =
     other i h (last_cut start digits base (decimal i) none (decimal_no_open i h) (sym is ∙ before_bracket front base i (sym closed ∙ e))).back
-
-pub bit_is : (name front start digits : List ℕ) (i : ℕ) → name ≡ front ++ 93 ∷ [] → front ≡ start ++ 91 ∷ digits → digits ≡ decimal i → name ≡ bit_name start i
-bit_is name front start digits i closed is same =
-    closed ∙ ap (λ (l : List ℕ). l ++ 93 ∷ []) (is ∙ ap (λ (l : List ℕ). start ++ 91 ∷ l) same) ∙ sym (bit_parts start i)
 
 -- a name is that of one bit only
 pub record IsSameBit (base other : List ℕ) (i j : ℕ) : Type 0 where

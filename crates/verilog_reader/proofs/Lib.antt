@@ -7,6 +7,7 @@ pub mod NameLists
 pub mod BitLookups
 pub mod Again
 pub mod Undeclared
+pub mod Clean
 pub mod SeenMore
 pub mod Firsts
 pub mod Counting

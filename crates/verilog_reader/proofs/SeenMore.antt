@@ -1,9 +1,9 @@
 -- What the check of names has seen, as a statement is added.
-use Rattle.std.proofs.Common.{◌≡◌, ℕ, zero, suc, ◌+◌, ◌-◌, ◌<◌, Bool, true, false, cond, not, ◌&&◌, ◌||◌, nat_lt, List, [], ◌∷◌, ◌++◌, length, map, get_or, take, drop, decimal, Option, Some, None, option_map, refl, sym, ap, ◌∙◌, subst, length-append, arith}
-use Rattle.std.specs.List.{list_any, list_all, flat_map}
+use Rattle.std.proofs.Common.{◌≡◌, ℕ, zero, suc, ◌-◌, Bool, true, false, not, ◌&&◌, ◌||◌, List, [], ◌∷◌, ◌++◌, length, map, take, drop, decimal, Option, Some, None, option_map, refl, sym, ap, ◌∙◌, subst, length-append, arith}
+use Rattle.std.specs.List.{list_any, flat_map}
 use Rattle.std.specs.Str.{bytes_eq}
 use Rattle.std.proofs.Math.Seq.{drop-append_seam}
-use Rattle.std.proofs.lemmas.List.{take_more, append-nil}
+use Rattle.std.proofs.lemmas.List.{append-nil}
 use Rattle.std.proofs.lemmas.List.Concat.{flat_map-append}
 use Rattle.std.proofs.lemmas.List.Folds.{list_any-append, list_all-append}
 use Rattle.std.proofs.lemmas.Slice.Eq.{bytes_eq-Decides}
@@ -19,22 +19,12 @@ use Rattle.verilog_reader.specs.Declarations.{Declaration, declaration_of, bound
 use Rattle.verilog_reader.specs.Faults.{has_twice, any_again, instances_named, instance_names, pins_in, has_bit_in, scalars_in, scalars, are_bits, have_bits, bad_twice, is_bad_number, is_bad_range, range_in}
 use Rattle.verilog_reader.specs.Steps.{has_bad_number, are_small, first_kept}
 use Rattle.verilog_reader.specs.NameSets.{HasNames}
-use Rattle.verilog_reader.specs.Seen.{Keeps, is_small, have_small, is_closed, Adds, IsSeen, Sees, Tells}
-use Rattle.verilog_reader.proofs.AnyLemmas.{or_true, or_false, and_parts, any_none}
+use Rattle.verilog_reader.specs.Seen.{is_small, have_small, is_bit, is_closed, IsClean, Adds, IsSeen, Tells}
+use Rattle.verilog_reader.proofs.AnyLemmas.{or_true, or_false, or_false_left, or_false_right, not_true, and_parts, any_same}
 use Rattle.verilog_reader.proofs.BitNames.{bit_parts}
-use Rattle.verilog_reader.proofs.BitLookups.{none_from}
-
-or_false_left : (a b : Bool) → (a || b) ≡ false → a ≡ false
-or_false_left true b h = h
-or_false_left false b h = refl
-
-or_false_right : (a b : Bool) → (a || b) ≡ false → b ≡ false
-or_false_right true b h = cc
-or_false_right false b h = h
-
-not_true : (b : Bool) → (b ≡ true → ⊥) → b ≡ false
-not_true true f = absurd (f refl)
-not_true false f = refl
+use Rattle.verilog_reader.proofs.BitLookups.{none_from, are_bits_is}
+use Rattle.verilog_reader.proofs.Clean.{scalars_stay}
+use Rattle.verilog_reader.proofs.Undeclared.{scalar_names}
 
 -- the name of a bit ends with a closing bracket
 closed_end : (xs : List ℕ) → is_closed (xs ++ 93 ∷ []) ≡ true
@@ -51,77 +41,106 @@ no_bit_of v (Some b) name other =
     none_from (λ j. bytes_eq (bit_name v j) name) b 0 (width b)
     (λ m lt. not_true (bytes_eq (bit_name v (index_at b m)) name) (λ e. let wrong = sym other ∙ sym (ap is_closed ((bytes_eq-Decides (bit_name v (index_at b m)) name).0 e)) ∙ bit_closed v (index_at b m) in cc))
 
-no_bits_of : (v : List ℕ) (o : Option Bounds) (names : List (List ℕ)) → list_any is_closed names ≡ false → list_any (has_bit_in v o) names ≡ false
+pub no_bits_of : (v : List ℕ) (o : Option Bounds) (names : List (List ℕ)) → list_any is_closed names ≡ false → list_any (has_bit_in v o) names ≡ false
 no_bits_of v o [] other = refl
 no_bits_of v o (name ∷ names) other =
     ap (λ t. t || list_any (has_bit_in v o) names) (no_bit_of v o name (or_false_left (is_closed name) (list_any is_closed names) other)) ∙ no_bits_of v o names (or_false_right (is_closed name) (list_any is_closed names) other)
-
-pub no_closed : (ds : List Declaration) (names : List (List ℕ)) → list_any is_closed names ≡ false → have_bits ds names ≡ false
-no_closed [] names other = refl
-no_closed (d ∷ ds) names other = ap (λ t. t || have_bits ds names) (no_bits_of d.name d.bounds names other) ∙ no_closed ds names other
 
 -- what one statement more adds
 flat_last : {X : Type 0} (f : Placed → List X) (before : List Placed) (p : Placed) → flat_map f before ++ f p ≡ flat_map f (before ++ p ∷ [])
 flat_last f before p = sym (flat_map-append f before (p ∷ []) ∙ ap (λ l. flat_map f before ++ l) (append-nil (f p)))
 
-pub record IsAdded (again repeats : Bool) (all : List Placed) (names : List (List ℕ)) (s : Statement) (old new : Seen) : Type 0 where
-  pub named : names ≡ scalars_in (declarations all) s
-  pub nets : (before : List (List ℕ)) → HasNames old.scalars before → HasNames new.scalars (before ++ names)
-  pub closed : new.closed ≡ (old.closed || list_any is_closed names)
-  pub declared : (before : List Declaration) → Keeps old.declared before → Adds again new.declared before (declarations_in s)
-  pub instances : (before : List (List ℕ)) → HasNames old.instances before → (repeats ≡ list_any (has before) (instances_named s)) × HasNames new.instances (before ++ instances_named s)
-
-module _ (again repeats : Bool) (all : List Placed) (names : List (List ℕ)) (old new : Seen) (before : List Placed) (p : Placed) (seen : IsSeen all before old) where
-  seen_more : IsAdded again repeats all names p.statement old new → again ≡ false → IsSeen all (before ++ p ∷ []) new
-  seen_more a e =
-      let so = λ (x : Placed). scalars_in (declarations all) x.statement in
-      let nets = ap (λ l. scalars (declarations all) before ++ l) a.named ∙ flat_last so before p in
-      record {
-        declared = λ q. (a.declared (declarations before) seen.declared).kept e q ∙ ap (λ l. first_kept l q) (flat_last (λ x. declarations_in x.statement) before p);
-        instances = λ q. (a.instances (instance_names before) seen.instances).1 q ∙ ap (λ l. has l q.now) (flat_last (λ x. instances_named x.statement) before p);
-        nets = λ q. a.nets (scalars (declarations all) before) seen.nets q ∙ ap (λ l. has l q.now) nets;
-        closed = a.closed ∙ ap (λ t. t || list_any is_closed names) seen.closed ∙ sym (list_any-append is_closed (scalars (declarations all) before) names) ∙ ap (list_any is_closed) nets;
-      }
-
-  sees_it : IsAdded again repeats all names p.statement old new → Sees (again || repeats) all before p new
-  sees_it a = record {
-    is = ap (λ t. t || repeats) (a.declared (declarations before) seen.declared).is ∙ ap (λ t. any_again (declarations before) (declarations_in p.statement) || t) (a.instances (instance_names before) seen.instances).0;
-    kept = λ e. seen_more a (or_false_left again repeats e);
-  }
-
-  pub sees : (s : Statement) → p.statement ≡ s → IsAdded again repeats all names s old new → Sees (again || repeats) all before p new
-  sees s is a = sees_it (subst (λ s. IsAdded again repeats all names s old new) (sym is) a)
+-- the scalars of a statement aren't bits either, also of what it declares itself
+scalars_clean : (s : Statement) (ds before : List Declaration) → any_again before (declarations_in s) ≡ false → are_bits before (scalars_in ds s) ≡ false → IsClean (before ++ declarations_in s) (scalars_in ds s)
+scalars_clean (statements.Module name ports) ds before good none = refl
+scalars_clean (statements.Declare kind None names) ds before good none =
+    let so = scalars_in ds (statements.Declare kind None names) in
+    any_same (is_bit (before ++ map (declaration_of kind None) names)) (is_bit before) so (scalars_stay kind names before good) ∙ sym (are_bits_is before so) ∙ none
+scalars_clean (statements.Declare kind (Some range) names) ds before good none =
+    ap (λ l. list_any (is_bit (before ++ map (declaration_of kind (Some range)) names)) (l ++ [])) (scalar_names kind (Some range) names)
+scalars_clean (statements.Assign left right) ds before good none =
+    let so = scalars_in ds (statements.Assign left right) in
+    ap (λ l. list_any (is_bit l) so) (append-nil before) ∙ sym (are_bits_is before so) ∙ none
+scalars_clean (statements.Instance cell name connections) ds before good none =
+    let so = scalars_in ds (statements.Instance cell name connections) in
+    ap (λ l. list_any (is_bit l) so) (append-nil before) ∙ sym (are_bits_is before so) ∙ none
 
 -- the parts of the test in another order
-in_order : (a b c d e f : Bool) → ((((a || d) || e) || f) || (b || c)) ≡ (((((a || b) || c) || d) || e) || f)
+in_order : (a b c d e f : Bool) → ((((a || d) || e) || (b || f)) || c) ≡ (((((a || b) || c) || d) || e) || f)
 in_order true b c d e f = refl
-in_order false true c d e f = or_true ((d || e) || f)
+in_order false true c d e f = ap (λ t. t || c) (or_true (d || e))
 in_order false false true d e f = or_true ((d || e) || f)
 in_order false false false true e f = refl
 in_order false false false false true f = refl
 in_order false false false false false f = or_false f
 
-module _ (itself scalar bit again : Bool) (all before : List Placed) (p : Placed) (new : Seen) (s : Statement) (is : p.statement ≡ s) where
-  all_of : itself ≡ (has_twice (ports_in s) || has_twice (pins_in s)) → scalar ≡ are_bits (declarations before) (scalars_in (declarations all) s)
-      → bit ≡ have_bits (declarations_in s) (scalars (declarations all) before)
-      → again ≡ (any_again (declarations before) (declarations_in p.statement) || list_any (has (instance_names before)) (instances_named p.statement))
-      → (((itself || scalar) || bit) || again) ≡ bad_twice all before p
+-- what the code finds out at a statement
+pub record IsAdded (itself bits stands again : Bool) (all before : List Placed) (names : List (List ℕ)) (s : Statement) (old new : Seen) : Type 0 where
+  pub named : names ≡ scalars_in (declarations all) s
+  pub twice : itself ≡ (has_twice (ports_in s) || has_twice (pins_in s))
+  pub among : bits ≡ are_bits (declarations before) names
+  pub adds : Adds stands new.declared (declarations before) (declarations_in s) (scalars (declarations all) before)
+  pub named_again : again ≡ list_any (has (instance_names before)) (instances_named s)
+  pub instances : HasNames new.instances (instance_names before ++ instances_named s)
+  pub nets : HasNames new.nets.names (scalars (declarations all) before ++ names)
+  pub closed : new.nets.closed ≡ (old.nets.closed || list_any is_closed names)
+
+module _ (itself bits stands again : Bool) (all before : List Placed) (names : List (List ℕ)) (old new : Seen) (p : Placed) (seen : IsSeen all before old) where
+  abbrev Added : Statement → Type 0
+  Added s = IsAdded itself bits stands again all before names s old new
+
+  abbrev bad : Bool
+  bad = ((itself || bits) || stands) || again
+
+  bad_is : Added p.statement → bad ≡ bad_twice all before p
   unfolding bad_twice
-  all_of i c b a =
-      let it = i ∙ sym (ap (λ s. has_twice (ports_in s) || has_twice (pins_in s)) is) in
-      let sc = c ∙ sym (ap (λ s. are_bits (declarations before) (scalars_in (declarations all) s)) is) in
-      let bi = b ∙ sym (ap (λ s. have_bits (declarations_in s) (scalars (declarations all) before)) is) in
-      ap (λ t. ((t || scalar) || bit) || again) it
-      ∙ ap (λ t. (((has_twice (ports_in p.statement) || has_twice (pins_in p.statement)) || t) || bit) || again) sc
-      ∙ ap (λ t. (((has_twice (ports_in p.statement) || has_twice (pins_in p.statement)) || are_bits (declarations before) (scalars_in (declarations all) p.statement)) || t) || again) bi
-      ∙ ap (λ t. (((has_twice (ports_in p.statement) || has_twice (pins_in p.statement)) || are_bits (declarations before) (scalars_in (declarations all) p.statement)) || have_bits (declarations_in p.statement) (scalars (declarations all) before)) || t) a
+  bad_is a =
+      ap (λ t. ((t || bits) || stands) || again) a.twice
+      ∙ ap (λ t. (((has_twice (ports_in p.statement) || has_twice (pins_in p.statement)) || t) || stands) || again) (a.among ∙ ap (are_bits (declarations before)) a.named)
+      ∙ ap (λ t. (((has_twice (ports_in p.statement) || has_twice (pins_in p.statement)) || are_bits (declarations before) (scalars_in (declarations all) p.statement)) || t) || again) a.adds.is
+      ∙ ap (λ t. (((has_twice (ports_in p.statement) || has_twice (pins_in p.statement)) || are_bits (declarations before) (scalars_in (declarations all) p.statement))
+      || (any_again (declarations before) (declarations_in p.statement) || have_bits (declarations_in p.statement) (scalars (declarations all) before))) || t) a.named_again
       ∙ in_order (has_twice (ports_in p.statement)) (any_again (declarations before) (declarations_in p.statement)) (list_any (has (instance_names before)) (instances_named p.statement)) (has_twice (pins_in p.statement))
       (are_bits (declarations before) (scalars_in (declarations all) p.statement)) (have_bits (declarations_in p.statement) (scalars (declarations all) before))
 
-  pub tells : itself ≡ (has_twice (ports_in s) || has_twice (pins_in s)) → scalar ≡ are_bits (declarations before) (scalars_in (declarations all) s)
-      → bit ≡ have_bits (declarations_in s) (scalars (declarations all) before) → Sees again all before p new
-      → Tells (((itself || scalar) || bit) || again) all before p new
-  tells i c b a = record { is = all_of i c b a.is; kept = λ e. a.kept (or_false_right ((itself || scalar) || bit) again e) }
+  abbrev so : List (List ℕ)
+  so = scalars (declarations all) before
+
+  nets_more : Added p.statement → so ++ names ≡ scalars (declarations all) (before ++ p ∷ [])
+  nets_more a = ap (λ l. so ++ l) a.named ∙ flat_last (λ x. scalars_in (declarations all) x.statement) before p
+
+  declared_more : declarations before ++ declarations_in p.statement ≡ declarations (before ++ p ∷ [])
+  declared_more = flat_last (λ x. declarations_in x.statement) before p
+
+  clean_more : Added p.statement → bits ≡ false → stands ≡ false → IsClean (declarations (before ++ p ∷ [])) (scalars (declarations all) (before ++ p ∷ []))
+  clean_more a none good =
+      let ds = declarations before ++ declarations_in p.statement in
+      let no_again = or_false_left (any_again (declarations before) (declarations_in p.statement)) (have_bits (declarations_in p.statement) so) (sym a.adds.is ∙ good) in
+      let behind : IsClean ds names = ap (list_any (is_bit ds)) a.named ∙ scalars_clean p.statement (declarations all) (declarations before) no_again (ap (are_bits (declarations before)) (sym a.named) ∙ sym a.among ∙ none) in
+      let both : IsClean ds (so ++ names) = list_any-append (is_bit ds) so names ∙ ap (λ t. t || list_any (is_bit ds) names) (a.adds.clean good) ∙ behind in
+      ap (λ l. list_any (is_bit l) (scalars (declarations all) (before ++ p ∷ []))) (sym declared_more) ∙ ap (list_any (is_bit ds)) (sym (nets_more a)) ∙ both
+
+  seen_more : Added p.statement → bad ≡ false → IsSeen all (before ++ p ∷ []) new
+  seen_more a e =
+      let front = or_false_left ((itself || bits) || stands) again e in
+      let good = or_false_right (itself || bits) stands front in
+      let none = or_false_right itself bits (or_false_left (itself || bits) stands front) in
+      record {
+        instances = λ q. a.instances q ∙ ap (λ l. has l q.now) (flat_last (λ x. instances_named x.statement) before p);
+        known = record {
+          keeps = λ q. a.adds.kept good q ∙ ap (λ l. first_kept l q) declared_more;
+          are_nets = record {
+            names = λ q. a.nets q ∙ ap (λ l. has l q.now) (nets_more a);
+            closed = a.closed ∙ ap (λ t. t || list_any is_closed names) seen.known.are_nets.closed ∙ sym (list_any-append is_closed so names) ∙ ap (list_any is_closed) (nets_more a);
+          };
+          clean = clean_more a none good;
+        };
+      }
+
+  pub tells : (s : Statement) → p.statement ≡ s → Added s → Tells bad all before p new
+  tells s is a =
+      let here = subst Added (sym is) a in
+      record { is = bad_is here; kept = seen_more here }
 
 -- small numbers
 small_range : (range : Option Range) → is_bad_range range ≡ false → is_small (option_map bounds_of range) ≡ true

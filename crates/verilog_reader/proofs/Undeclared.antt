@@ -1,16 +1,15 @@
 -- The scalar nets of statements, as names are put behind each other.
-use Rattle.std.proofs.Common.{◌≡◌, ℕ, ◌+◌, ◌<◌, ◌≤◌, Bool, true, false, cond, not, List, [], ◌∷◌, ◌++◌, length, map, get_or, take, Option, Some, None, option_map, is_some, refl, sym, ap, ◌∙◌, append_assoc, Bor}
+use Rattle.std.proofs.Common.{◌≡◌, ℕ, ◌+◌, ◌<◌, Bool, true, false, cond, not, List, [], ◌∷◌, ◌++◌, length, map, get_or, take, Option, Some, None, is_some, refl, sym, ap, ◌∙◌, append_assoc, Bor}
 use Rattle.std.specs.List.{flat_map, filter}
 use Rattle.std.proofs.lemmas.List.{take_more, append-nil, map-append}
 use Rattle.std.proofs.lemmas.List.Concat.{flat_map-append}
 use Rattle.verilog_syntax.specs.declared.statement.Declared.{Declared}
 use Rattle.verilog_syntax.specs.declared.statement.Range.{Range}
 use Rattle.verilog_syntax.specs.declared.statement.Item.{Item}
-use Rattle.verilog_syntax.specs.declared.statement.Connection.{Connection}
 use Rattle.verilog_syntax.specs.declared.statement.Statement.{Statement}
 use Rattle.verilog_syntax.specs.declared.statement.Statement.TheVariants as statements
 use Rattle.verilog_reader.specs.Values.{plain_of}
-use Rattle.verilog_reader.specs.Declarations.{Declaration, declaration_of, is_declared, connection_items, mentions_of, undeclared_in}
+use Rattle.verilog_reader.specs.Declarations.{Declaration, declaration_of, is_declared, mentions_of, undeclared_in}
 use Rattle.verilog_reader.specs.Faults.{is_vector, scalars_in}
 use Rattle.verilog_reader.proofs.NameLists.{now_of}
 
@@ -36,15 +35,6 @@ pub items_more : (ds : List Declaration) (xs : List Item) (i : ℕ) (d : Item) �
 items_more ds xs i d lt =
     ap (undeclared_items ds) (take_more xs i d lt) ∙ items-append ds (take i xs) (get_or xs i d ∷ [])
     ∙ ap (λ l. undeclared_items ds (take i xs) ++ undeclared_in ds l) (append-nil (mentions_of (get_or xs i d)))
-
--- one connection more
-pub connections_more : (ds : List Declaration) (xs : List Connection) (i : ℕ) (d : Connection) → i < length xs
-    → undeclared_items ds (connection_items (take (i + 1) xs)) ≡ undeclared_items ds (connection_items (take i xs)) ++ undeclared_items ds (get_or xs i d).expression.items
-connections_more ds xs i d lt =
-    ap (λ l. undeclared_items ds (connection_items l)) (take_more xs i d lt)
-    ∙ ap (undeclared_items ds) (flat_map-append (λ (c : Connection). c.expression.items) (take i xs) (get_or xs i d ∷ []))
-    ∙ items-append ds (connection_items (take i xs)) (connection_items (get_or xs i d ∷ []))
-    ∙ ap (λ l. undeclared_items ds (connection_items (take i xs)) ++ undeclared_items ds l) (append-nil (get_or xs i d).expression.items)
 
 -- what was pushed behind what
 pub pushed_on : (new mid front back more total : List (List ℕ)) → new ≡ mid ++ more → mid ≡ front ++ back → total ≡ back ++ more → new ≡ front ++ total

@@ -7,10 +7,11 @@ use Rattle.verilog_syntax.specs.declared.reading.Placed.{Placed}
 use Rattle.verilog_reader.specs.declared.bounds.Bounds.{Bounds}
 use Rattle.verilog_reader.specs.declared.declared.First.{First}
 use Rattle.verilog_reader.specs.declared.declared.DeclaredNames.{DeclaredNames}
+use Rattle.verilog_reader.specs.declared.twice.Nets.{Nets}
 use Rattle.verilog_reader.specs.declared.twice.Seen.{Seen}
 use Rattle.verilog_reader.specs.Values.{plain_of}
-use Rattle.verilog_reader.specs.Declarations.{Declaration, declarations_in, declarations, has, bounds_in, is_port_kind, is_wire}
-use Rattle.verilog_reader.specs.Faults.{same_bounds, has_bit_in, any_again, instances_named, instance_names, scalars, bad_twice}
+use Rattle.verilog_reader.specs.Declarations.{Declaration, declarations, first_of, bounds_in, is_port_kind, is_wire}
+use Rattle.verilog_reader.specs.Faults.{same_bounds, stands_again, any_again, has_bit_in, have_bits, instance_names, scalars, bad_twice}
 use Rattle.verilog_reader.specs.NameSets.{HasNames}
 use Rattle.verilog_reader.specs.Steps.{first_in, first_kept}
 
@@ -30,10 +31,6 @@ have_small ds = list_all (λ d. is_small d.bounds) ds
 abbrev pub may_stand_beside : First → Declared → Option Bounds → Bool
 may_stand_beside first kind bounds = is_port_kind first.kind && is_wire kind && same_bounds first.bounds bounds
 
-abbrev pub stands_beside : Option First → Declared → Option Bounds → Bool
-stands_beside None kind bounds = false
-stands_beside (Some first) kind bounds = not (may_stand_beside first kind bounds)
-
 -- the name is that of a bit of a declared vector
 abbrev pub is_bit : List Declaration → List ℕ → Bool
 is_bit ds name = list_any (λ d. has_bit_in d.name (bounds_in ds d.name) name) ds
@@ -42,28 +39,46 @@ is_bit ds name = list_any (λ d. has_bit_in d.name (bounds_in ds d.name) name) d
 abbrev pub is_closed : List ℕ → Bool
 is_closed name = bytes_eq (93 ∷ []) (drop (length name - 1) name)
 
--- what a name is declared as
-abbrev pub declared_as : First → List ℕ → Declaration
-declared_as first name = record { name = plain_of name; kind = first.kind; bounds = first.bounds }
+-- none of the names is that of a bit of a declared vector
+abbrev pub IsClean : List Declaration → List (List ℕ) → Type 0
+IsClean ds names = list_any (is_bit ds) names ≡ false
 
--- declarations stand behind others: whether a name may not stand again, and if none, they are kept too
-pub record Adds (again : Bool) (names : DeclaredNames) (before ds : List Declaration) : Type 0 where
-  pub is : again ≡ any_again before ds
-  pub kept : again ≡ false → Keeps names (before ++ ds)
+-- the scalar nets so far
+pub record AreNets (nets : Nets) (all : List (List ℕ)) : Type 0 where
+  pub names : HasNames nets.names all
+  pub closed : nets.closed ≡ list_any is_closed all
+
+-- declarations and scalar nets of which none is a bit
+pub record AreKnown (names : DeclaredNames) (nets : Nets) (before : List Declaration) (all : List (List ℕ)) : Type 0 where
+  pub keeps : Keeps names before
+  pub are_nets : AreNets nets all
+  pub clean : IsClean before all
+
+-- what a name is declared as
+abbrev pub declared_at : First → List ℕ → Declaration
+declared_at first name = record { name = name; kind = first.kind; bounds = first.bounds }
+
+abbrev pub declared_as : First → List ℕ → Declaration
+declared_as first name = declared_at first (plain_of name)
+
+-- a declaration stands behind others: whether it may not, or has a bit with the name of a scalar net; and if not, it is kept too
+pub record AddsOne (bad : Bool) (names : DeclaredNames) (before : List Declaration) (d : Declaration) (all : List (List ℕ)) : Type 0 where
+  pub is : bad ≡ (stands_again (first_of d.name before) d || list_any (has_bit_in d.name d.bounds) all)
+  pub kept : bad ≡ false → Keeps names (before ++ d ∷ [])
+  pub clean : bad ≡ false → IsClean (before ++ d ∷ []) all
+
+-- the same of declarations
+pub record Adds (bad : Bool) (names : DeclaredNames) (before ds : List Declaration) (all : List (List ℕ)) : Type 0 where
+  pub is : bad ≡ (any_again before ds || have_bits ds all)
+  pub kept : bad ≡ false → Keeps names (before ++ ds)
+  pub clean : bad ≡ false → IsClean (before ++ ds) all
 
 -- what the check has seen of the statements before, where it knows all
 pub record IsSeen (all before : List Placed) (seen : Seen) : Type 0 where
-  pub declared : Keeps seen.declared (declarations before)
   pub instances : HasNames seen.instances (instance_names before)
-  pub nets : HasNames seen.scalars (scalars (declarations all) before)
-  pub closed : seen.closed ≡ list_any is_closed (scalars (declarations all) before)
+  pub known : AreKnown seen.declared seen.nets (declarations before) (scalars (declarations all) before)
 
--- a statement is seen: whether one of its names may not stand again, and if none, what is seen then
-pub record Sees (again : Bool) (all before : List Placed) (p : Placed) (seen : Seen) : Type 0 where
-  pub is : again ≡ (any_again (declarations before) (declarations_in p.statement) || list_any (has (instance_names before)) (instances_named p.statement))
-  pub kept : again ≡ false → IsSeen all (before ++ p ∷ []) seen
-
--- the same, where all that makes a statement bad is told
+-- a statement is seen: whether it is bad, and if not, what is seen then
 pub record Tells (bad : Bool) (all before : List Placed) (p : Placed) (seen : Seen) : Type 0 where
   pub is : bad ≡ bad_twice all before p
   pub kept : bad ≡ false → IsSeen all (before ++ p ∷ []) seen

@@ -1,7 +1,7 @@
 //! The scalar nets of statements.
-ghost use Rattle.std.specs.Prelude.{◌≡◌, ◌∷◌, ◌++◌, [], List, ℕ, map, is_some, if◌then◌else◌, IfOk, OnOk, MatchOption};
-ghost use Rattle.verilog_reader.specs.Values.{plain_of};
+ghost use Rattle.std.specs.Prelude.{◌≡◌, ◌∷◌, ◌++◌, [], List, map, is_some, if◌then◌else◌, IfOk, OnOk, MatchOption};
 ghost use Rattle.std.specs.List.{flat_map};
+ghost use Rattle.verilog_reader.specs.Values.{plain_of};
 ghost use Rattle.verilog_reader.specs.Declarations.{Declaration, connection_items, mentions_of, undeclared_in};
 ghost use Rattle.verilog_reader.specs.Faults.{scalars_in};
 ghost use Rattle.verilog_reader.specs.Seen.{Keeps};
@@ -27,10 +27,8 @@ fn mention_of<'a>(item: &Item<'a>) -> Option<&'a [u8]>
 fn undeclared_of<'a>(all: &DeclaredNames, item: &Item<'a>) -> Option<&'a [u8]>
     ensures value { (ds : List Declaration) → Keeps all.now ds → MatchOption result (undeclared_in ds (mentions_of item.now) ≡ []) (λ name. undeclared_in ds (mentions_of item.now) ≡ name.now ∷ []) }
 {
-    match mention_of(item) {
-        Some(name) => { if all.has(name) { None } else { Some(name) } }
-        None => None,
-    }
+    let name = mention_of(item)?;
+    if all.has(name) { None } else { Some(name) }
 }
 
 /// Puts the names that operands mention and none declares behind the last name.

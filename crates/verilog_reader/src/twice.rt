@@ -1,15 +1,17 @@
-//! Names that stand twice.
-ghost use Rattle.std.specs.Prelude.{◌≡◌, ◌||◌, ◌<◌, ◌∷◌, ◌++◌, [], List, ℕ, Bool, true, false, Option, Some, map, option_map, IfOk};
+//! The check for names that stand twice.
+//!
+//! `Seen` holds the names of the statements so far; each statement is tested beside them and added. A name is looked up in
+//! maps and sets. The bits of a vector are looked up one by one, but only at its first declaration, and only where a scalar
+//! net before has a name that ends as theirs do; so their number stays within what the number check allows.
+ghost use Rattle.std.specs.Prelude.{◌≡◌, ◌||◌, ◌++◌, [], List, ℕ, false, true, Some, map, IfOk};
 ghost use Rattle.std.specs.List.{list_any};
 ghost use Rattle.verilog_syntax.specs.declared.reading.Placed.{Placed};
 ghost use Rattle.verilog_syntax.specs.Reading.{Answers};
-ghost use Rattle.verilog_reader.specs.Values.{plain_of};
-ghost use Rattle.verilog_reader.specs.Declarations.{Declaration, declarations, ports_in, declaration_of, bounds_of, declarations_in, is_port_kind, is_wire, undeclared_in, mentions_of};
-ghost use Rattle.verilog_reader.specs.Faults.{has_twice, pins_in, scalars, check_twice, any_again, same_bounds, instances_named, has_bit_in, scalars_in, are_bits, have_bits, selects, is_bad_range, range_in};
+ghost use Rattle.verilog_reader.specs.Declarations.{Declaration, declarations, declarations_in, has, is_wire, ports_in};
+ghost use Rattle.verilog_reader.specs.Faults.{are_bits, check_twice, has_bit_in, has_twice, instances_named, is_bad_range, pins_in, range_in, same_bounds};
 ghost use Rattle.verilog_reader.specs.Steps.{are_small};
 ghost use Rattle.verilog_reader.specs.NameSets.{HasNames};
-ghost use Rattle.verilog_reader.specs.Declarations.{has};
-ghost use Rattle.verilog_reader.specs.Seen.{IsSeen, Sees, Tells, Keeps, Adds, declared_as, have_small, may_stand_beside, stands_beside, is_bit, is_closed};
+ghost use Rattle.verilog_reader.specs.Seen.{AreNets, AreKnown, AddsOne, Adds, IsSeen, Tells, Keeps, declared_at, declared_as, have_small, may_stand_beside, is_bit, is_closed};
 
 use crate::bit_names::split_bit;
 use crate::bounds::Bounds;
@@ -54,15 +56,6 @@ fn may_stand_beside(first: First, kind: Declared, bounds: Option<Bounds>) -> boo
     ensures value { result ≡ may_stand_beside first kind bounds }
 {
     is_port_kind(first.kind) && is_wire(kind) && same_bounds(first.bounds, bounds)
-}
-
-fn stands_beside(first: Option<First>, kind: Declared, bounds: Option<Bounds>) -> bool
-    ensures value { result ≡ stands_beside first kind bounds }
-{
-    match first {
-        Some(first) => !may_stand_beside(first, kind, bounds),
-        None => false,
-    }
 }
 
 /// Whether a name is that of a bit of a vector that is declared.
@@ -131,80 +124,86 @@ fn has_bit(
     Ok(false)
 }
 
-/// Whether one of some names is that of a bit of one of the vectors.
-fn have_bit(
-    alloc: Global,
-    names: &HashSet<&[u8]>,
-    vectors: &[Written],
-    bounds: Bounds,
-) -> Result<bool, NoMemory>
-    ensures value { IfOk result (λ found. (all : List (List ℕ)) → HasNames names.now all → found ≡ list_any (λ vector. list_any (has_bit_in (plain_of vector) (Some bounds)) all) vectors.now) }
-{
-    for vector in vectors {
-        if has_bit(alloc, names, plain_of(vector), bounds)? {
-            return Ok(true);
-        }
-    }
-    Ok(false)
+/// The scalar nets so far.
+#[derive(Drop)]
+struct Nets<'a> {
+    names: HashSet<&'a [u8]>,
+    /// One of the names ends as those of bits do; else no bit has one of them.
+    closed: bool,
 }
 
-/// Whether one of some names is that of a bit of what the names declare.
-fn have_bit_within(
+/// Whether one of the scalar nets has the name of a bit of the vector; without bounds it is none.
+fn has_bit_among(
     alloc: Global,
-    names: &HashSet<&[u8]>,
-    vectors: &[Written],
+    nets: &Nets,
+    vector: &[u8],
     bounds: Option<Bounds>,
 ) -> Result<bool, NoMemory>
-    ensures value { IfOk result (λ found. (all : List (List ℕ)) → HasNames names.now all → found ≡ list_any (λ vector. list_any (has_bit_in (plain_of vector) bounds) all) vectors.now) }
+    ensures value { IfOk result (λ found. (all : List (List ℕ)) → AreNets nets.now all → found ≡ list_any (has_bit_in vector.now bounds) all) }
 {
     match bounds {
-        Some(bounds) => have_bit(alloc, names, vectors, bounds),
+        Some(bounds) => {
+            if nets.closed {
+                has_bit(alloc, &nets.names, vector, bounds)
+            } else {
+                Ok(false)
+            }
+        }
         None => Ok(false),
     }
 }
 
-/// Whether one of some names is that of a bit of a vector that the statement declares.
-fn have_bits(alloc: Global, names: &HashSet<&[u8]>, statement: &Statement) -> Result<bool, NoMemory>
-    requires small { is_bad_range (range_in statement.now) ≡ false }
-    ensures value { IfOk result (λ found. (all : List (List ℕ)) → HasNames names.now all → found ≡ have_bits (declarations_in statement.now) all) }
+/// Adds a declaration, and says whether it may not stand, beside those before or beside the scalar nets.
+///
+/// The bits of a name that was declared before were tested then, and the scalar nets behind it beside them.
+fn add_name<'a>(
+    alloc: Global,
+    declared: &mut DeclaredNames<'a>,
+    nets: &Nets,
+    first: First,
+    name: &'a [u8],
+) -> Result<bool, NoMemory>
+    ensures value { IfOk result (λ bad. (before : List Declaration) (all : List (List ℕ)) → AreKnown declared.old nets.now before all → AddsOne bad declared.new before (declared_at first name.now) all) }
 {
-    match statement {
-        Statement::Declare {
-            range,
-            names: vectors,
-            ..
-        } => have_bit_within(alloc, names, vectors.as_slice(), range_bounds(range)),
-        Statement::Module { .. } | Statement::Assign { .. } | Statement::Instance { .. } => {
+    match declared.first_of(name) {
+        Some(known) => Ok(!may_stand_beside(known, first.kind, first.bounds)),
+        None => {
+            if has_bit_among(alloc, nets, name, first.bounds)? {
+                return Ok(true);
+            }
+            declared.add(name, first)?;
             Ok(false)
         }
     }
 }
 
-/// Adds what a list of names declares; whether one of them may not stand again.
-fn add_names_again<'a>(
+/// Adds what a list of names declares, up to one that may not stand, and says whether there is one.
+fn add_names_declared<'a>(
+    alloc: Global,
     declared: &mut DeclaredNames<'a>,
+    nets: &Nets,
     first: First,
     names: &[Written<'a>],
 ) -> Result<bool, NoMemory>
-    ensures value { IfOk result (λ again. (before : List Declaration) → Keeps declared.old before → Adds again declared.new before (map (declared_as first) names.now)) }
+    ensures value { IfOk result (λ bad. (before : List Declaration) (all : List (List ℕ)) → AreKnown declared.old nets.now before all → Adds bad declared.new before (map (declared_as first) names.now) all) }
 {
     for name in names {
-        let name = plain_of(name);
-        if stands_beside(declared.first_of(name), first.kind, first.bounds) {
+        if add_name(alloc, declared, nets, first, plain_of(name))? {
             return Ok(true);
         }
-        declared.add(name, first)?;
     }
     Ok(false)
 }
 
-/// Adds what a statement declares; whether a name of it may not stand again.
+/// Adds what a statement declares, and says whether a name of it may not stand.
 fn add_declarations<'a>(
+    alloc: Global,
     declared: &mut DeclaredNames<'a>,
+    nets: &Nets,
     statement: &Statement<'a>,
 ) -> Result<bool, NoMemory>
     requires small { is_bad_range (range_in statement.now) ≡ false }
-    ensures value { IfOk result (λ again. (before : List Declaration) → Keeps declared.old before → Adds again declared.new before (declarations_in statement.now)) }
+    ensures value { IfOk result (λ bad. (before : List Declaration) (all : List (List ℕ)) → AreKnown declared.old nets.now before all → Adds bad declared.new before (declarations_in statement.now) all) }
 {
     match statement {
         Statement::Declare { kind, range, names } => {
@@ -212,7 +211,7 @@ fn add_declarations<'a>(
                 kind: *kind,
                 bounds: range_bounds(range),
             };
-            add_names_again(declared, first, names.as_slice())
+            add_names_declared(alloc, declared, nets, first, names.as_slice())
         }
         Statement::Module { .. } | Statement::Assign { .. } | Statement::Instance { .. } => {
             Ok(false)
@@ -220,7 +219,7 @@ fn add_declarations<'a>(
     }
 }
 
-/// Adds the name of an instance; whether it stood before.
+/// Adds the name of an instance, and says whether it stood before.
 fn add_instance<'a>(
     instances: &mut HashSet<&'a [u8]>,
     statement: &Statement<'a>,
@@ -249,9 +248,7 @@ fn repeats_itself(alloc: Global, statement: &Statement) -> Result<bool, NoMemory
 struct Seen<'a> {
     declared: DeclaredNames<'a>,
     instances: HashSet<&'a [u8]>,
-    scalars: HashSet<&'a [u8]>,
-    /// One of the scalars ends as the names of bits do; else no bit has the name of one.
-    closed: bool,
+    nets: Nets<'a>,
 }
 
 impl<'a> Seen<'a> {
@@ -261,33 +258,11 @@ impl<'a> Seen<'a> {
         Seen {
             declared: DeclaredNames::new(alloc),
             instances: HashSet::new(alloc),
-            scalars: HashSet::new(alloc),
-            closed: false,
+            nets: Nets {
+                names: HashSet::new(alloc),
+                closed: false,
+            },
         }
-    }
-
-    /// Whether a bit of a vector that the statement declares has the name of a scalar so far.
-    fn bits_repeat(&self, alloc: Global, statement: &Statement) -> Result<bool, NoMemory>
-        requires small { is_bad_range (range_in statement.now) ≡ false }
-        ensures value { IfOk result (λ twice. (all : List Placed) (before : List Placed) → IsSeen all before self.now → twice ≡ have_bits (declarations_in statement.now) (scalars (declarations all) before)) }
-    {
-        if self.closed {
-            have_bits(alloc, &self.scalars, statement)
-        } else {
-            Ok(false)
-        }
-    }
-
-    /// Adds the names of a statement, and says whether one of them may not stand again.
-    fn add(&mut self, scalars: &[&'a [u8]], statement: &Statement<'a>) -> Result<bool, NoMemory>
-        requires small { is_bad_range (range_in statement.now) ≡ false }
-        ensures value { IfOk result (λ again. (all : List Placed) (before : List Placed) (p : Placed) → p.statement ≡ statement.now → map (λ name. name.now) scalars.now ≡ scalars_in (declarations all) statement.now → IsSeen all before self.old → Sees again all before p self.new) }
-    {
-        add_names(&mut self.scalars, scalars)?;
-        self.closed |= any_closed(scalars);
-        let again = add_declarations(&mut self.declared, statement)?;
-        let repeats = add_instance(&mut self.instances, statement)?;
-        Ok(again | repeats)
     }
 
     /// Adds a statement, and says whether it is bad beside those so far.
@@ -302,14 +277,16 @@ impl<'a> Seen<'a> {
     {
         let scalars = scalars_in(alloc, all, statement)?;
         let itself = repeats_itself(alloc, statement)?;
-        let scalar = are_bits(&self.declared, scalars.as_slice());
-        let bit = self.bits_repeat(alloc, statement)?;
-        let again = self.add(scalars.as_slice(), statement)?;
-        Ok(itself | scalar | bit | again)
+        let bits = are_bits(&self.declared, scalars.as_slice());
+        let stands = add_declarations(alloc, &mut self.declared, &self.nets, statement)?;
+        let again = add_instance(&mut self.instances, statement)?;
+        add_names(&mut self.nets.names, scalars.as_slice())?;
+        self.nets.closed |= any_closed(scalars.as_slice());
+        Ok(itself | bits | stands | again)
     }
 }
 
-/// Finds the first statement that gives a name which stood before to something else.
+/// Answers the first statement that gives a name to something else than a statement before it, or twice.
 pub(crate) fn check_twice(alloc: Global, statements: &[Placed]) -> Result<(), ReadFault>
     requires small { are_small statements.now ≡ true }
     ensures value { Answers result (check_twice statements.now) }

@@ -1,6 +1,6 @@
-use Rattle.std.proofs.Common.{◌≡◌, ◌≤◌, ◌+◌, ℕ, drop, take, decimal, sym, ◌∙◌, rules}
+use Rattle.std.proofs.Common.{◌≡◌, ◌≤◌, ◌+◌, ℕ, drop, take, decimal, ◌∙◌}
 use Rattle.std.proofs.lemmas.List.{take_rest}
-use Rattle.verilog_reader.proofs.BitNames.{not_closed, not_open, not_plain, bit_is}
+use Rattle.verilog_reader.proofs.BitNames.{not_closed, not_open, not_plain}
 use Rattle.verilog_reader.proofs.bit_names.split_bit.Goals as goal
 
 pub returns-in_err-front : goal.returns-in_err-front

@@ -1,4 +1,4 @@
-use Rattle.std.proofs.Common.{Bool, List, ℕ, get_or, take, ap, sym, ◌∙◌, rules}
+use Rattle.std.proofs.Common.{List, ℕ, get_or, take, ap, sym, ◌∙◌, rules}
 use Rattle.verilog_reader.specs.Declarations.{has}
 use Rattle.verilog_reader.proofs.NameLists.{now_of, now_last, added, first_behind, new_passes, new_fails, new_passed}
 use Rattle.verilog_reader.proofs.Passes.{was_there, was_new}

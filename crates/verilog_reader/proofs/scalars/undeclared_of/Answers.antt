@@ -8,13 +8,13 @@ use Rattle.verilog_reader.proofs.scalars.undeclared_of.Goals as goal
 pub returns-then-has : goal.returns-then-has
 returns-then-has c = record {
   value = λ ds keeps.
-      let name = c.in-Some.name.now in
-      no_undeclared ds (mentions_of c.args.item.now) name c.in-Some.ensures.value (sym (c.has.ensures.value ∙ ap (λ (o : Option First). is_some o) (keeps name) ∙ declared_is ds name) ∙ c.if-has.true);
+      let name = c.in_ok-name.name.now in
+      no_undeclared ds (mentions_of c.args.item.now) name c.in_ok-name.ensures.value (sym (c.has.ensures.value ∙ ap (λ (o : Option First). is_some o) (keeps name) ∙ declared_is ds name) ∙ c.if-has.true);
 }
 
 pub returns-else-has : goal.returns-else-has
 returns-else-has c = record {
   value = λ ds keeps.
-      let name = c.in-Some.name.now in
-      one_undeclared ds (mentions_of c.args.item.now) name c.in-Some.ensures.value (sym (c.has.ensures.value ∙ ap (λ (o : Option First). is_some o) (keeps name) ∙ declared_is ds name) ∙ c.if-has.false);
+      let name = c.in_ok-name.name.now in
+      one_undeclared ds (mentions_of c.args.item.now) name c.in_ok-name.ensures.value (sym (c.has.ensures.value ∙ ap (λ (o : Option First). is_some o) (keeps name) ∙ declared_is ds name) ∙ c.if-has.false);
 }

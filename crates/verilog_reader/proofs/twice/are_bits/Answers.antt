@@ -1,4 +1,4 @@
-use Rattle.std.proofs.Common.{List, ℕ, get_or, sym, ◌∙◌}
+use Rattle.std.proofs.Common.{sym, ◌∙◌}
 use Rattle.verilog_reader.specs.Seen.{is_bit}
 use Rattle.verilog_reader.proofs.AnyLemmas.{any_map, any_passes, any_fails, any_passed}
 use Rattle.verilog_reader.proofs.BitLookups.{are_bits_is}

@@ -1,6 +1,6 @@
 use Rattle.std.proofs.Common.{◌≡◌, ◌++◌, List, ℕ, sym, ap, ◌∙◌, arith}
 use Rattle.verilog_reader.specs.Values.{bit_name}
-use Rattle.verilog_reader.specs.Declarations.{has, index_at, width}
+use Rattle.verilog_reader.specs.Declarations.{has, index_at}
 use Rattle.verilog_reader.proofs.BitLookups.{bit_passes, bit_fails, bit_passed, bits_among}
 use Rattle.verilog_reader.proofs.twice.has_bit.Goals as goal
 

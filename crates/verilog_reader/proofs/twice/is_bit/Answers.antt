@@ -1,6 +1,4 @@
-use Rattle.std.proofs.Common.{Option, sym, ap, ◌∙◌}
-use Rattle.verilog_reader.specs.declared.bounds.Bounds.{Bounds}
-use Rattle.verilog_reader.specs.declared.declared.First.{First}
+use Rattle.std.proofs.Common.{sym, ap, ◌∙◌}
 use Rattle.verilog_reader.specs.Faults.{selects}
 use Rattle.verilog_reader.specs.Steps.{kept_bounds}
 use Rattle.verilog_reader.specs.Seen.{is_bit}

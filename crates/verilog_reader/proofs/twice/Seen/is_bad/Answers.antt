@@ -1,6 +1,8 @@
-use Rattle.std.proofs.Common.{ap, ◌∙◌}
-use Rattle.verilog_reader.specs.Declarations.{declarations_in, declarations}
-use Rattle.verilog_reader.specs.Faults.{are_bits}
+use Rattle.std.proofs.Common.{◌++◌, ◌||◌, Bool, Bor, List, ℕ, ap, ◌∙◌}
+use Rattle.std.specs.List.{list_any}
+use Rattle.verilog_reader.specs.Declarations.{declarations, has}
+use Rattle.verilog_reader.specs.Faults.{are_bits, instance_names, scalars}
+use Rattle.verilog_reader.specs.Seen.{is_closed}
 use Rattle.verilog_reader.proofs.NameLists.{now_of}
 use Rattle.verilog_reader.proofs.SeenMore.{tells}
 use Rattle.verilog_reader.proofs.twice.Seen.is_bad.Goals as goal
@@ -8,7 +10,17 @@ use Rattle.verilog_reader.proofs.twice.Seen.is_bad.Goals as goal
 pub returns : goal.returns
 returns c = record {
   value = λ ps before p is keeps small seen.
-      let named = c.in_ok-scalars.ensures.value (declarations ps) keeps in
-      tells c.in_ok-itself.itself c.are_bits-scalar.result c.in_ok-bit.bit c.in_ok-again.again ps before p _ c.args.statement.now is
-      c.in_ok-itself.ensures.value (c.are_bits-scalar.ensures.value (declarations before) seen.declared small ∙ ap (are_bits (declarations before)) (ap now_of c.as_slice.ensures.value ∙ named)) (c.in_ok-bit.ensures.value ps before seen) (c.in_ok-again.ensures.value ps before p is (ap now_of c.as_slice-2.ensures.value ∙ named) seen);
+      let so = scalars (declarations ps) before in
+      let again = c.in_ok-again.ensures.value (instance_names before) seen.instances in
+      tells c.in_ok-itself.itself c.are_bits-bits.result c.in_ok-stands.stands c.in_ok-again.again ps before (now_of c.in_ok-scalars.scalars.items) c.args.self.now _ p seen c.args.statement.now is
+      (record {
+        named = c.in_ok-scalars.ensures.value (declarations ps) keeps;
+        twice = c.in_ok-itself.ensures.value;
+        among = c.are_bits-bits.ensures.value (declarations before) seen.known.keeps small ∙ ap (λ (l : List (Bor (List ℕ))). are_bits (declarations before) (now_of l)) c.as_slice.ensures.value;
+        adds = c.in_ok-stands.ensures.value (declarations before) so seen.known;
+        named_again = again.0;
+        instances = again.1;
+        nets = λ q. c.in_ok-add_names.ensures.value so seen.known.are_nets.names q ∙ ap (λ (l : List (Bor (List ℕ))). has (so ++ now_of l) q.now) c.as_slice-2.ensures.value;
+        closed = ap (λ (t : Bool). c.args.self.now.nets.closed || t) (c.any_closed.ensures.value ∙ ap (λ (l : List (Bor (List ℕ))). list_any is_closed (now_of l)) c.as_slice-3.ensures.value);
+      });
 }
