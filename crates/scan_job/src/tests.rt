@@ -15,6 +15,17 @@ const THREE_FLOPS: &str =
 const REWIRED: &str =
     "module top ( clk, se, si, so, d0, d1, d2 );\n  input clk, se, si, d0, d1, d2;\n  output so;\n  wire qa, qb, qc;\n  SDF a ( .D(d0), .CK(clk), .SE(se), .SI(si), .Q(qa) );\n  SDF b ( .D(d1), .CK(clk), .SE(se), .SI(qc), .Q(qb) );\n  SDF c ( .D(d2), .CK(clk), .SE(se), .SI(qa), .Q(qc) );\n  assign so = qb;\nendmodule\n";
 
+const TABLE: &str =
+    "[[cell.SDF.path]]\nin = \"SI\"\nbits = [0]\nout = { Q = 0, QN = 1 }\n[[cell.LK.path]]\nin = \"D\"\nbits = []\nout = { Q = 0 }\n[[cell.BUF.path]]\nin = \"A\"\nbits = []\nout = { Z = 0 }\n";
+
+const THREE_STEPS: &str = "from si\na SDF SI Q 1\nb SDF SI Q 1\nc SDF SI Q 1\nto so\nparity 0\n";
+
+const BUS_NAMES: &str =
+    "module core ( clk, test_se, test_si, test_so, din, dout );\n  input clk, test_se, test_si;\n  input [1:0] din;\n  output test_so;\n  output [1:0] dout;\n  wire n7;\n  wire \\u1/q[0] ;\n  SDF \\u1/r_reg[0] ( .D(din[0]), .CK(clk), .SE(test_se), .SI(test_si), .Q(\\u1/q[0] ), .QN() );\n  SDF \\u1/r_reg[1] ( .D(din[1]), .CK(clk), .SE(test_se), .SI(\\u1/q[0] ), .Q(dout[1]) );\n  SDF u2 ( .D(dout[1]), .CK(clk), .SE(test_se), .SI(dout[1]), .Q(n7) );\n  BUF k1 ( .A(n7), .Z(test_so) );\n  assign dout[0] = n7;\nendmodule\n";
+
+const BUS_STEPS: &str =
+    "from test_si\nu1/r_reg[0] SDF SI Q 1\nu1/r_reg[1] SDF SI Q 1\nu2 SDF SI Q 1\nk1 BUF A Z 0\nto test_so\nparity 0\n";
+
 const FORM: &str =
     "rewire --verilog v.v --cell=SDF --in-pin SI --out-pin=Q --scan-in si --scan-out so --out-verilog w.v";
 
@@ -32,12 +43,25 @@ fn rewiring(alloc: Global, units: &str) -> Result<Vec<Word>, Fail> {
     words(alloc, line.as_str())
 }
 
-/// A desk over one Verilog text, one call of which fails and one write of which takes nothing; 0 is no call's number.
-fn desk(alloc: Global, text: &str, failing: u64, empty_write: u64) -> Result<MemoryDesk, Fail>
+fn tracing(alloc: Global, output: &str) -> Result<Vec<Word>, Fail> {
+    let line = format!(in alloc; "trace --table t.toml --verilog v.v --scan-out {output}")?;
+    words(alloc, line.as_str())
+}
+
+/// A desk over a cell table and a Verilog text, one call of which fails and one write of which takes nothing; 0 is no call's
+/// number.
+fn desk(
+    alloc: Global,
+    table: &str,
+    verilog: &str,
+    failing: u64,
+    empty_write: u64,
+) -> Result<MemoryDesk, Fail>
     ensures { IfOk result (λ desk. AllUnopened (slots_of desk)) }
 {
     let mut files = Vec::new(alloc);
-    files.push((Slot::Verilog, Text::copy(alloc, text.as_bytes())?))?;
+    files.push((Slot::Table, Text::copy(alloc, table.as_bytes())?))?;
+    files.push((Slot::Verilog, Text::copy(alloc, verilog.as_bytes())?))?;
     let failing = vec![in alloc; failing]?;
     let empty_writes = vec![in alloc; empty_write]?;
     Ok(MemoryDesk::new(alloc, files, failing, empty_writes, 4096, 4096)?)
@@ -53,7 +77,7 @@ fn a_chain_is_rewired_or_refused(rt: HostRuntime) -> Result<(), Fail> {
         ("a c", THREE_FLOPS, 2, "", "words:0: NotPermutation\n"),
         ("a c b", constant.as_str(), 2, "", "v.v:0: VerilogSyntax\n"),
     ] {
-        let mut desk = desk(alloc, text, 0, 0)?;
+        let mut desk = desk(alloc, "", text, 0, 0)?;
         let words = rewiring(alloc, units)?;
         assert_eq!(rt; run(alloc, &words, &mut desk), status, "{units}");
         assert_eq!(rt;
@@ -77,7 +101,7 @@ fn a_failing_call_ends_the_run(rt: HostRuntime) -> Result<(), Fail> {
         (0, 6, 4, 6),
         (9, 0, 4, 9),
     ] {
-        let mut desk = desk(alloc, THREE_FLOPS, failing, empty_write)?;
+        let mut desk = desk(alloc, "", THREE_FLOPS, failing, empty_write)?;
         assert_eq!(rt;
             run(alloc, &words, &mut desk),
             status,
@@ -103,11 +127,102 @@ fn a_sure_desk_fails_in_nothing(rt: HostRuntime) -> Result<(), Fail> {
 #[test]
 fn words_of_no_form_open_nothing(rt: HostRuntime) -> Result<(), Fail> {
     let alloc = rt.alloc();
-    for line in ["help", "bench --units 7", "trace --verilog v.v"] {
-        let mut desk = desk(alloc, THREE_FLOPS, 0, 0)?;
+    for line in [
+        "help",
+        "bench --units 7",
+        "trace --verilog v.v",
+        "trace --table t.toml --verilog v.v",
+        "trace --table t.toml --verilog t.toml --scan-out so",
+        "trace --table t.toml --verilog v.v --scan-out so a",
+    ] {
+        let mut desk = desk(alloc, "", THREE_FLOPS, 0, 0)?;
         let words = words(alloc, line)?;
         assert_eq!(rt; run(alloc, &words, &mut desk), 1, "{line}");
         assert_eq!(rt; desk.calls(), 0, "{line}");
     }
+    Ok(())
+}
+
+#[test]
+fn the_path_of_an_output_is_told(rt: HostRuntime) -> Result<(), Fail> {
+    let alloc = rt.alloc();
+    for (verilog, output, console) in [
+        (THREE_FLOPS, "so", THREE_STEPS),
+        (BUS_NAMES, "test_so", BUS_STEPS),
+    ] {
+        let mut desk = desk(alloc, TABLE, verilog, 0, 0)?;
+        let words = tracing(alloc, output)?;
+        assert_eq!(rt; run(alloc, &words, &mut desk), 0, "{output}");
+        assert_eq!(rt; desk.written(Slot::Console), console.as_bytes(), "{output}");
+    }
+    Ok(())
+}
+
+#[test]
+fn a_path_is_refused_by_its_first_fault(rt: HostRuntime) -> Result<(), Fail> {
+    let alloc = rt.alloc();
+    let shape = TABLE.replace(alloc, "bits = [0]", "bits = [2]")?;
+    let ring = THREE_FLOPS.replace(alloc, ".SI(qa)", ".SI(qc)")?;
+    let unclosed = THREE_FLOPS.replace(alloc, "endmodule\n", "")?;
+    let undriven = THREE_FLOPS.replace(alloc, ".SI(si)", ".SI(sx)")?;
+    let twice = THREE_FLOPS.replace(alloc, "  assign", "  SDF z ( .SI(si), .Q(qb) );\n  assign")?;
+    let second = format!(in alloc; "{THREE_FLOPS}module x ( ); endmodule\n")?;
+    let outside = BUS_NAMES.replace(alloc, "din[0]", "din[2]")?;
+    for (table, verilog, output, line) in [
+        (
+            shape.as_str(),
+            THREE_FLOPS,
+            "so",
+            "t.toml:SDF: TableShape\n",
+        ),
+        (TABLE, unclosed.as_str(), "so", "v.v:1: VerilogSyntax\n"),
+        (TABLE, second.as_str(), "so", "v.v:10: SecondModule\n"),
+        (TABLE, outside.as_str(), "test_so", "v.v:8: BadSelect\n"),
+        (TABLE, THREE_FLOPS, "qa", "words:0: NoPort\n"),
+        (TABLE, undriven.as_str(), "so", "v.v:5: NoDriver\n"),
+        (TABLE, twice.as_str(), "so", "v.v:7: TwoDrivers\n"),
+        (TABLE, ring.as_str(), "so", "v.v:7: Loop\n"),
+    ] {
+        let mut desk = desk(alloc, table, verilog, 0, 0)?;
+        let words = tracing(alloc, output)?;
+        assert_eq!(rt; run(alloc, &words, &mut desk), 2, "{line}");
+        assert_eq!(rt; desk.written(Slot::Console), line.as_bytes(), "{line}");
+    }
+    Ok(())
+}
+
+#[test]
+fn a_failing_call_ends_a_trace(rt: HostRuntime) -> Result<(), Fail> {
+    let alloc = rt.alloc();
+    let words = tracing(alloc, "so")?;
+    for (failing, empty_write, status, calls) in [
+        (3, 0, 3, 3),
+        (5, 0, 3, 5),
+        (9, 0, 4, 9),
+        (0, 10, 4, 10),
+    ] {
+        let mut desk = desk(alloc, TABLE, THREE_FLOPS, failing, empty_write)?;
+        assert_eq!(rt;
+            run(alloc, &words, &mut desk),
+            status,
+            "{failing} {empty_write}"
+        );
+        assert_eq!(rt; desk.calls(), calls, "{failing} {empty_write}");
+        assert_eq!(rt; desk.written(Slot::Console), b"".as_slice());
+    }
+    Ok(())
+}
+
+#[test]
+fn a_table_that_is_too_large_is_refused(rt: HostRuntime) -> Result<(), Fail> {
+    let alloc = rt.alloc();
+    let table = "#".repeat(alloc, 1048577)?;
+    let mut desk = desk(alloc, table.as_str(), THREE_FLOPS, 0, 0)?;
+    let words = tracing(alloc, "so")?;
+    assert_eq!(rt; run(alloc, &words, &mut desk), 2);
+    assert_eq!(rt;
+        desk.written(Slot::Console),
+        b"t.toml:0: FileSize\n".as_slice()
+    );
     Ok(())
 }
