@@ -5,6 +5,7 @@
 //! `specs/Legality.antt`. Begin with `spec.rt` and `unit.rt`.
 #![tactic(auto)]
 
+mod belong;
 mod build;
 mod counts;
 mod cuts;
@@ -23,6 +24,7 @@ mod stretch;
 mod unit;
 mod units;
 
+pub use belong::are_chains;
 pub use moves::{can_move, can_swap};
 pub use plain::is_legal;
 pub use plan::Plan;
