@@ -31,3 +31,8 @@ pub use plan::Plan;
 pub use spec::{ChainSpec, ElementSpec, EndSpec, ListSpec, PathSpec, StepSpec};
 pub use unit::{ChainRule, Position, Rules, Unit};
 pub use units::units_of;
+
+#[cfg(test)]
+mod tests;
+#[cfg(test)]
+mod tests_plans;
