@@ -1,5 +1,5 @@
 -- Steps and elements that stand alone in their scan path.
-use Rattle.std.proofs.Common.{◌≡◌, ℕ, ◌+◌, ◌<◌, List, [], ◌∷◌, length, get_or, map, sum_by, Option, Some, sym, ◌∙◌, ap, subst, arith, refl}
+use Rattle.std.proofs.Common.{◌≡◌, ℕ, ◌+◌, ◌<◌, List, [], ◌∷◌, length, get_or, map, sum_by, Option, Some, sym, ◌∙◌, ap, subst, refl}
 use Rattle.std.proofs.lemmas.List.{get_or_default, get_or-map, length-map}
 use Rattle.std.proofs.lemmas.List.Sums.{sum_by-cons}
 use Rattle.chain_rules.specs.declared.spec.StepSpec.{StepSpec}
