@@ -534,31 +534,37 @@ fn refuses_the_first_fault(rt: HostRuntime) -> Result<(), Fail> {
     Ok(())
 }
 
-// One path of so many flops.
-fn long_path(alloc: Global, flops: u32) -> Result<PathSpec, NoMemory> {
+// A path of so many flops from a number on, between two ports.
+fn long_path(alloc: Global, from: u32, flops: u32, port: u32) -> Result<PathSpec, NoMemory> {
     let mut steps = Rows::new(alloc);
-    for instance in 0..flops {
+    for flop in 0..flops {
         steps.push(StepSpec {
-            instance,
+            instance: from.wrapping_add(flop),
             path: 0,
             out: 0,
             bits: 1,
         })?;
     }
     Ok(PathSpec {
-        input: 0,
-        output: 100,
+        input: port,
+        output: port.wrapping_add(100),
         free_out: true,
         steps,
     })
 }
 
 // The chain of these flops, each FLOATING.
-fn long_chain(alloc: Global, flops: u32) -> Result<ChainSpec, NoMemory> {
+fn long_chain(
+    alloc: Global,
+    from: u32,
+    flops: u32,
+    port: u32,
+    partition: u32,
+) -> Result<ChainSpec, NoMemory> {
     let mut elements = Rows::new(alloc);
-    for instance in 0..flops {
+    for flop in 0..flops {
         elements.push(ElementSpec {
-            instance,
+            instance: from.wrapping_add(flop),
             path: 0,
             out: Some(0),
         })?;
@@ -566,31 +572,59 @@ fn long_chain(alloc: Global, flops: u32) -> Result<ChainSpec, NoMemory> {
     let mut lists = Rows::new(alloc);
     lists.push(ListSpec::Floating(elements))?;
     Ok(ChainSpec {
-        start: EndSpec::Port(0),
-        stop: EndSpec::Port(100),
+        start: EndSpec::Port(port),
+        stop: EndSpec::Port(port.wrapping_add(100)),
         lists,
-        partition: 0,
+        partition,
         max_bits: 0,
-        line: 32,
+        line: port as u64 + 32,
     })
 }
 
-#[test]
-fn takes_so_many_units(rt: HostRuntime) -> Result<(), Fail> {
-    for (flops, taken) in [(16384, true), (16385, false)] {
-        let path = long_path(rt.alloc(), flops).map_err(|_| "memory")?;
-        let chain = long_chain(rt.alloc(), flops).map_err(|_| "memory")?;
-        match judged(&rt, &[path], &[chain]) {
-            Ok(rules) => {
-                assert!(rt; taken, "{flops}");
-                assert_eq!(rt; rules.units.as_slice().len(), 16384);
+// A chain of so many flops beside one of a single flop, of this partition: the line that is refused.
+fn refused_line(
+    rt: &(impl Abort + Alloc<A = Global>),
+    flops: u32,
+    partition: u32,
+) -> Result<Option<u64>, ReadFault> {
+    let alloc = rt.alloc();
+    let paths = [
+        long_path(alloc, 0, flops, 0)?,
+        long_path(alloc, 20000, 1, 1)?,
+    ];
+    let chains = [
+        long_chain(alloc, 0, flops, 0, 0)?,
+        long_chain(alloc, 20000, 1, 1, partition)?,
+    ];
+    match judged(rt, &paths, &chains) {
+        Err(ReadFault::Fault(fault)) => {
+            assert_eq!(rt; fault.kind, Kind::TooManyUnits);
+            match fault.spot {
+                Spot::Line(line) => Ok(Some(line)),
+                _ => Ok(Some(0)),
             }
-            Err(ReadFault::Fault(fault)) => {
-                assert!(rt; !taken, "{flops}");
-                assert_eq!(rt; fault.kind, Kind::TooManyUnits);
-            }
-            Err(ReadFault::NoMemory) => return Err("memory")?,
         }
+        Err(ReadFault::NoMemory) => Err(ReadFault::NoMemory),
+        Ok(rules) => {
+            assert_eq!(rt; rules.units.as_slice().len(), flops as usize + 1);
+            Ok(None)
+        }
+    }
+}
+
+#[test]
+fn counts_the_units_of_a_partition(rt: HostRuntime) -> Result<(), Fail> {
+    for (flops, partition, refused) in [
+        (16384, 1, None),
+        (16385, 1, Some(32)),
+        (16384, 0, Some(33)),
+    ] {
+        let line = refused_line(&rt, flops, partition).map_err(|_| "memory")?;
+        assert_eq!(rt;
+            line,
+            refused,
+            "{flops} units beside one of partition {partition}"
+        );
     }
     Ok(())
 }
