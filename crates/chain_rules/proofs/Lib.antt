@@ -22,3 +22,4 @@ pub mod Assembled
 pub mod ReadPlan
 pub mod Refused
 pub mod Faulty
+pub mod Belonging

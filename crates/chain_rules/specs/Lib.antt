@@ -5,3 +5,4 @@ pub mod ChainFaults
 pub mod Rules
 pub mod Pins
 pub mod Runs
+pub mod Belonging

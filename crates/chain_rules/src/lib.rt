@@ -5,6 +5,7 @@
 //! `specs/Legality.antt`. Begin with `spec.rt` and `unit.rt`.
 #![tactic(auto)]
 
+mod belong;
 mod build;
 mod counts;
 mod cuts;
@@ -23,9 +24,15 @@ mod stretch;
 mod unit;
 mod units;
 
+pub use belong::are_chains;
 pub use moves::{can_move, can_swap};
 pub use plain::is_legal;
 pub use plan::Plan;
 pub use spec::{ChainSpec, ElementSpec, EndSpec, ListSpec, PathSpec, StepSpec};
 pub use unit::{ChainRule, Position, Rules, Unit};
 pub use units::units_of;
+
+#[cfg(test)]
+mod tests;
+#[cfg(test)]
+mod tests_plans;

@@ -14,8 +14,8 @@ mod searchable;
 
 pub use effort::Effort;
 pub use nearest::nearest_plan;
-pub use order::settle_order;
-pub use reversals::settle_chain;
+pub use order::{settle_order, settle_order_counted};
+pub use reversals::{SearchCount, settle_chain, settle_chain_counted};
 pub use searchable::are_searchable;
 
 #[cfg(test)]

@@ -6,7 +6,7 @@ ghost use Rattle.order_search.specs.Searches.{AreSearchable};
 ghost use Rattle.order_search.specs.Steps.{IsSettled};
 ghost use Rattle.order_search.specs.declared.effort.Effort.TheVariants.{Order};
 
-use crate::reversals::settle_chain;
+use crate::reversals::{SearchCount, settle_chain_counted};
 use chain_rules::{Plan, Rules};
 use std::alloc::Global;
 use text_scan::NoMemory;
@@ -21,6 +21,37 @@ fn longest_chain(plan: &Plan) -> usize
         longest = longest.max(plan.chain(c).len());
     }
     longest
+}
+
+/// As `settle_order`, and tells what it took in all chains together.
+pub fn settle_order_counted(
+    alloc: Global,
+    rules: &Rules,
+    ends: &Ends,
+    plan: &mut Plan,
+) -> Result<SearchCount, NoMemory>
+    requires searchable { AreSearchable rules.now ends.now }
+    requires legal { IsLegal rules.now plan.old }
+    ensures legal { OnOk result (IsLegal rules.now plan.new) }
+    ensures members { OnOk result ((c : ℕ) → c < length plan.old.chains → IsPermutation (chain_at plan.old c) (chain_at plan.new c)) }
+    ensures no_longer { OnOk result (plan_length_of ends.now plan.new ≤ plan_length_of ends.now plan.old) }
+    ensures settled { OnOk result (IsSettled Order rules.now ends.now plan.new) }
+    ensures unchanged { OnErr result (plan.new ≡ plan.old) }
+{
+    let mut sums = Sums::make(alloc, longest_chain(plan))?;
+    let mut units = Vec::new(alloc);
+    let mut taken = SearchCount {
+        passes: 0,
+        steps: 0,
+    };
+    for c in 0..plan.len() {
+        plan.exchange(c, &mut units);
+        let more = settle_chain_counted(rules, ends, c as u32, units.as_mut_slice(), &mut sums);
+        plan.exchange(c, &mut units);
+        taken.passes = taken.passes.saturating_add(more.passes);
+        taken.steps = taken.steps.saturating_add(more.steps);
+    }
+    Ok(taken)
 }
 
 /// Reverses runs of units within the chains of a plan until none makes it shorter. After want of memory the plan is as
@@ -39,12 +70,6 @@ pub fn settle_order(
     ensures settled { OnOk result (IsSettled Order rules.now ends.now plan.new) }
     ensures unchanged { OnErr result (plan.new ≡ plan.old) }
 {
-    let mut sums = Sums::make(alloc, longest_chain(plan))?;
-    let mut units = Vec::new(alloc);
-    for c in 0..plan.len() {
-        plan.exchange(c, &mut units);
-        settle_chain(rules, ends, c as u32, units.as_mut_slice(), &mut sums);
-        plan.exchange(c, &mut units);
-    }
+    settle_order_counted(alloc, rules, ends, plan)?;
     Ok(())
 }

@@ -56,8 +56,15 @@ pub(crate) fn reverse_run(units: &mut [u32], i: usize, m: usize)
     units[i..i + m].reverse();
 }
 
+/// What a search took: whole passes over the places, and runs reversed. Both stop at the greatest `u64`.
+#[derive(Clone, Copy, Debug, PartialEq, Eq)]
+pub struct SearchCount {
+    pub passes: u64,
+    pub steps: u64,
+}
+
 // Reverses runs of the first `limit` units until none makes the chain shorter.
-fn settle_run(ends: &Ends, chain: u32, units: &mut [u32], limit: usize)
+fn settle_run(ends: &Ends, chain: u32, units: &mut [u32], limit: usize) -> SearchCount
     requires placed { ArePlaced ends.now }
     requires chain { IsChainAt ends.now chain units.old }
     requires within { limit ≤ length units.old }
@@ -65,17 +72,26 @@ fn settle_run(ends: &Ends, chain: u32, units: &mut [u32], limit: usize)
     ensures tail { drop limit units.new ≡ drop limit units.old }
     ensures no_longer { chain_length_of ends.now chain units.new ≤ chain_length_of ends.now chain units.old }
     ensures settled { IsRunSettled ends.now chain units.new limit }
+    ensures shorter { result.steps + chain_length_of ends.now chain units.new ≤ chain_length_of ends.now chain units.old }
+    ensures still { result.steps ≡ 0 → units.new ≡ units.old }
 {
+    let mut taken = SearchCount {
+        passes: 0,
+        steps: 0,
+    };
     let mut again = true;
     'passes: while again {
         again = false;
+        taken.passes = taken.passes.saturating_add(1);
         'places: for i in 0..limit {
             'gains: while let Some(m) = shorter_at(ends, chain, units, limit, i) {
                 reverse_run(units, i, m);
+                taken.steps = taken.steps.saturating_add(1);
                 again = true;
             }
         }
     }
+    taken
 }
 
 // How many of a chain's units a reversed run may hold: all but a pinned one at the end.
@@ -87,6 +103,32 @@ pub(crate) fn free_count(rules: &Rules, units: &[u32]) -> usize
         Some(last) if rules.units.as_slice()[*last as usize].pinned => units.len() - 1,
         _ => units.len(),
     }
+}
+
+/// As `settle_chain`, and tells what it took: each step makes the chain shorter, and without one the units are as before.
+pub fn settle_chain_counted(
+    rules: &Rules,
+    ends: &Ends,
+    chain: u32,
+    units: &mut [u32],
+    sums: &mut Sums,
+) -> SearchCount
+    requires searchable { AreSearchable rules.now ends.now }
+    requires chain { chain < length rules.now.chains }
+    requires units { AreWithin units.old (length rules.now.units) }
+    requires different { IsDistinct nat_eq units.old }
+    requires pinned { IsPinnedLast rules.now units.old }
+    requires room { length units.old ≤ sums.old.room }
+    ensures permutation { IsPermutation units.old units.new }
+    ensures pinned { IsPinnedLast rules.now units.new }
+    ensures no_longer { chain_length_of ends.now chain units.new ≤ chain_length_of ends.now chain units.old }
+    ensures settled { IsChainSettled rules.now ends.now chain units.new }
+    ensures room { sums.new.room ≡ sums.old.room }
+    ensures shorter { result.steps + chain_length_of ends.now chain units.new ≤ chain_length_of ends.now chain units.old }
+    ensures still { result.steps ≡ 0 → units.new ≡ units.old }
+{
+    let limit = free_count(rules, units);
+    settle_run(ends, chain, units, limit)
 }
 
 /// Reverses runs of a chain's units until none makes the chain shorter; a pinned unit stays the last. It takes no memory.
@@ -106,6 +148,5 @@ pub fn settle_chain(rules: &Rules, ends: &Ends, chain: u32, units: &mut [u32], s
     ensures settled { IsChainSettled rules.now ends.now chain units.new }
     ensures room { sums.new.room ≡ sums.old.room }
 {
-    let limit = free_count(rules, units);
-    settle_run(ends, chain, units, limit);
+    settle_chain_counted(rules, ends, chain, units, sums);
 }

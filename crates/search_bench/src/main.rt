@@ -1,12 +1,13 @@
 //! Times the nearest plan and its settling for one chain of random points.
 //!
-//! Without an argument it takes a small chain and prints its lengths alone; with a number of units it prints the times too.
+//! Without an argument it takes a small chain and prints its lengths, passes and steps alone; with a number of units it
+//! prints the times too.
 #![tactic(auto)]
 
 ghost use Rattle.std.specs.Prelude.{ℕ, ◌^◌, ◌<◌};
 
 use chain_rules::{ChainRule, Plan, Rules, Unit};
-use order_search::{are_searchable, nearest_plan, settle_order};
+use order_search::{are_searchable, nearest_plan, settle_order_counted};
 use std::alloc::{Alloc, Global};
 use std::rt::Clock;
 use std::time::Instant;
@@ -127,12 +128,14 @@ fn run(
     let to_nearest = start.elapsed(rt)?;
     let nearest = length_of(&ends, &plan);
     let start = Instant::now(rt)?;
-    if let Err(refused) = settle_order(rt.alloc(), &rules, &ends, &mut plan) {
-        return Ok(Err(refused));
-    }
+    let taken = match settle_order_counted(rt.alloc(), &rules, &ends, &mut plan) {
+        Ok(taken) => taken,
+        Err(refused) => return Ok(Err(refused)),
+    };
     let to_settled = start.elapsed(rt)?;
     let settled = length_of(&ends, &plan);
     println!(rt; "units {n} nearest {nearest} settled {settled}")?;
+    println!(rt; "passes {} steps {}", taken.passes, taken.steps)?;
     if is_timed {
         println!(rt; "nearest plan {to_nearest:?}")?;
         println!(rt; "settled order {to_settled:?}")?;

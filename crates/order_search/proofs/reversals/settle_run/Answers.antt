@@ -15,4 +15,6 @@ gains-preserved c =
       tail = ap (drop c.args.limit) c.reverse_run.ensures.after ∙ tail_kept us c.places.i c.in-Some.m c.args.limit c.in-Some.ensures.found.0 (omega arith) ∙ c.gains.invariant.tail;
       progress = omega arith;
       settled = λ h. cc;
+      shorter = omega (arith, less, c.gains.invariant.shorter, c.saturating_add.ensures);
+      still = λ h. absurd (omega (arith, c.saturating_add.ensures));
     }

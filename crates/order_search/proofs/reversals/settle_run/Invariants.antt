@@ -11,6 +11,8 @@ invariant-passes l = record {
   tail : drop l.limit l.units ≡ drop l.limit l.fn.units;
   no_longer : chain_length_of l.ends l.chain l.units ≤ chain_length_of l.ends l.chain l.fn.units;
   settled : l.again ≡ false → IsRunSettled l.ends l.chain l.units l.limit;
+  shorter : l.taken.steps + chain_length_of l.ends l.chain l.units ≤ chain_length_of l.ends l.chain l.fn.units;
+  still : l.taken.steps ≡ 0 → l.units ≡ l.fn.units;
 }
 
 -- the length, and one more where another pass is to come
@@ -24,6 +26,8 @@ invariant-places l = record {
   tail : drop l.limit l.units ≡ drop l.limit l.fn.units;
   progress : chain_length_of l.ends l.chain l.units + cond l.again 1 0 ≤ chain_length_of l.ends l.chain l.initial.units;
   settled : l.again ≡ false → (k : ℕ) → k < l.i → IsSettledAt l.ends l.chain l.units l.limit k;
+  shorter : l.taken.steps + chain_length_of l.ends l.chain l.units ≤ chain_length_of l.ends l.chain l.fn.units;
+  still : l.taken.steps ≡ 0 → l.units ≡ l.fn.units;
 }
 
 abbrev pub invariant-gains : goal.invariant-gains
@@ -33,6 +37,8 @@ invariant-gains l = record {
   tail : drop l.limit l.units ≡ drop l.limit l.fn.units;
   progress : chain_length_of l.ends l.chain l.units + cond l.again 1 0 ≤ chain_length_of l.ends l.chain l.initial.units + cond l.initial.again 1 0;
   settled : l.again ≡ false → (k : ℕ) → k < l.i → IsSettledAt l.ends l.chain l.units l.limit k;
+  shorter : l.taken.steps + chain_length_of l.ends l.chain l.units ≤ chain_length_of l.ends l.chain l.fn.units;
+  still : l.taken.steps ≡ 0 → l.units ≡ l.fn.units;
 }
 
 abbrev pub decreases-gains : goal.decreases-gains

@@ -1,7 +1,7 @@
 use Rattle.std.proofs.Common.{◌≡◌, ℕ, ◌<◌, ◌≤◌, [], length}
 use Rattle.chain_rules.specs.Legality.{chain_at}
 use Rattle.order_search.proofs.Settling.{IsTurnedUpTo}
-use Rattle.order_search.proofs.order.settle_order.Given as goal
+use Rattle.order_search.proofs.order.settle_order_counted.Given as goal
 
 abbrev pub invariant-loop-c : goal.invariant-loop-c
 invariant-loop-c l = record {

@@ -10,20 +10,20 @@ use Rattle.wire_cost.specs.Lengths.{AreWithin, chain_length_of}
 use Rattle.order_search.specs.Steps.{IsPinnedLast}
 use Rattle.order_search.proofs.Legal.{AreTurned, chain_apart, chain_within, legal_turned, pinned_last_in}
 use Rattle.order_search.proofs.Settling.{in_chain, order_settled, plan_le, turned_more}
-use Rattle.order_search.proofs.order.settle_order.Goals as goal
+use Rattle.order_search.proofs.order.settle_order_counted.Goals as goal
 
-pub settle_chain-requires-clause-units : goal.settle_chain-requires-clause-units
-settle_chain-requires-clause-units c =
+pub settle_chain_counted-more-requires-clause-units : goal.settle_chain_counted-more-requires-clause-units
+settle_chain_counted-more-requires-clause-units c =
     let e = c.as_mut_slice.ensures.value ∙ c.exchange.ensures.units ∙ c.loop-c.invariant.turned.rest c.loop-c.c (omega arith) in
     subst (λ (us : List ℕ). AreWithin us (length c.args.rules.now.units)) (sym e) (chain_within c.args.rules.now c.args.plan.now c.loop-c.c (omega arith) c.requires.legal)
 
-pub settle_chain-requires-clause-different : goal.settle_chain-requires-clause-different
-settle_chain-requires-clause-different c =
+pub settle_chain_counted-more-requires-clause-different : goal.settle_chain_counted-more-requires-clause-different
+settle_chain_counted-more-requires-clause-different c =
     let e = c.as_mut_slice.ensures.value ∙ c.exchange.ensures.units ∙ c.loop-c.invariant.turned.rest c.loop-c.c (omega arith) in
     subst (IsDistinct eqb) (sym e) (chain_apart c.args.rules.now c.args.plan.now c.loop-c.c (omega arith) c.requires.legal)
 
-pub settle_chain-requires-clause-pinned : goal.settle_chain-requires-clause-pinned
-settle_chain-requires-clause-pinned c =
+pub settle_chain_counted-more-requires-clause-pinned : goal.settle_chain_counted-more-requires-clause-pinned
+settle_chain_counted-more-requires-clause-pinned c =
     let e = c.as_mut_slice.ensures.value ∙ c.exchange.ensures.units ∙ c.loop-c.invariant.turned.rest c.loop-c.c (omega arith) in
     subst (IsPinnedLast c.args.rules.now) (sym e) (pinned_last_in c.args.rules.now c.args.plan.now c.loop-c.c (omega arith) c.requires.legal c.requires.searchable.read)
 
@@ -34,16 +34,16 @@ loop-c-preserved c =
     let n = c.loop-c.c in
     let q : Plan = c.loop-c.plan in
     let v = c.exchange.new.units in
-    let ws : List ℕ = c.settle_chain.new.units in
+    let ws : List ℕ = c.settle_chain_counted-more.new.units in
     let e : c.as_mut_slice.result.now ≡ chain_at q n = c.as_mut_slice.ensures.value ∙ c.exchange.ensures.units in
-    let w : (with_items v ws).items ≡ ws = with_items_is v ws (length_permutation c.as_mut_slice.result.now ws c.settle_chain.ensures.permutation ∙ c.as_mut_slice.ensures.len) in
+    let w : (with_items v ws).items ≡ ws = with_items_is v ws (length_permutation c.as_mut_slice.result.now ws c.settle_chain_counted-more.ensures.permutation ∙ c.as_mut_slice.ensures.len) in
     let d : c.exchange-in-loop-c.new.self ≡ with_chain c.exchange.new.self n ws = c.exchange-in-loop-c.ensures.plan ∙ ap (λ (us : List ℕ). with_chain c.exchange.new.self n us) w in
-    let p : IsPermutation (chain_at q n) ws = subst (λ (us : List ℕ). IsPermutation us ws) e c.settle_chain.ensures.permutation in
-    let k : chain_length_of ends n ws ≤ chain_length_of ends n (chain_at q n) = subst (λ (us : List ℕ). chain_length_of ends n ws ≤ chain_length_of ends n us) e c.settle_chain.ensures.no_longer in
+    let p : IsPermutation (chain_at q n) ws = subst (λ (us : List ℕ). IsPermutation us ws) e c.settle_chain_counted-more.ensures.permutation in
+    let k : chain_length_of ends n ws ≤ chain_length_of ends n (chain_at q n) = subst (λ (us : List ℕ). chain_length_of ends n ws ≤ chain_length_of ends n us) e c.settle_chain_counted-more.ensures.no_longer in
     record {
-      turned = turned_more rules ends c.args.plan.now q c.exchange.new.self c.exchange-in-loop-c.new.self n c.loop-c.units.items ws c.loop-c.invariant.turned (omega arith) c.exchange.ensures.plan d p c.settle_chain.ensures.pinned k c.settle_chain.ensures.settled;
+      turned = turned_more rules ends c.args.plan.now q c.exchange.new.self c.exchange-in-loop-c.new.self n c.loop-c.units.items ws c.loop-c.invariant.turned (omega arith) c.exchange.ensures.plan d p c.settle_chain_counted-more.ensures.pinned k c.settle_chain_counted-more.ensures.settled;
       empty = c.exchange-in-loop-c.ensures.units ∙ ap (λ (x : Plan). chain_at x n) c.exchange.ensures.plan ∙ in_chain q n c.loop-c.units.items (omega (arith, c.loop-c.invariant.turned.count)) ∙ c.loop-c.invariant.empty;
-      room = λ j l. (let r = c.loop-c.invariant.room j l in omega (arith, c.settle_chain.ensures.room, r));
+      room = λ j l. (let r = c.loop-c.invariant.room j l in omega (arith, c.settle_chain_counted-more.ensures.room, r));
     }
 
 pub returns-clause-legal : goal.returns-clause-legal

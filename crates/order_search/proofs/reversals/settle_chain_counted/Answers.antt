@@ -1,7 +1,7 @@
 use Rattle.std.proofs.Common.{arith, ◌≤◌, length}
 use Rattle.order_search.proofs.Pinned.{chain_settled, pinned_kept}
 use Rattle.order_search.proofs.Different.{few_different}
-use Rattle.order_search.proofs.reversals.settle_chain.Goals as goal
+use Rattle.order_search.proofs.reversals.settle_chain_counted.Goals as goal
 
 pub settle_run-requires-clause-chain : goal.settle_run-requires-clause-chain
 settle_run-requires-clause-chain c =
