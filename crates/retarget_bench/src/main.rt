@@ -11,6 +11,8 @@ ghost use Rattle.stil_tester.specs.Shifting.{AreChains, IsCallFor};
 mod made;
 mod plain;
 #[cfg(test)]
+mod small;
+#[cfg(test)]
 mod sweep;
 #[cfg(test)]
 mod tests;
@@ -18,7 +20,7 @@ mod tests;
 use anyhow::{Context, Result, bail, ensure};
 use call_checks::{are_chains, is_call_for};
 use made::{Numbers, cut, full_call, lengths, shuffled};
-use plain::agree;
+use plain::agree_from_turns;
 use retarget::{Map, judge_call, map_of, retarget_call};
 use std::alloc::Global;
 use std::env;
@@ -140,11 +142,10 @@ fn one_round(
     let agreeing = if is_timed {
         0
     } else {
-        usize::from(
-            agree(rt.alloc(), old, new, call, &written, 0)
-                .ok()
-                .context("out of memory")?,
-        )
+        let verdict = agree_from_turns(rt.alloc(), old, new, call, &written)
+            .ok()
+            .context("out of memory")?;
+        usize::from(verdict.is_some())
     };
     let characters = characters_of(&written);
     Ok(Sum {

@@ -1,23 +1,49 @@
 //! Plain shifting, which is proved to be the definition, beside retargeting.
 
-ghost use Rattle.std.specs.Prelude.{◌≡◌};
-ghost use Rattle.stil_tester.specs.Shifting.{AreChains, IsCallFor};
+ghost use Rattle.std.specs.Prelude.{◌≡◌, length};
+ghost use Rattle.stil_tester.specs.Shifting.{AreChains, HasCells, IsCallFor};
 
 use std::alloc::Global;
 use stil_reader::ScanCall;
 use stil_tester::{Chains, Symbol, scan_call};
 use text_scan::NoMemory;
 
-/// Whether both calls, shifted step by step, leave the same in the cells and have the same verdict.
-/// What the cells hold before goes by their numbers from `start` on.
+/// Shifts both calls step by step, the written one from the cells as the read one finds them: their
+/// verdict, or None where they have different ones or leave the cells different.
 pub fn agree(
     alloc: Global,
     old: &Chains,
     new: &Chains,
     read: &ScanCall,
     written: &ScanCall,
-    start: usize,
-) -> Result<bool, NoMemory>
+    as_read: &mut [Symbol],
+    as_written: &mut [Symbol],
+) -> Result<Option<bool>, NoMemory>
+    requires old { AreChains old.now }
+    requires new { AreChains new.now }
+    requires cells { new.now.cells ≡ old.now.cells }
+    requires read { IsCallFor old.now read.now }
+    requires written { IsCallFor new.now written.now }
+    requires held { HasCells old.now as_read.old }
+    requires room { length as_written.old ≡ length as_read.old }
+{
+    as_written.copy_from_slice(as_read);
+    let verdict = scan_call(alloc, old, as_read, read)?;
+    let retargeted = scan_call(alloc, new, as_written, written)?;
+    if *as_read == *as_written && verdict == retargeted {
+        return Ok(Some(verdict));
+    }
+    Ok(None)
+}
+
+/// The same from cells that hold Zero, One and Unknown in turn.
+pub fn agree_from_turns(
+    alloc: Global,
+    old: &Chains,
+    new: &Chains,
+    read: &ScanCall,
+    written: &ScanCall,
+) -> Result<Option<bool>, NoMemory>
     requires old { AreChains old.now }
     requires new { AreChains new.now }
     requires cells { new.now.cells ≡ old.now.cells }
@@ -26,14 +52,20 @@ pub fn agree(
 {
     let mut as_read = vec![in alloc; Symbol::Unknown; old.cells as usize]?;
     for (place, cell) in as_read.iter_mut().enumerate() {
-        *cell = match place.wrapping_add(start) % 5 {
-            0 | 3 => Symbol::Zero,
-            1 | 4 => Symbol::One,
+        *cell = match place % 3 {
+            0 => Symbol::Zero,
+            1 => Symbol::One,
             _ => Symbol::Unknown,
         };
     }
     let mut as_written = as_read.clone()?;
-    let verdict = scan_call(alloc, old, &mut as_read, read)?;
-    let retargeted = scan_call(alloc, new, &mut as_written, written)?;
-    Ok(as_read == as_written && verdict == retargeted)
+    agree(
+        alloc,
+        old,
+        new,
+        read,
+        written,
+        &mut as_read,
+        &mut as_written,
+    )
 }

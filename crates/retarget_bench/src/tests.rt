@@ -2,7 +2,6 @@
 ghost use Rattle.std.specs.Prelude.{◌≡◌, IfOk, length};
 ghost use Rattle.stil_tester.specs.Shifting.{AreChains};
 
-use crate::plain::agree;
 use call_checks::{are_chains, is_call_for};
 use retarget::{Map, judge_call, map_of, retarget_call};
 use std::alloc::Global;
