@@ -1,15 +1,12 @@
 -- A path excludes every fault, whichever netlist a fault speaks of: a text denotes one alone, and a name tells the port.
-use Rattle.std.proofs.Common.{◌≡◌, ℕ, ◌<◌, List, length, map, Result, Ok, Err, refl, sym, ap, ◌∙◌, subst, arith}
-use Rattle.std.specs.Prelude.{slice_index_or}
+use Rattle.std.proofs.Common.{◌≡◌, ℕ, List, Result, Ok, Err, sym, ◌∙◌, subst}
 use Rattle.text_scan.specs.declared.fault.Fault.{Fault}
 use Rattle.text_scan.specs.declared.fault.ReadFault.{ReadFault}
 use Rattle.text_scan.specs.declared.fault.ReadFault.TheVariants as faults
 use Rattle.netlist_core.specs.declared.netlist.NetId.{NetId}
 use Rattle.netlist_core.specs.declared.netlist.Netlist.{Netlist}
-use Rattle.netlist_core.specs.Netlists.{plain_of, IsNetlist}
-use Rattle.verilog_syntax.specs.declared.reading.Placed.{Placed}
+use Rattle.netlist_core.specs.Netlists.{IsNetlist}
 use Rattle.verilog_reader.specs.Faults.{IsRefused, read_faultless}
-use Rattle.verilog_reader.specs.Denoted.{DenotesNetlist}
 use Rattle.verilog_reader.proofs.OneNetlist.{one_netlist, net_tells}
 use Rattle.cell_table.specs.Cells.{Cells, table_of}
 use Rattle.chain_trace.specs.declared.path.Path.{Path}
@@ -17,7 +14,7 @@ use Rattle.chain_trace.specs.Paths.{is_driven, IsScanPath}
 use Rattle.chain_trace.specs.Faults.{IsTraceFault, IfFault}
 use Rattle.chain_trace.proofs.Meeting.{no_path}
 use Rattle.chain_trace.proofs.Ranges.{port_within}
-use Rattle.path_report.specs.Reports.{IsOutputNamed, AreRead, IsPathFault, OfTable, OfVerilog, OfPort, OfPath, no_port}
+use Rattle.path_report.specs.Reports.{IsOutputNamed, AreRead, IsPathFault, OfTable, OfVerilog, OfPort, OfPath}
 
 ok_or_err : {X : Type 0} (r : Result X Fault) (x : X) (f : Fault) → r ≡ Ok x → r ≡ Err f → ⊥
 ok_or_err r x f a b = let both = sym a ∙ b in absurd cc
@@ -43,7 +40,7 @@ module _ (table verilog output : List ℕ) (cells : Cells) (n : Netlist) (read :
   excluded fault (OfPort others m other none e) = none net (subst (λ (n : Netlist). IsOutputNamed n output net) (sym (same_netlist others m other)) port)
   excluded fault (OfPath others m at other named met) =
       let here : IsTraceFault n cells at fault =
-        subst (λ (m : Netlist). IsTraceFault m cells at fault) (same_netlist others m other) (subst (λ (cs : Cells). IsTraceFault m cs at fault) (same_cells others m other) met) in
+      subst (λ (m : Netlist). IsTraceFault m cells at fault) (same_netlist others m other) (subst (λ (cs : Cells). IsTraceFault m cs at fault) (same_cells others m other) met) in
       let named_here : IsOutputNamed n output at = subst (λ (m : Netlist). IsOutputNamed m output at) (same_netlist others m other) named in
       let same = same_port n output at net read.netlist_is.sound named_here port in
       no_path n cells net fault (subst (λ (k : NetId). IsTraceFault n cells k fault) same here) path is

@@ -1,5 +1,5 @@
 -- Sums modulo 2.
-use Rattle.std.proofs.Common.{◌≡◌, ℕ, ◌+◌, ◌<◌, Bool, true, false, not, List, [], ◌∷◌, ◌++◌, length, drop, get_or, Option, Some, None, refl, sym, ap, ap₂, ◌∙◌}
+use Rattle.std.proofs.Common.{◌≡◌, ℕ, ◌+◌, ◌<◌, Bool, true, false, List, [], ◌∷◌, ◌++◌, length, drop, get_or, Option, Some, None, refl, sym, ap, ap₂, ◌∙◌}
 use Rattle.cell_table.specs.declared.paths.ScanPath.{ScanPath}
 use Rattle.cell_table.specs.declared.paths.OutPin.{OutPin}
 use Rattle.std.specs.List.{flat_map, slice_get}

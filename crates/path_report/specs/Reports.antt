@@ -1,5 +1,5 @@
 -- The text of the scan path of an output, and the first fault where there is none.
-use Rattle.std.specs.Prelude.{◌≡◌, ℕ, Bool, true, false, not, List, [], ◌∷◌, ◌++◌, length, codes, decimal, Option, Some, None, IsTrue, Ok, Err}
+use Rattle.std.specs.Prelude.{◌≡◌, ℕ, Bool, true, false, List, [], ◌∷◌, ◌++◌, length, codes, decimal, Option, Some, None, IsTrue, Ok, Err}
 use Rattle.std.specs.List.{flat_map, slice_get}
 use Rattle.text_scan.specs.declared.fault.Fault.{Fault}
 use Rattle.text_scan.specs.declared.fault.FileKind.TheVariants.{Words}

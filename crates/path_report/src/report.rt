@@ -57,7 +57,11 @@ fn text_of(
     text.extend_from_slice(b"to ")?;
     text.extend_from_slice(plain_of(nets, path.output))?;
     text.extend_from_slice(b"\nparity ")?;
-    let parity: &[u8] = if path_parity(netlist, table, steps) { b"1" } else { b"0" };
+    let parity: &[u8] = if path_parity(netlist, table, steps) {
+        b"1"
+    } else {
+        b"0"
+    };
     text.extend_from_slice(parity)?;
     text.extend_from_slice(b"\n")?;
     Ok(Text::of(text))

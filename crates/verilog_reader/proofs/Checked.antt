@@ -1,13 +1,12 @@
 -- Statements in which no check finds a fault.
-use Rattle.std.proofs.Common.{◌≡◌, ℕ, zero, suc, ◌+◌, ◌<◌, ◌≤◌, Bool, true, false, cond, not, ◌||◌, ◌&&◌, List, [], ◌∷◌, ◌++◌, length, map, get_or, Option, Some, None, Result, Ok, Err, refl, sym, ap, subst, ◌∙◌, nat_lt}
-use Rattle.std.specs.Option.{is_some, IsSome}
-use Rattle.std.specs.List.{flat_map, list_any, find, All}
+use Rattle.std.proofs.Common.{◌≡◌, ℕ, ◌<◌, Bool, true, false, cond, not, ◌||◌, List, [], ◌∷◌, ◌++◌, length, map, get_or, Option, None, Result, Ok, Err, refl, sym, ap, subst, ◌∙◌, nat_lt}
+use Rattle.std.specs.List.{flat_map, list_any, All}
 use Rattle.std.specs.Str.{bytes_eq}
 use Rattle.std.proofs.lemmas.Bool.{false≢true, or_parts, not-false}
-use Rattle.std.proofs.lemmas.List.{append_assoc, append-nil, map-append, get_or-map, length-map}
+use Rattle.std.proofs.lemmas.List.{get_or-map, length-map}
 use Rattle.std.proofs.lemmas.List.Concat.{flat_map-append}
 use Rattle.std.proofs.lemmas.List.Elements.{All-nil, All-cons, All-head, All-tail}
-use Rattle.std.proofs.lemmas.List.Folds.{list_any-append, list_any_at, find-append}
+use Rattle.std.proofs.lemmas.List.Folds.{list_any-append, list_any_at}
 use Rattle.text_scan.specs.Each.{Each}
 use Rattle.text_scan.specs.declared.fault.Fault.{Fault}
 use Rattle.text_scan.specs.declared.kind.Kind.{Kind}
@@ -15,7 +14,6 @@ use Rattle.verilog_syntax.specs.declared.statement.Declared.{Declared}
 use Rattle.verilog_syntax.specs.declared.statement.Range.{Range}
 use Rattle.verilog_syntax.specs.declared.statement.Item.{Item}
 use Rattle.verilog_syntax.specs.declared.statement.Item.TheVariants as items
-use Rattle.verilog_syntax.specs.declared.statement.Expression.{Expression}
 use Rattle.verilog_syntax.specs.declared.statement.Connection.{Connection}
 use Rattle.verilog_syntax.specs.declared.statement.Statement.{Statement}
 use Rattle.verilog_syntax.specs.declared.statement.Statement.TheVariants as statements
@@ -23,9 +21,9 @@ use Rattle.verilog_syntax.specs.declared.reading.Placed.{Placed}
 use Rattle.verilog_syntax.specs.Reading.{fault_at}
 use Rattle.verilog_reader.specs.declared.bounds.Bounds.{Bounds}
 use Rattle.verilog_reader.specs.Values.{plain_of, decimal_value, is_big_index}
-use Rattle.verilog_reader.specs.Declarations.{Declaration, declaration_of, declarations_in, declarations, is_declared, bounds_in, mentions_of, mentions_in, mentions, connection_items, items_in, header_ports, ports_in}
+use Rattle.verilog_reader.specs.Declarations.{Declaration, declaration_of, declarations_in, declarations, bounds_in, mentions_of, mentions_in, mentions, connection_items, items_in, header_ports, ports_in}
 use Rattle.verilog_reader.specs.Faults.{check_from, is_bad_number, is_bad_range, range_in, bad_number, vector_bits, selects, selects_part, part_of, is_bad_select, differ_in_width, has_direction, is_badly_listed, bad_select}
-use Rattle.verilog_reader.specs.Numbering.{place, bounds_or, with_declared, with_entries, entries, IsListed, IsFineItem, IsFineExpression, IsFineStatement}
+use Rattle.verilog_reader.specs.Numbering.{place, bounds_or, with_declared, entries, IsListed, IsFineItem, IsFineExpression, IsFineStatement}
 use Rattle.verilog_reader.proofs.Filling.{Entries}
 use Rattle.verilog_reader.proofs.Places.{named, placed, named_all, bytes_same, bounds_are}
 
@@ -69,9 +67,9 @@ mentioned_named ps = each_from (λ (q : List ℕ). named (entries ps) q ≡ true
     let lt' : k < length es = subst (λ (n : ℕ). k < n) (sym (length-map names (λ (name : List ℕ). let e : List ℕ × Option Bounds = (name, None) in e))) lt in
     named_all (with_declared [] (declarations ps)) es (get_or names k d)
     ∙ or_true (named (with_declared [] (declarations ps)) (get_or names k d)) (named es (get_or names k d))
-      (list_any_at (λ (e : List ℕ × Option Bounds). bytes_eq (get_or names k d) e.0) es k (d, None) lt'
-        (bytes_same (get_or names k d) (get_or es k (d, None)).0
-          (sym (ap (λ (e : List ℕ × Option Bounds). e.0) (get_or-map (λ (name : List ℕ). let e : List ℕ × Option Bounds = (name, None) in e) names k d (d, None) lt))))))
+    (list_any_at (λ (e : List ℕ × Option Bounds). bytes_eq (get_or names k d) e.0) es k (d, None) lt'
+    (bytes_same (get_or names k d) (get_or es k (d, None)).0
+    (sym (ap (λ (e : List ℕ × Option Bounds). e.0) (get_or-map (λ (name : List ℕ). let e : List ℕ × Option Bounds = (name, None) in e) names k d (d, None) lt))))))
 
 or_true_left : (a b : Bool) → a ≡ true → (a || b) ≡ true
 or_true_left true b is = refl
@@ -85,9 +83,9 @@ declared_named ps = each_from (λ (d : Declaration). named (entries ps) d.name �
     let lt' : k < length es = subst (λ (n : ℕ). k < n) (sym (length-map ds entry)) lt in
     named_all (with_declared [] ds) (map (λ (name : List ℕ). let e : List ℕ × Option Bounds = (name, None) in e) (mentions ps)) (get_or ds k d).name
     ∙ or_true_left (named (with_declared [] ds) (get_or ds k d).name) (named (map (λ (name : List ℕ). let e : List ℕ × Option Bounds = (name, None) in e) (mentions ps)) (get_or ds k d).name)
-      (named_all [] es (get_or ds k d).name
-        ∙ list_any_at (λ (e : List ℕ × Option Bounds). bytes_eq (get_or ds k d).name e.0) es k (entry d) lt'
-          (bytes_same (get_or ds k d).name (get_or es k (entry d)).0 (sym (ap (λ (e : List ℕ × Option Bounds). e.0) (get_or-map entry ds k d (entry d) lt))))))
+    (named_all [] es (get_or ds k d).name
+    ∙ list_any_at (λ (e : List ℕ × Option Bounds). bytes_eq (get_or ds k d).name e.0) es k (entry d) lt'
+    (bytes_same (get_or ds k d).name (get_or es k (entry d)).0 (sym (ap (λ (e : List ℕ × Option Bounds). e.0) (get_or-map entry ds k d (entry d) lt))))))
 
 -- fine items
 module _ (es : Entries) (ds : List Declaration) (agree : (q : List ℕ) → bounds_or (place es q) ≡ bounds_in ds q) where
@@ -109,7 +107,7 @@ module _ (es : Entries) (ds : List Declaration) (agree : (q : List ℕ) → boun
       let numbers = or_parts (is_bad_number x) (list_any is_bad_number xs) number in
       let chosen = or_parts (is_bad_select (bounds_in ds) x) (list_any (is_bad_select (bounds_in ds)) xs) select in
       All-cons (IsFineItem es) x xs (fine_item x numbers.0 chosen.0 (each_left (λ (q : List ℕ). named es q ≡ true) (mentions_of x) (flat_map mentions_of xs) listed))
-        (fine_items xs numbers.1 chosen.1 (each_right (λ (q : List ℕ). named es q ≡ true) (mentions_of x) (flat_map mentions_of xs) listed))
+      (fine_items xs numbers.1 chosen.1 (each_right (λ (q : List ℕ). named es q ≡ true) (mentions_of x) (flat_map mentions_of xs) listed))
 
   -- of two lists in a row
   none_left : (f : Item → Bool) (xs ys : List Item) → list_any f (xs ++ ys) ≡ false → (list_any f xs ≡ false) × (list_any f ys ≡ false)
@@ -159,7 +157,7 @@ sound all before (p ∷ ps) number select =
     let n = or_parts (is_bad_range (range_in p.statement) || list_any is_bad_number (items_in p.statement)) (nat_lt 16777216 (vector_bits (declarations (before ++ p ∷ [])))) number.0 in
     let m = or_parts (is_bad_range (range_in p.statement)) (list_any is_bad_number (items_in p.statement)) n.0 in
     let s = or_parts (list_any (is_bad_select (bounds_in (declarations all))) (items_in p.statement) || differ_in_width (bounds_in (declarations all)) p.statement || list_any (λ port. not (has_direction (declarations all) port)) (ports_in p.statement))
-        (list_any (is_badly_listed (header_ports all)) (declarations_in p.statement)) select.0 in
+    (list_any (is_badly_listed (header_ports all)) (declarations_in p.statement)) select.0 in
     let t = or_parts (list_any (is_bad_select (bounds_in (declarations all))) (items_in p.statement) || differ_in_width (bounds_in (declarations all)) p.statement) (list_any (λ port. not (has_direction (declarations all) port)) (ports_in p.statement)) s.0 in
     let u = or_parts (list_any (is_bad_select (bounds_in (declarations all))) (items_in p.statement)) (differ_in_width (bounds_in (declarations all)) p.statement) t.0 in
     (record { range = m.0; number = m.1; select = u.0; widths = u.1 }, sound all (before ++ p ∷ []) ps number.1 select.1)
@@ -175,9 +173,9 @@ fine_from all (p ∷ ps) sounds listed declared =
     let P = λ (q : List ℕ). named (entries all) q ≡ true in
     let Q = λ (d : Declaration). named (entries all) d.name ≡ true in
     All-cons (λ (p : Placed). IsFineStatement (entries all) p.statement) p ps
-      (fine_statement (entries all) (declarations all) (bounds_are all) p.statement sounds.0.range sounds.0.number sounds.0.select
-        (each_left P (mentions_in p.statement) (mentions ps) listed) (each_left Q (declarations_in p.statement) (declarations ps) declared))
-      (fine_from all ps sounds.1 (each_right P (mentions_in p.statement) (mentions ps) listed) (each_right Q (declarations_in p.statement) (declarations ps) declared))
+    (fine_statement (entries all) (declarations all) (bounds_are all) p.statement sounds.0.range sounds.0.number sounds.0.select
+    (each_left P (mentions_in p.statement) (mentions ps) listed) (each_left Q (declarations_in p.statement) (declarations ps) declared))
+    (fine_from all ps sounds.1 (each_right P (mentions_in p.statement) (mentions ps) listed) (each_right Q (declarations_in p.statement) (declarations ps) declared))
 
 pub fine : (ps : List Placed) → Each (λ p. IsSound ps p.statement) ps → All (λ (p : Placed). IsFineStatement (entries ps) p.statement) ps
 fine ps sounds = fine_from ps ps sounds (mentioned_named ps) (declared_named ps)

@@ -1,5 +1,5 @@
 -- A constant has no net among its bits.
-use Rattle.std.proofs.Common.{◌≡◌, ℕ, zero, suc, ◌+◌, ◌-◌, ◌/◌, ◌%◌, Bool, true, false, cond, eqb, List, [], ◌∷◌, ◌++◌, length, map, replicate, drop, take, refl, sym, ap, ◌∙◌}
+use Rattle.std.proofs.Common.{◌≡◌, ℕ, zero, suc, ◌-◌, ◌/◌, ◌%◌, Bool, true, false, cond, eqb, List, [], ◌∷◌, ◌++◌, length, map, replicate, drop, refl, ap, ◌∙◌}
 use Rattle.std.specs.List.{flat_map}
 use Rattle.text_scan.specs.Each.{Each}
 use Rattle.text_scan.specs.VerilogTokens.{is_unknown}
@@ -65,6 +65,7 @@ marks text = by (is_decimal_base (constant_base text))
   where
     digits : List Bit
     digits = flat_map (digit_bits (digit_width (constant_base text))) (constant_digits text)
+
     by : (t : Bool) → Each IsMark (cond t (value_bits (constant_size text) (decimal_value (constant_digits text))) (fitted (constant_size text) (fill_of (constant_digits text)) digits))
     by true = value_marks (constant_size text) (decimal_value (constant_digits text))
     by false =

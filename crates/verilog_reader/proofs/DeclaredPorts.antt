@@ -1,7 +1,6 @@
 -- The port bits of a declaration.
-use Rattle.std.proofs.Common.{◌≡◌, ℕ, List, [], ◌∷◌, ◌++◌, map, Option, Some, None, refl, sym, ap, ◌∙◌}
+use Rattle.std.proofs.Common.{◌≡◌, ℕ, List, [], ◌∷◌, ◌++◌, map, Option, refl, sym, ap, ◌∙◌}
 use Rattle.std.specs.List.{flat_map}
-use Rattle.std.specs.Option.{option_to_list}
 use Rattle.std.proofs.lemmas.List.{append-nil}
 use Rattle.netlist_core.specs.declared.netlist.Direction.{Direction}
 use Rattle.netlist_core.specs.declared.netlist.Port.{Port}
@@ -23,7 +22,7 @@ module _ (es : List (List ℕ × Option Bounds)) (line : ℕ) (kind : Declared) 
   directed direction is (name ∷ names) =
       ap (λ (rest : List Port). port_bits line direction (place es (plain_of name)) ++ rest) (directed direction is names)
       ∙ ap (λ (here : List Port). here ++ flat_map (numbered_ports_of es line) (map (declaration_of kind range) names))
-        (sym (ap (λ (ds : List Direction). flat_map (λ (d : Direction). port_bits line d (place es (plain_of name))) ds) is ∙ append-nil (port_bits line direction (place es (plain_of name)))))
+      (sym (ap (λ (ds : List Direction). flat_map (λ (d : Direction). port_bits line d (place es (plain_of name))) ds) is ∙ append-nil (port_bits line direction (place es (plain_of name)))))
 
   -- without one
   pub undirected : directions_of kind ≡ [] → (names : List (List ℕ)) → flat_map (numbered_ports_of es line) (map (declaration_of kind range) names) ≡ []
@@ -37,7 +36,7 @@ module _ (es : List (List ℕ × Option Bounds)) (line : ℕ) (kind : Declared) 
       → slice ≡ names → new ≡ old ++ flat_map (λ (name : List ℕ). port_bits line direction (place es (plain_of name))) slice → new ≡ old ++ numbered_ports_in es line statement
   with_ports statement names slice direction old new is one same made =
       made ∙ ap (λ (ports : List Port). old ++ ports) (directed direction one slice ∙ ap (λ (names : List (List ℕ)). flat_map (numbered_ports_of es line) (map (declaration_of kind range) names)) same
-        ∙ sym (ap (numbered_ports_in es line) is))
+      ∙ sym (ap (numbered_ports_in es line) is))
 
   pub no_ports : (statement : Statement) (names : List (List ℕ)) (old : List Port) → statement ≡ statements.Declare kind range names → directions_of kind ≡ [] → old ≡ old ++ numbered_ports_in es line statement
   no_ports statement names old is none =

@@ -1,13 +1,10 @@
 -- No two nets have one name.
-use Rattle.std.proofs.Common.{◌≡◌, ℕ, zero, suc, ◌+◌, ◌-◌, ◌<◌, ◌≤◌, Bool, true, false, cond, not, nat_lt, ◌||◌, ◌&&◌, List, [], ◌∷◌, ◌++◌, map, Option, Some, None, refl, sym, ap, subst, inl, inr, ◌⊎◌, ◌∙◌, arith}
-use Rattle.std.specs.Option.{is_some, IsSome, option_map, option_or}
-use Rattle.std.specs.List.{flat_map, list_any, find, filter}
+use Rattle.std.proofs.Common.{◌≡◌, ℕ, ◌+◌, Bool, true, false, cond, ◌||◌, List, [], ◌∷◌, ◌++◌, map, Option, Some, None, refl, sym, ap, subst, ◌∙◌, arith}
+use Rattle.std.specs.Option.{is_some, option_map}
+use Rattle.std.specs.List.{flat_map, list_any, find}
 use Rattle.std.specs.Str.{bytes_eq}
-use Rattle.std.proofs.lemmas.Bool.{false≢true, or_parts, cases_Bool, ltb-false}
-use Rattle.std.proofs.lemmas.Option.{none-some, same_Some}
-use Rattle.std.proofs.lemmas.List.{append_assoc, append-nil, map-append}
-use Rattle.std.proofs.lemmas.List.Concat.{flat_map-append}
-use Rattle.std.proofs.lemmas.List.Folds.{list_any-append, find-append}
+use Rattle.std.proofs.lemmas.Bool.{false≢true, or_parts, ltb-false}
+use Rattle.std.proofs.lemmas.List.{map-append}
 use Rattle.text_scan.specs.Each.{Each}
 use Rattle.netlist_core.specs.declared.netlist.NetName.{NetName}
 use Rattle.verilog_syntax.specs.declared.statement.Declared.{Declared}
@@ -16,18 +13,17 @@ use Rattle.verilog_syntax.specs.declared.statement.Statement.{Statement}
 use Rattle.verilog_syntax.specs.declared.statement.Statement.TheVariants as statements
 use Rattle.verilog_syntax.specs.declared.reading.Placed.{Placed}
 use Rattle.verilog_reader.specs.declared.bounds.Bounds.{Bounds}
-use Rattle.verilog_reader.specs.declared.entry.Entry.{Entry}
-use Rattle.verilog_reader.specs.Values.{plain_of, decimal_value, is_big_index, bit_name}
-use Rattle.verilog_reader.specs.Declarations.{bounds_of, indexes, Declaration, declaration_of, declarations_in, declarations, is_named, first_of, is_declared, bounds_or_none, bounds_in, mentions_in, mentions, undeclared_in, has}
-use Rattle.verilog_reader.specs.Faults.{width_or_one, is_vector, is_bad_range, range_in, has_bit_in, scalars_in, scalars, are_bits, have_bits, bad_twice}
+use Rattle.verilog_reader.specs.Values.{decimal_value, is_big_index, bit_name}
+use Rattle.verilog_reader.specs.Declarations.{bounds_of, indexes, Declaration, declaration_of, declarations_in, declarations, is_named, bounds_or_none, bounds_in, mentions}
+use Rattle.verilog_reader.specs.Faults.{width_or_one, is_bad_range, range_in, has_bit_in}
 use Rattle.verilog_reader.specs.Denoted.{entry_nets, name_bits, bit_text}
 use Rattle.verilog_reader.specs.Numbering.{place_from, place, bounds_or, with_entry, with_entries, entries}
 use Rattle.verilog_reader.proofs.Filling.{Entries}
-use Rattle.verilog_reader.proofs.Places.{same_bytes, bytes_same, bytes_swap, named, placed, bounds_are}
+use Rattle.verilog_reader.proofs.Places.{same_bytes, bytes_same, named, placed, bounds_are}
 use Rattle.verilog_reader.proofs.NetBits.{nets_of}
-use Rattle.verilog_reader.proofs.Checked.{Passes, IsSound, each_left, each_right}
-use Rattle.verilog_reader.proofs.PortNames.{apart, declarations_push, find_any}
-use Rattle.verilog_reader.proofs.Distinct.{IsApartFrom, Distinct, distinct_append, distinct_push, each_append, each_map, each_weaker, each_both, each_any, each_flat}
+use Rattle.verilog_reader.proofs.Checked.{IsSound}
+use Rattle.verilog_reader.proofs.PortNames.{apart}
+use Rattle.verilog_reader.proofs.Distinct.{IsApartFrom, Distinct, distinct_append, distinct_push, each_append, each_map, each_weaker, each_both, each_any}
 use Rattle.verilog_reader.proofs.BitNaming.{IsSmall, IsIndex, bits_apart, same_bit, small_index, indexes_within}
 
 -- each name has one entry
@@ -48,7 +44,7 @@ one_more es n b apart = by (is_some (place es n)) (placed es n)
     by false is =
         subst (λ (ns : List (List ℕ)). Distinct ns) (sym (map-append (λ (e : List ℕ × Option Bounds). e.0) es ((n, b) ∷ [])))
         (distinct_push (map (λ (e : List ℕ × Option Bounds). e.0) es) n apart
-          (each_map (λ (m : List ℕ). m ≡ n → ⊥) (λ (e : List ℕ × Option Bounds). e.0) es (without es n (sym is))))
+        (each_map (λ (m : List ℕ). m ≡ n → ⊥) (λ (e : List ℕ × Option Bounds). e.0) es (without es n (sym is))))
 
 all_more : (es xs : Entries) → Distinct (entry_names es) → Distinct (entry_names (with_entries es xs))
 all_more es [] apart = apart
@@ -154,11 +150,11 @@ vectors_apart : (v w : List ℕ) (b c : Bounds) → (v ≡ w → ⊥) → IsSmal
 vectors_apart v w b c ne small_b small_c =
     each_map (λ (n : List ℕ). IsApartFrom n (map (bit_name w) (indexes c))) (bit_name v) (indexes b)
     (each_weaker (IsIndex b) (λ (i : ℕ). IsApartFrom (bit_name v i) (map (bit_name w) (indexes c))) (indexes b)
-      (λ i within_b.
-        each_map (λ (n : List ℕ). bit_name v i ≡ n → ⊥) (bit_name w) (indexes c)
-          (each_weaker (IsIndex c) (λ (j : ℕ). bit_name v i ≡ bit_name w j → ⊥) (indexes c)
-            (λ j within_c same. ne (same_bit v w i j (small_index b i small_b within_b) (small_index c j small_c within_c) same).vector) (indexes_within c 0 _ (omega arith))))
-      (indexes_within b 0 _ (omega arith)))
+    (λ i within_b.
+    each_map (λ (n : List ℕ). bit_name v i ≡ n → ⊥) (bit_name w) (indexes c)
+    (each_weaker (IsIndex c) (λ (j : ℕ). bit_name v i ≡ bit_name w j → ⊥) (indexes c)
+    (λ j within_c same. ne (same_bit v w i j (small_index b i small_b within_b) (small_index c j small_c within_c) same).vector) (indexes_within c 0 _ (omega arith))))
+    (indexes_within b 0 _ (omega arith)))
 
 names_clear : (v w : List ℕ) (b c : Option Bounds) → (v ≡ w → ⊥) → IsSmallOption b → IsSmallOption c → IsClear (v, b) (w, c) → IsClear (w, c) (v, b) → Each (λ n. IsApartFrom n (name_bits w c)) (name_bits v b)
 names_clear v w None None ne small_b small_c one two = ((ne, tt), tt)
@@ -195,6 +191,7 @@ rest_apart all x (e ∷ es) clear safe others apart =
   where
     rest : List (List ℕ)
     rest = flat_map (λ (e : List ℕ × Option Bounds). name_bits e.0 e.1) es
+
     join : (ns : List (List ℕ)) → Each (λ n. IsApartFrom n (name_bits e.0 e.1)) ns → Each (λ n. IsApartFrom n (flat_map (λ (e : List ℕ × Option Bounds). name_bits e.0 e.1) es)) ns
         → Each (λ n. IsApartFrom n (name_bits e.0 e.1 ++ flat_map (λ (e : List ℕ × Option Bounds). name_bits e.0 e.1) es)) ns
     join [] a b = tt
@@ -227,5 +224,5 @@ nets_apart ps sounds clear =
     let small = small_all ps ps sounds in
     subst (λ (ns : List (List ℕ)). Distinct ns) (sym (plain_names es))
     (all_apart es es clear
-      (each_weaker (IsEntry es) (IsSafe es) es
-        (λ e is. record { entry = is; small = subst IsSmallOption (sym (bounds_are ps e.0) ∙ is.bounds) (small_bounds (declarations ps) e.0 small) }) (each_entry es apart)) apart)
+    (each_weaker (IsEntry es) (IsSafe es) es
+    (λ e is. record { entry = is; small = subst IsSmallOption (sym (bounds_are ps e.0) ∙ is.bounds) (small_bounds (declarations ps) e.0 small) }) (each_entry es apart)) apart)

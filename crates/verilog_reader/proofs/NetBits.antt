@@ -1,13 +1,10 @@
 -- The bits of expressions by their names.
-use Rattle.std.proofs.Common.{◌≡◌, ℕ, zero, suc, ◌+◌, ◌-◌, ◌<◌, ◌≤◌, Bool, true, false, cond, not, ◌||◌, ◌&&◌, min, max, leb, List, [], ◌∷◌, ◌++◌, length, map, get_or, Option, Some, None, refl, sym, ap, subst, inl, inr, ◌∙◌, arith}
-use Rattle.std.specs.Option.{is_some, IsSome}
+use Rattle.std.proofs.Common.{◌≡◌, ℕ, zero, suc, ◌+◌, ◌-◌, ◌<◌, ◌≤◌, Bool, true, false, cond, ◌&&◌, min, max, leb, List, [], ◌∷◌, ◌++◌, length, map, get_or, Option, Some, None, refl, sym, ap, subst, inl, inr, ◌∙◌, arith}
 use Rattle.std.specs.List.{flat_map}
 use Rattle.std.specs.Str.{bytes_eq}
-use Rattle.std.proofs.lemmas.Bool.{false≢true, cases_Bool, and_parts, leb-true, leb-false}
+use Rattle.std.proofs.lemmas.Bool.{cases_Bool, and_parts, leb-true, leb-false}
 use Rattle.std.proofs.lemmas.Option.{none-some, same_Some}
-use Rattle.std.proofs.lemmas.List.{append_assoc, get_or_append_left, get_or-append-add, get_or-append_right, get_or-map, length-append, map-append}
-use Rattle.netlist_core.specs.declared.netlist.NetId.{NetId}
-use Rattle.netlist_core.specs.declared.netlist.Bit.{Bit}
+use Rattle.std.proofs.lemmas.List.{append_assoc, get_or_append_left, get_or-append-add, get_or-map, length-append}
 use Rattle.netlist_core.specs.declared.netlist.NetName.{NetName}
 use Rattle.netlist_core.specs.Netlists.{NamedBit, Named, named_bit, plain_of as net_plain}
 use Rattle.verilog_reader.specs.declared.bounds.Bounds.{Bounds}
@@ -16,7 +13,7 @@ use Rattle.verilog_reader.specs.Values.{bit_name}
 use Rattle.verilog_reader.specs.Declarations.{width, has_index, has_part, offset, index_at, indexes_from, indexes}
 use Rattle.verilog_reader.specs.Faults.{width_or_one}
 use Rattle.verilog_reader.specs.Denoted.{entry_nets, name_bits, named_of, bit_text}
-use Rattle.verilog_reader.specs.Numbering.{total, place_from, place, numbers_from, net_bit, net_bits}
+use Rattle.verilog_reader.specs.Numbering.{place_from, place, net_bits}
 use Rattle.verilog_reader.proofs.Filling.{Entries}
 use Rattle.verilog_reader.proofs.Places.{same_bytes}
 use Rattle.verilog_reader.proofs.NumberedLists.{length-entry, length-indexes_from}
@@ -60,15 +57,15 @@ at_place q front at (x ∷ es) e k d long is lt =
           let l = length-entry x.0 x.1 in
           let in' : k < length (entry_nets x.0 x.1) = omega arith in
           subst (λ (e : Entry). (get_or (front ++ nets_of (x ∷ es)) (e.first + k) d).plain ≡ bit_at q e.bounds k) one
-            (ap (λ (n : ℕ). (get_or (front ++ nets_of (x ∷ es)) (n + k) d).plain) (sym long)
-              ∙ ap (λ (n : NetName). n.plain) (get_or-append-add front (nets_of (x ∷ es)) k d ∙ get_or_append_left (entry_nets x.0 x.1) (nets_of es) d k in')
-              ∙ at_entry x.0 x.1 k d lt' ∙ ap (λ (n : List ℕ). bit_at n x.1 k) (sym (same_bytes q x.0 same)))
+          (ap (λ (n : ℕ). (get_or (front ++ nets_of (x ∷ es)) (n + k) d).plain) (sym long)
+          ∙ ap (λ (n : NetName). n.plain) (get_or-append-add front (nets_of (x ∷ es)) k d ∙ get_or_append_left (entry_nets x.0 x.1) (nets_of es) d k in')
+          ∙ at_entry x.0 x.1 k d lt' ∙ ap (λ (n : List ℕ). bit_at n x.1 k) (sym (same_bytes q x.0 same)))
       | inr other ↦
           let l = length-entry x.0 x.1 in
           let long' : length (front ++ entry_nets x.0 x.1) ≡ at + width_or_one x.1 = length-append front (entry_nets x.0 x.1) ∙ omega arith in
           ap (λ (ns : List NetName). (get_or ns (e.first + k) d).plain) (sym (append_assoc front (entry_nets x.0 x.1) (nets_of es)))
           ∙ at_place q (front ++ entry_nets x.0 x.1) (at + width_or_one x.1) es e k d long'
-            (ap (λ (t : Bool). cond t (Some (record { first = at; bounds = x.1 })) (place_from (at + width_or_one x.1) es q)) (sym other) ∙ is) lt
+          (ap (λ (t : Bool). cond t (Some (record { first = at; bounds = x.1 })) (place_from (at + width_or_one x.1) es q)) (sym other) ∙ is) lt
     ]
 
 -- a net of a name is named by its place from the left
@@ -85,11 +82,11 @@ run nets q b first from (suc n) are =
     let head = ap (λ (m : ℕ). net_plain nets (record { 0 = m })) (sym here) ∙ are 0 (omega arith) ∙ ap (λ (m : ℕ). bit_name q (index_at b m)) there in
     ap (λ (name : List ℕ). Named name ∷ map (named_bit nets) (net_bits (first + 1) n)) head
     ∙ ap (λ (rest : List NamedBit). Named (bit_name q (index_at b from)) ∷ rest)
-      (run nets q b (first + 1) (from + 1) n
-        (λ k lt.
-          let e : first + 1 + k ≡ first + suc k = omega arith in
-          let f : from + suc k ≡ from + 1 + k = omega arith in
-          ap (λ (m : ℕ). net_plain nets (record { 0 = m })) e ∙ are (suc k) (omega arith) ∙ ap (λ (m : ℕ). bit_name q (index_at b m)) f))
+    (run nets q b (first + 1) (from + 1) n
+    (λ k lt.
+    let e : first + 1 + k ≡ first + suc k = omega arith in
+    let f : from + suc k ≡ from + 1 + k = omega arith in
+    ap (λ (m : ℕ). net_plain nets (record { 0 = m })) e ∙ are (suc k) (omega arith) ∙ ap (λ (m : ℕ). bit_name q (index_at b m)) f))
 
 -- all bits of a name
 pub all_named : (es : Entries) (q : List ℕ) (e : Entry) → place es q ≡ Some e → map (named_bit (nets_of es)) (net_bits e.first (width_or_one e.bounds)) ≡ named_of (name_bits q e.bounds)
@@ -99,7 +96,7 @@ all_named es q e is = by e.bounds refl
     by None none =
         let here : e.first ≡ e.first + 0 = omega arith in
         ap (λ (name : List ℕ). Named name ∷ [])
-          (ap (λ (m : ℕ). net_plain (nets_of es) (record { 0 = m })) here ∙ at_bit es q e 0 is (subst (λ (b : Option Bounds). 0 < width_or_one b) (sym none) (omega arith)) ∙ ap (λ (b : Option Bounds). bit_at q b 0) none)
+        (ap (λ (m : ℕ). net_plain (nets_of es) (record { 0 = m })) here ∙ at_bit es q e 0 is (subst (λ (b : Option Bounds). 0 < width_or_one b) (sym none) (omega arith)) ∙ ap (λ (b : Option Bounds). bit_at q b 0) none)
     by (Some b) some =
         run (nets_of es) q b e.first 0 (width b)
         (λ k lt. let zero_k : k ≡ 0 + k = omega arith in at_bit es q e k is (subst (λ (b : Option Bounds). k < width_or_one b) (sym some) lt) ∙ ap (λ (b : Option Bounds). bit_at q b k) some ∙ ap (λ (m : ℕ). bit_name q (index_at b m)) zero_k)
@@ -110,6 +107,7 @@ back b i is = by (leb b.right b.left) refl
   where
     parts : (min b.left b.right ≤ i) × (i ≤ max b.left b.right)
     parts = let both = and_parts (leb (min b.left b.right) i) (leb i (max b.left b.right)) is in (leb-true (min b.left b.right) i both.0, leb-true i (max b.left b.right) both.1)
+
     by : (t : Bool) → leb b.right b.left ≡ t → cond t (b.left - cond t (b.left - i) (i - b.left)) (b.left + cond t (b.left - i) (i - b.left)) ≡ i
     by true down = omega (arith, parts.0, parts.1, leb-true b.right b.left down)
     by false up = omega (arith, parts.0, parts.1, leb-false b.right b.left up)
@@ -119,6 +117,7 @@ offset_within b i is = by (leb b.right b.left) refl
   where
     parts : (min b.left b.right ≤ i) × (i ≤ max b.left b.right)
     parts = let both = and_parts (leb (min b.left b.right) i) (leb i (max b.left b.right)) is in (leb-true (min b.left b.right) i both.0, leb-true i (max b.left b.right) both.1)
+
     by : (t : Bool) → leb b.right b.left ≡ t → cond t (b.left - i) (i - b.left) < (max b.left b.right - min b.left b.right) + 1
     by true down = omega (arith, parts.0, parts.1, leb-true b.right b.left down)
     by false up = omega (arith, parts.0, parts.1, leb-false b.right b.left up)
@@ -170,11 +169,11 @@ part_named es q e b part is some has =
     let p = is_part b part has in
     run (nets_of es) q part (e.first + offset b part.left) 0 (width part)
     (λ k lt.
-      let sums : e.first + offset b part.left + k ≡ e.first + (offset b part.left + k) = omega arith in
-      let zero_k : k ≡ 0 + k = omega arith in
-      ap (λ (m : ℕ). net_plain (nets_of es) (record { 0 = m })) sums
-      ∙ at_bit es q e (offset b part.left + k) is (subst (λ (x : Option Bounds). offset b part.left + k < width_or_one x) (sym some) (part_within b part k p lt))
-      ∙ ap (λ (x : Option Bounds). bit_at q x (offset b part.left + k)) some ∙ ap (bit_name q) (part_at b part k p lt ∙ ap (index_at part) zero_k))
+    let sums : e.first + offset b part.left + k ≡ e.first + (offset b part.left + k) = omega arith in
+    let zero_k : k ≡ 0 + k = omega arith in
+    ap (λ (m : ℕ). net_plain (nets_of es) (record { 0 = m })) sums
+    ∙ at_bit es q e (offset b part.left + k) is (subst (λ (x : Option Bounds). offset b part.left + k < width_or_one x) (sym some) (part_within b part k p lt))
+    ∙ ap (λ (x : Option Bounds). bit_at q x (offset b part.left + k)) some ∙ ap (bit_name q) (part_at b part k p lt ∙ ap (index_at part) zero_k))
 
 -- one bit
 pub one_named : (es : Entries) (q : List ℕ) (e : Entry) (b : Bounds) (i : ℕ) → place es q ≡ Some e → e.bounds ≡ Some b → has_index b i ≡ true

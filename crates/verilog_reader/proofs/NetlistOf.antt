@@ -3,7 +3,6 @@ use Rattle.std.proofs.Common.{◌≡◌, ◌∙◌, ℕ, ◌+◌, ◌<◌, ◌�
 use Rattle.std.specs.List.{flat_map, All}
 use Rattle.text_scan.specs.Each.{Each}
 use Rattle.text_scan.specs.declared.kind.Kind.TheVariants.{VerilogNumber, VerilogTwice, BadSelect}
-use Rattle.netlist_core.specs.declared.netlist.NetName.{NetName}
 use Rattle.netlist_core.specs.declared.netlist.Port.{Port}
 use Rattle.netlist_core.specs.Netlists.{IsAssign, IsInstance, IsNetlist}
 use Rattle.verilog_syntax.specs.declared.reading.Placed.{Placed}

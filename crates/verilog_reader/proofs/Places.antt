@@ -1,7 +1,7 @@
 -- The entries of a module: which names have one, with which bounds, and in which order.
-use Rattle.std.proofs.Common.{◌≡◌, ℕ, zero, suc, ◌+◌, ◌<◌, ◌≤◌, Bool, true, false, cond, not, ◌||◌, List, [], ◌∷◌, ◌++◌, map, Option, Some, None, refl, sym, ap, subst, inl, inr, ◌∙◌, arith}
-use Rattle.std.specs.Option.{is_some, IsSome}
-use Rattle.std.specs.List.{list_any, find, filter}
+use Rattle.std.proofs.Common.{◌≡◌, ℕ, ◌+◌, Bool, true, false, cond, not, ◌||◌, List, [], ◌∷◌, ◌++◌, map, Option, Some, None, refl, sym, ap, inl, inr, ◌∙◌}
+use Rattle.std.specs.Option.{is_some}
+use Rattle.std.specs.List.{list_any}
 use Rattle.std.specs.Str.{bytes_eq}
 use Rattle.std.proofs.lemmas.Bool.{false≢true, cases_Bool}
 use Rattle.std.proofs.lemmas.List.{append-nil, append_assoc}
@@ -13,7 +13,7 @@ use Rattle.verilog_reader.specs.declared.entry.Entry.{Entry}
 use Rattle.verilog_reader.specs.Declarations.{Declaration, declarations, is_named, first_of, is_declared, bounds_or_none, bounds_in, has, mentions, undeclared_in}
 use Rattle.verilog_reader.specs.Faults.{width_or_one}
 use Rattle.verilog_reader.specs.Denoted.{first_declared, first_mentioned, net_entries}
-use Rattle.verilog_reader.specs.Numbering.{total, place_from, place, bounds_or, with_entry, with_entries, with_declared, with_mentioned, entries}
+use Rattle.verilog_reader.specs.Numbering.{place_from, place, bounds_or, with_entry, with_entries, with_declared, with_mentioned, entries}
 use Rattle.verilog_reader.proofs.Filling.{Entries}
 
 pub same_bytes : (a b : List ℕ) → bytes_eq a b ≡ true → a ≡ b
@@ -114,6 +114,7 @@ more_bounds es n b q = by (is_some (place es n)) (placed es n)
     there true s is h = refl
     there false true is h = absurd (false≢true (h refl))
     there false false is h = no_place es q is
+
     by : (t : Bool) → t ≡ named es n → bounds_or (place (cond t es (es ++ (n, b) ∷ [])) q) ≡ cond (named es q) (bounds_or (place es q)) (cond (bytes_eq q n) b None)
     by true is = there (named es q) (bytes_eq q n) refl (λ same. same_named es q n (same_bytes q n same) (sym is))
     by false is = push_bounds 0 es n b q
@@ -156,7 +157,7 @@ declared_first es before [] same = sym (append-nil es)
 declared_first es before (d ∷ ds) same =
     declared_first (with_entry es d.name d.bounds) (before ++ d ∷ []) ds
     (λ q. named_more es d.name d.bounds q ∙ ap (λ (t : Bool). t || bytes_eq q d.name) (same q) ∙ ap (λ (t : Bool). is_declared before q || t) (bytes_swap q d.name)
-      ∙ sym (list_any-append (is_named q) before (d ∷ []) ∙ or_last (is_declared before q) (bytes_eq d.name q)))
+    ∙ sym (list_any-append (is_named q) before (d ∷ []) ∙ or_last (is_declared before q) (bytes_eq d.name q)))
     ∙ by (is_some (place es d.name)) (is_declared before d.name) (placed es d.name ∙ same d.name)
   where
     by : (t s : Bool) → t ≡ s → cond t es (es ++ (d.name, d.bounds) ∷ []) ++ first_declared (before ++ d ∷ []) ds
@@ -172,19 +173,23 @@ mentioned_first es ds before [] same = sym (append-nil es)
 mentioned_first es ds before (name ∷ names) same =
     by (is_declared ds name) refl (mentioned_first es ds before names same)
     (mentioned_first (with_entry es name None) ds (before ++ name ∷ []) names
-      (λ q. named_more es name None q ∙ ap (λ (t : Bool). t || bytes_eq q name) (same q) ∙ or_assoc (is_declared ds q) (has before q) (bytes_eq q name)
-        ∙ ap (λ (t : Bool). is_declared ds q || (has before q || t)) (bytes_swap q name)
-        ∙ ap (λ (t : Bool). is_declared ds q || t) (sym (list_any-append (λ (other : List ℕ). bytes_eq other q) before (name ∷ []) ∙ or_last (has before q) (bytes_eq name q)))))
+    (λ q. named_more es name None q ∙ ap (λ (t : Bool). t || bytes_eq q name) (same q) ∙ or_assoc (is_declared ds q) (has before q) (bytes_eq q name)
+    ∙ ap (λ (t : Bool). is_declared ds q || (has before q || t)) (bytes_swap q name)
+    ∙ ap (λ (t : Bool). is_declared ds q || t) (sym (list_any-append (λ (other : List ℕ). bytes_eq other q) before (name ∷ []) ∙ or_last (has before q) (bytes_eq name q)))))
   where
     rest : List (List ℕ) → Entries
     rest before = first_mentioned before (undeclared_in ds names)
+
     e : List ℕ × Option Bounds
     e = (name, None)
+
     known : is_declared ds name ≡ true → with_entry es name None ≡ es
     known is = ap (λ (t : Bool). cond t es (es ++ e ∷ [])) (placed es name ∙ same name ∙ ap (λ (t : Bool). t || has before name) is)
+
     joins : (t s : Bool) → t ≡ s → cond t es (es ++ e ∷ []) ++ rest (before ++ name ∷ []) ≡ es ++ cond s (rest (before ++ name ∷ [])) (e ∷ rest (before ++ name ∷ []))
     joins t true is = ap (λ (t : Bool). cond t es (es ++ e ∷ []) ++ rest (before ++ name ∷ [])) is
     joins t false is = ap (λ (t : Bool). cond t es (es ++ e ∷ []) ++ rest (before ++ name ∷ [])) is ∙ append_assoc es (e ∷ []) (rest (before ++ name ∷ []))
+
     by : (t : Bool) → is_declared ds name ≡ t → with_mentioned es names ≡ es ++ rest before
         → with_mentioned (with_entry es name None) names ≡ with_entry es name None ++ rest (before ++ name ∷ [])
         → with_mentioned (with_entry es name None) names ≡ es ++ first_mentioned before (cond (not t) (name ∷ undeclared_in ds names) (undeclared_in ds names))

@@ -1,27 +1,24 @@
 -- Ports by their names: a name has one direction, at its first declaration.
-use Rattle.std.proofs.Common.{◌≡◌, ℕ, zero, suc, ◌+◌, ◌<◌, ◌≤◌, Bool, true, false, cond, not, ◌||◌, ◌&&◌, List, [], ◌∷◌, ◌++◌, length, map, Option, Some, None, refl, sym, ap, subst, inl, inr, ◌⊎◌, ◌∙◌}
+use Rattle.std.proofs.Common.{◌≡◌, ℕ, Bool, true, false, cond, not, ◌||◌, ◌&&◌, List, [], ◌∷◌, ◌++◌, map, Option, Some, None, refl, sym, ap, subst, inl, inr, ◌⊎◌, ◌∙◌}
 use Rattle.std.specs.Option.{is_some, IsSome, option_or}
 use Rattle.std.specs.List.{flat_map, list_any, find}
 use Rattle.std.proofs.lemmas.Bool.{false≢true, or_parts}
 use Rattle.std.proofs.lemmas.List.{append_assoc, append-nil, map-append}
 use Rattle.std.proofs.lemmas.List.Concat.{flat_map-append}
-use Rattle.std.proofs.lemmas.List.Folds.{list_any-append, find-append}
-use Rattle.std.proofs.lemmas.Slice.Eq.{bytes_eq-Decides}
+use Rattle.std.proofs.lemmas.List.Folds.{find-append}
 use Rattle.text_scan.specs.Each.{Each}
-use Rattle.netlist_core.specs.declared.netlist.NetId.{NetId}
 use Rattle.netlist_core.specs.declared.netlist.NetName.{NetName}
 use Rattle.netlist_core.specs.declared.netlist.Direction.{Direction}
-use Rattle.netlist_core.specs.declared.netlist.Port.{Port}
 use Rattle.netlist_core.specs.Netlists.{NamedBit, Named, Low, High, Undefined, named_bit, plain_of as net_plain}
 use Rattle.verilog_syntax.specs.declared.statement.Declared.{Declared}
 use Rattle.verilog_syntax.specs.declared.statement.Declared.TheVariants.{Input, Output, Inout, Wire, Tri, Supply0, Supply1}
 use Rattle.verilog_syntax.specs.declared.reading.Placed.{Placed}
 use Rattle.verilog_reader.specs.declared.bounds.Bounds.{Bounds}
 use Rattle.verilog_reader.specs.declared.entry.Entry.{Entry}
-use Rattle.verilog_reader.specs.Declarations.{Declaration, declarations_in, declarations, is_named, first_of, is_declared, bounds_or_none, bounds_in, is_port_kind, is_wire, ports_in, has}
-use Rattle.verilog_reader.specs.Faults.{width_or_one, same_bounds, may_stand_again, stands_again, any_again, has_twice, pins_in, instance_names, instances_named, are_bits, have_bits, scalars_in, scalars, bad_twice}
+use Rattle.verilog_reader.specs.Declarations.{Declaration, declarations_in, declarations, is_named, first_of, bounds_or_none, bounds_in, is_port_kind, is_wire, ports_in, has}
+use Rattle.verilog_reader.specs.Faults.{width_or_one, same_bounds, stands_again, any_again, has_twice, pins_in, instance_names, instances_named, are_bits, have_bits, scalars_in, scalars, bad_twice}
 use Rattle.verilog_reader.specs.Denoted.{SeenPort, directions_of, name_bits, named_of, said_port, said_ports_of, said_ports, seen_port}
-use Rattle.verilog_reader.specs.Numbering.{place, bounds_or, numbers_from, net_bit, net_bits, numbered_port, port_bits, numbered_ports_of, numbered_ports_in, numbered_ports, entries}
+use Rattle.verilog_reader.specs.Numbering.{place, bounds_or, numbers_from, net_bit, numbered_port, port_bits, numbered_ports_of, numbered_ports_in, numbered_ports}
 use Rattle.verilog_reader.proofs.Filling.{Entries}
 use Rattle.verilog_reader.proofs.Places.{bytes_same, placed, named}
 use Rattle.verilog_reader.proofs.NetBits.{nets_of, all_named}
@@ -148,6 +145,7 @@ plain_bits nets (n ∷ ns) (name ∷ names) is line direction =
   where
     head_of : (x y : NamedBit) (xs ys : List NamedBit) → ◌≡◌ {A = List NamedBit} (x ∷ xs) (y ∷ ys) → x ≡ y
     head_of x y xs ys is = cc
+
     tail_of : (x y : NamedBit) (xs ys : List NamedBit) → ◌≡◌ {A = List NamedBit} (x ∷ xs) (y ∷ ys) → xs ≡ ys
     tail_of x y xs ys is = cc
 
@@ -204,6 +202,6 @@ seen_ports es all agree (p ∷ ps) declared first =
     let P = λ (d : Declaration). named es d.name ≡ true in
     map-append (seen_port (nets_of es)) (numbered_ports_in es p.line p.statement) (numbered_ports es ps)
     ∙ ap (λ (ports : List SeenPort). ports ++ map (seen_port (nets_of es)) (numbered_ports es ps))
-      (ports_in_row es all agree p.line (declarations_in p.statement) (each_left P (declarations_in p.statement) (declarations ps) declared) (each_left (IsFirst all) (declarations_in p.statement) (declarations ps) first))
+    (ports_in_row es all agree p.line (declarations_in p.statement) (each_left P (declarations_in p.statement) (declarations ps) declared) (each_left (IsFirst all) (declarations_in p.statement) (declarations ps) first))
     ∙ ap (λ (ports : List SeenPort). flat_map (said_ports_of p.line) (declarations_in p.statement) ++ ports)
-      (seen_ports es all agree ps (each_right P (declarations_in p.statement) (declarations ps) declared) (each_right (IsFirst all) (declarations_in p.statement) (declarations ps) first))
+    (seen_ports es all agree ps (each_right P (declarations_in p.statement) (declarations ps) declared) (each_right (IsFirst all) (declarations_in p.statement) (declarations ps) first))

@@ -1,15 +1,13 @@
 -- Ports have nets of their own, and instances names of their own.
-use Rattle.std.proofs.Common.{◌≡◌, ℕ, zero, suc, ◌+◌, ◌-◌, ◌<◌, ◌≤◌, Bool, true, false, cond, not, ◌||◌, List, [], ◌∷◌, ◌++◌, map, Option, Some, None, refl, sym, ap, subst, inl, inr, ◌⊎◌, ◌∙◌, arith}
-use Rattle.std.specs.Option.{is_some, IsSome}
-use Rattle.std.specs.List.{flat_map, list_any, find}
+use Rattle.std.proofs.Common.{◌≡◌, ℕ, zero, suc, ◌+◌, ◌<◌, ◌≤◌, Bool, true, false, cond, List, [], ◌∷◌, ◌++◌, map, Option, Some, None, refl, sym, ap, subst, inl, inr, ◌⊎◌, ◌∙◌, arith}
+use Rattle.std.specs.List.{flat_map, list_any}
 use Rattle.std.specs.Str.{bytes_eq}
 use Rattle.std.proofs.lemmas.Bool.{false≢true, or_parts, cases_Bool}
 use Rattle.std.proofs.lemmas.Option.{none-some, same_Some}
-use Rattle.std.proofs.lemmas.List.{append_assoc, append-nil, map-append}
+use Rattle.std.proofs.lemmas.List.{append-nil, map-append}
 use Rattle.std.proofs.lemmas.List.Concat.{flat_map-append}
 use Rattle.std.proofs.lemmas.List.Folds.{list_any-append}
 use Rattle.text_scan.specs.Each.{Each}
-use Rattle.netlist_core.specs.declared.netlist.NetId.{NetId}
 use Rattle.netlist_core.specs.declared.netlist.Direction.{Direction}
 use Rattle.netlist_core.specs.declared.netlist.Port.{Port}
 use Rattle.netlist_core.specs.declared.netlist.Instance.{Instance}
@@ -122,7 +120,7 @@ places_apart p q at (x ∷ es) e f ne is_e is_f =
             | inr there ↦
                 let first : Entry = record { first = at; bounds = x.1 } in
                 places_apart p q (at + width_or_one x.1) es e f ne (ap (λ (t : Bool). cond t (Some first) (place_from (at + width_or_one x.1) es p)) (sym other) ∙ is_e)
-                  (ap (λ (t : Bool). cond t (Some first) (place_from (at + width_or_one x.1) es q)) (sym there) ∙ is_f)
+                (ap (λ (t : Bool). cond t (Some first) (place_from (at + width_or_one x.1) es q)) (sym there) ∙ is_f)
           ]
     ]
 
@@ -131,7 +129,7 @@ numbers_below first zero = tt
 numbers_below first (suc n) = (
   (omega arith, omega arith),
   each_weaker (λ (k : ℕ). (first + 1 ≤ k) × (k < first + 1 + n)) (λ (k : ℕ). (first ≤ k) × (k < first + suc n)) (numbers_from (first + 1) n)
-    (λ k h. (let a = h.0 in omega (arith, a), let b = h.1 in omega (arith, b))) (numbers_below (first + 1) n),
+      (λ k h. (let a = h.0 in omega (arith, a), let b = h.1 in omega (arith, b))) (numbers_below (first + 1) n),
 )
 
 numbers_apart : (first n : ℕ) → Distinct (numbers_from first n)
@@ -146,9 +144,9 @@ rows_apart : (e f : Entry) → IsBefore e f ⊎ IsBefore f e
 rows_apart e f order =
     each_weaker (λ (x : ℕ). (e.first ≤ x) × (x < e.first + width_or_one e.bounds)) (λ (x : ℕ). IsApartFrom x (numbers_from f.first (width_or_one f.bounds))) (numbers_from e.first (width_or_one e.bounds))
     (λ x h.
-      each_weaker (λ (y : ℕ). (f.first ≤ y) × (y < f.first + width_or_one f.bounds)) (λ (y : ℕ). x ≡ y → ⊥) (numbers_from f.first (width_or_one f.bounds))
-        (λ y g same. let a = h.0 in let b = h.1 in let c = g.0 in let d = g.1 in elim order [ inl first ↦ omega (arith, a, b, c, d, first, same) | inr second ↦ omega (arith, a, b, c, d, second, same) ])
-        (numbers_below f.first (width_or_one f.bounds)))
+    each_weaker (λ (y : ℕ). (f.first ≤ y) × (y < f.first + width_or_one f.bounds)) (λ (y : ℕ). x ≡ y → ⊥) (numbers_from f.first (width_or_one f.bounds))
+    (λ y g same. let a = h.0 in let b = h.1 in let c = g.0 in let d = g.1 in elim order [ inl first ↦ omega (arith, a, b, c, d, first, same) | inr second ↦ omega (arith, a, b, c, d, second, same) ])
+    (numbers_below f.first (width_or_one f.bounds)))
     (numbers_below e.first (width_or_one e.bounds))
 
 names_apart : (es : Entries) (p q : List ℕ) → (p ≡ q → ⊥) → Each (λ x. IsApartFrom x (numbers_of (place es q))) (numbers_of (place es p))
@@ -184,11 +182,11 @@ port_list before (d ∷ ds) are =
       new = (
         are.0,
         each_weaker (λ (f : Declaration). is_port_kind f.kind ≡ true → is_declared (before ++ d ∷ []) f.name ≡ false) (λ (f : Declaration). is_port_kind f.kind ≡ true → is_declared before f.name ≡ false) ds
-          (λ f h port. (both f (h port)).0) rest.new,
+            (λ f h port. (both f (h port)).0) rest.new,
       );
       apart = (
         each_weaker (λ (f : Declaration). is_port_kind f.kind ≡ true → is_declared (before ++ d ∷ []) f.name ≡ false) (IsOther d) ds
-          (λ f h port same. false≢true (sym (or_parts (bytes_eq d.name f.name) false (both f (h port)).1).0 ∙ bytes_same d.name f.name same)) rest.new,
+            (λ f h port same. false≢true (sym (or_parts (bytes_eq d.name f.name) false (both f (h port)).1).0 ∙ bytes_same d.name f.name same)) rest.new,
         rest.apart,
       );
     }

@@ -1,7 +1,7 @@
 -- No scalar net has the name of a vector's bit.
 use Rattle.std.proofs.Common.{◌≡◌, ℕ, Bool, true, false, cond, not, ◌||◌, List, [], ◌∷◌, ◌++◌, map, Option, Some, None, refl, sym, ap, subst, ◌∙◌}
 use Rattle.std.specs.Option.{is_some, option_or}
-use Rattle.std.specs.List.{flat_map, list_any, find, filter}
+use Rattle.std.specs.List.{list_any, filter}
 use Rattle.std.specs.Str.{bytes_eq}
 use Rattle.std.proofs.lemmas.Bool.{false≢true, or_parts}
 use Rattle.std.proofs.lemmas.List.{append_assoc, append-nil}
@@ -14,9 +14,8 @@ use Rattle.verilog_syntax.specs.declared.statement.Statement.TheVariants as stat
 use Rattle.verilog_syntax.specs.declared.reading.Placed.{Placed}
 use Rattle.verilog_reader.specs.declared.bounds.Bounds.{Bounds}
 use Rattle.verilog_reader.specs.Declarations.{Declaration, declaration_of, declarations_in, declarations, is_named, first_of, is_declared, bounds_or_none, bounds_in, mentions_in, mentions, undeclared_in, has}
-use Rattle.verilog_reader.specs.Faults.{is_vector, has_bit_in, scalars_in, scalars, are_bits, have_bits, bad_twice}
-use Rattle.verilog_reader.specs.Numbering.{place, bounds_or, with_declared, entries}
-use Rattle.verilog_reader.proofs.Filling.{Entries}
+use Rattle.verilog_reader.specs.Faults.{is_vector, has_bit_in, scalars_in, scalars, have_bits, bad_twice}
+use Rattle.verilog_reader.specs.Numbering.{with_declared, entries}
 use Rattle.verilog_reader.proofs.Places.{same_bytes, bytes_swap, named, named_all, declared_named, bounds_are}
 use Rattle.verilog_reader.proofs.Checked.{Passes}
 use Rattle.verilog_reader.proofs.PortNames.{IsApart, apart, declarations_push, find_any}
@@ -43,6 +42,7 @@ declared_scalar s (d ∷ ds) is none = by (bytes_eq d.name s) (is_some d.bounds)
   where
     bounds_none : (b : Option Bounds) → b ≡ None → is_some b ≡ false
     bounds_none b is = ap is_some is
+
     by : (t v : Bool) → bytes_eq d.name s ≡ t → is_some d.bounds ≡ v → (t || is_declared ds s) ≡ true → bounds_or_none (cond t (Some d) (first_of s ds)) ≡ None
         → (is_declared ds s ≡ true → bounds_in ds s ≡ None → has (scalar_names ds) s ≡ true)
         → has (map (λ (d : Declaration). d.name) (cond (not v) (d ∷ filter (λ d. not (is_vector d)) ds) (filter (λ d. not (is_vector d)) ds))) s ≡ true
@@ -83,8 +83,8 @@ scalar_in_row all s (p ∷ ps) is none =
     by true here is rest =
         or_left (has (scalars_in all p.statement) s) (has (scalars all ps) s)
         (has_append (scalar_names (declarations_in p.statement)) (undeclared_in all (mentions_in p.statement)) s
-          ∙ or_left (has (scalar_names (declarations_in p.statement)) s) (has (undeclared_in all (mentions_in p.statement)) s)
-            (declared_scalar s (declarations_in p.statement) here (sym (first_in s (declarations_in p.statement) (declarations ps) true here) ∙ none)))
+        ∙ or_left (has (scalar_names (declarations_in p.statement)) s) (has (undeclared_in all (mentions_in p.statement)) s)
+        (declared_scalar s (declarations_in p.statement) here (sym (first_in s (declarations_in p.statement) (declarations ps) true here) ∙ none)))
     by false other is rest =
         or_right (has (scalars_in all p.statement) s) (has (scalars all ps) s)
         (rest (ap (λ (t : Bool). t || is_declared (declarations ps) s) (sym other) ∙ is) (sym (first_in s (declarations_in p.statement) (declarations ps) false other) ∙ none))
@@ -100,7 +100,7 @@ mention_in_row all s (p ∷ ps) new is =
     by true here is rest =
         or_left (has (scalars_in all p.statement) s) (has (scalars all ps) s)
         (has_append (scalar_names (declarations_in p.statement)) (undeclared_in all (mentions_in p.statement)) s
-          ∙ or_right (has (scalar_names (declarations_in p.statement)) s) (has (undeclared_in all (mentions_in p.statement)) s) (undeclared_scalar all s (mentions_in p.statement) new here))
+        ∙ or_right (has (scalar_names (declarations_in p.statement)) s) (has (undeclared_in all (mentions_in p.statement)) s) (undeclared_scalar all s (mentions_in p.statement) new here))
     by false other is rest = or_right (has (scalars_in all p.statement) s) (has (scalars all ps) s) (rest (ap (λ (t : Bool). t || has (mentions ps) s) (sym other) ∙ is))
 
 mentioned : (names : List (List ℕ)) (q : List ℕ) → named (map (λ (name : List ℕ). let e : List ℕ × Option Bounds = (name, None) in e) names) q ≡ has names q
@@ -114,13 +114,15 @@ is_scalar ps s there none = by (is_declared (declarations ps) s) refl
   where
     ds : List Declaration
     ds = declarations ps
+
     which : (is_declared (declarations ps) s || has (mentions ps) s) ≡ true
     which =
         sym (named_all (with_declared [] (declarations ps)) (map (λ (name : List ℕ). let e : List ℕ × Option Bounds = (name, None) in e) (mentions ps)) s
-          ∙ ap (λ (t : Bool). t || named (map (λ (name : List ℕ). let e : List ℕ × Option Bounds = (name, None) in e) (mentions ps)) s)
-            (named_all [] (map (λ (d : Declaration). let e : List ℕ × Option Bounds = (d.name, d.bounds) in e) (declarations ps)) s ∙ declared_named (declarations ps) s)
-          ∙ ap (λ (t : Bool). is_declared (declarations ps) s || t) (mentioned (mentions ps) s))
+        ∙ ap (λ (t : Bool). t || named (map (λ (name : List ℕ). let e : List ℕ × Option Bounds = (name, None) in e) (mentions ps)) s)
+        (named_all [] (map (λ (d : Declaration). let e : List ℕ × Option Bounds = (d.name, d.bounds) in e) (declarations ps)) s ∙ declared_named (declarations ps) s)
+        ∙ ap (λ (t : Bool). is_declared (declarations ps) s || t) (mentioned (mentions ps) s))
         ∙ there
+
     by : (t : Bool) → is_declared (declarations ps) s ≡ t → has (scalars (declarations ps) ps) s ≡ true
     by true declared = scalar_in_row (declarations ps) s ps declared none
     by false new = mention_in_row (declarations ps) s ps new (ap (λ (t : Bool). t || has (mentions ps) s) (sym new) ∙ which)
@@ -132,6 +134,7 @@ none_named f v (d ∷ ds) is none = by (bytes_eq d.name v) refl is (none_named f
   where
     both : (f d.name ≡ false) × (list_any (λ (d : Declaration). f d.name) ds ≡ false)
     both = or_parts (f d.name) (list_any (λ (d : Declaration). f d.name) ds) none
+
     by : (t : Bool) → bytes_eq d.name v ≡ t → (t || is_declared ds v) ≡ true → (is_declared ds v ≡ true → list_any (λ d. f d.name) ds ≡ false → f v ≡ false) → f v ≡ false
     by true here is rest = ap f (sym (same_bytes d.name v here)) ∙ both.0
     by false other is rest = rest is both.1
@@ -142,6 +145,7 @@ none_has g s (name ∷ names) is none = by (bytes_eq name s) refl is (none_has g
   where
     both : (g name ≡ false) × (list_any g names ≡ false)
     both = or_parts (g name) (list_any g names) none
+
     by : (t : Bool) → bytes_eq name s ≡ t → (t || has names s) ≡ true → (has names s ≡ true → list_any g names ≡ false → g s ≡ false) → g s ≡ false
     by true here is rest = ap g (sym (same_bytes name s here)) ∙ both.0
     by false other is rest = rest is both.1
@@ -152,6 +156,7 @@ first_vector v s names (d ∷ ds) is none = by (bytes_eq d.name v) refl (first_v
   where
     both : (list_any (has_bit_in d.name d.bounds) names ≡ false) × (have_bits ds names ≡ false)
     both = or_parts (list_any (has_bit_in d.name d.bounds) names) (have_bits ds names) none
+
     by : (t : Bool) → bytes_eq d.name v ≡ t → (have_bits ds names ≡ false → has_bit_in v (bounds_in ds v) s ≡ false) → has_bit_in v (bounds_or_none (cond t (Some d) (first_of v ds))) s ≡ false
     by true here rest = ap (λ (n : List ℕ). has_bit_in n d.bounds s) (sym (same_bytes d.name v here)) ∙ none_has (has_bit_in d.name d.bounds) s names is both.0
     by false other rest = rest both.1
@@ -184,7 +189,7 @@ IsClearSo all s v before = has (scalars all before) s ≡ true → has_bit_in v 
 scalars_push : (all : List Declaration) (before : List Placed) (p : Placed) (s : List ℕ) → has (scalars all (before ++ p ∷ [])) s ≡ (has (scalars all before) s || has (scalars_in all p.statement) s)
 scalars_push all before p s =
     ap (λ (ns : List (List ℕ)). has ns s)
-      (flat_map-append (λ (p : Placed). scalars_in all p.statement) before (p ∷ []) ∙ ap (λ (ns : List (List ℕ)). scalars all before ++ ns) (append-nil (scalars_in all p.statement)))
+    (flat_map-append (λ (p : Placed). scalars_in all p.statement) before (p ∷ []) ∙ ap (λ (ns : List (List ℕ)). scalars all before ++ ns) (append-nil (scalars_in all p.statement)))
     ∙ has_append (scalars all before) (scalars_in all p.statement) s
 
 one_more : (ps : List Placed) (s v : List ℕ) (before : List Placed) (p : Placed) → IsApart ps before p → IsClearSo (declarations ps) s v before → IsClearSo (declarations ps) s v (before ++ p ∷ [])
@@ -195,6 +200,7 @@ one_more ps s v before p far clear is =
     here : (t : Bool) → is_declared (declarations before) v ≡ t
         → has_bit_in v (bounds_in (declarations before ++ declarations_in p.statement) v) s ≡ has_bit_in v (cond t (bounds_in (declarations before) v) (bounds_in (declarations_in p.statement) v)) s
     here t is = ap (λ (b : Option Bounds). has_bit_in v b s) (first_in v (declarations before) (declarations_in p.statement) t is)
+
     by : (t u : Bool) → is_declared (declarations before) v ≡ t → has (scalars (declarations ps) before) s ≡ u → (has (scalars (declarations ps) before) s || has (scalars_in (declarations ps) p.statement) s) ≡ true
         → has_bit_in v (bounds_in (declarations before ++ declarations_in p.statement) v) s ≡ false
     by true true declared scalar is = here true declared ∙ clear scalar
@@ -202,7 +208,7 @@ one_more ps s v before p far clear is =
         let there : has (scalars_in (declarations ps) p.statement) s ≡ true = ap (λ (t : Bool). t || has (scalars_in (declarations ps) p.statement) s) (sym other) ∙ is in
         here true declared
         ∙ none_has (has_bit_in v (bounds_in (declarations before) v)) s (scalars_in (declarations ps) p.statement) there
-          (none_named (λ (name : List ℕ). list_any (has_bit_in name (bounds_in (declarations before) name)) (scalars_in (declarations ps) p.statement)) v (declarations before) declared far.no_scalar)
+        (none_named (λ (name : List ℕ). list_any (has_bit_in name (bounds_in (declarations before) name)) (scalars_in (declarations ps) p.statement)) v (declarations before) declared far.no_scalar)
     by false true new scalar is = here false new ∙ first_vector v s (scalars (declarations ps) before) (declarations_in p.statement) scalar far.no_vector
     by false false new other is =
         here false new ∙ within_one (declarations ps) v s p.statement (ap (λ (t : Bool). t || has (scalars_in (declarations ps) p.statement) s) (sym other) ∙ is)

@@ -1,17 +1,10 @@
 -- What the numbered netlist shows is what the statements say.
-use Rattle.std.proofs.Common.{◌≡◌, ℕ, zero, suc, ◌+◌, ◌-◌, ◌<◌, ◌≤◌, Bool, true, false, List, [], ◌∷◌, ◌++◌, map, Option, Some, None, refl, sym, ap, subst, ◌∙◌}
-use Rattle.std.specs.Option.{is_some, IsSome}
+use Rattle.std.proofs.Common.{◌≡◌, ℕ, ◌+◌, true, List, [], ◌∷◌, ◌++◌, map, Option, Some, None, refl, sym, ap, ◌∙◌}
+use Rattle.std.specs.Option.{IsSome}
 use Rattle.std.specs.List.{flat_map, All}
 use Rattle.std.proofs.lemmas.Bool.{false≢true}
 use Rattle.std.proofs.lemmas.List.{map-append}
 use Rattle.std.proofs.lemmas.List.Elements.{All-head, All-tail}
-use Rattle.netlist_core.specs.declared.netlist.NetId.{NetId}
-use Rattle.netlist_core.specs.declared.netlist.Bit.{Bit}
-use Rattle.netlist_core.specs.declared.netlist.NetName.{NetName}
-use Rattle.netlist_core.specs.declared.netlist.Direction.{Direction}
-use Rattle.netlist_core.specs.declared.netlist.Port.{Port}
-use Rattle.netlist_core.specs.declared.netlist.Assign.{Assign}
-use Rattle.netlist_core.specs.declared.netlist.Instance.{Instance}
 use Rattle.netlist_core.specs.Netlists.{NamedBit, Named, named_bit, plain_of as net_plain}
 use Rattle.verilog_syntax.specs.declared.statement.Item.{Item}
 use Rattle.verilog_syntax.specs.declared.statement.Item.TheVariants as items
@@ -24,8 +17,8 @@ use Rattle.verilog_reader.specs.declared.bounds.Bounds.{Bounds}
 use Rattle.verilog_reader.specs.declared.entry.Entry.{Entry}
 use Rattle.verilog_reader.specs.Values.{plain_of, decimal_value, bit_name}
 use Rattle.verilog_reader.specs.Constants.{constant_bits}
-use Rattle.verilog_reader.specs.Declarations.{Declaration, has_index, has_part, width, offset, bounds_in}
-use Rattle.verilog_reader.specs.Faults.{width_or_one, selects, selects_part, part_of}
+use Rattle.verilog_reader.specs.Declarations.{Declaration, width, bounds_in}
+use Rattle.verilog_reader.specs.Faults.{selects, selects_part, part_of}
 use Rattle.verilog_reader.specs.Denoted.{SeenExpression, SeenAssign, SeenConnection, SeenInstance, item_bits, name_bits, named_of, said_expression, said_assigns_in, said_connection, said_instances_in, seen_expression, seen_assign, seen_connection, seen_instance}
 use Rattle.verilog_reader.specs.Numbering.{place, bounds_or, net_bits, all_bits, one_bit, part_bits, offset_in, numbered_item, numbered_items, numbered_expression, numbered_connection, numbered_assigns_in, numbered_instances_in, numbered_assigns, numbered_instances, IsFineItem, IsFineExpression, IsFineStatement}
 use Rattle.verilog_reader.proofs.Filling.{Entries}
@@ -46,6 +39,7 @@ module _ (es : Entries) (ds : List Declaration) (agree : (q : List ℕ) → boun
       at : (e : Entry) (b : Option Bounds) → place es q ≡ Some e → e.bounds ≡ b → selects b i ≡ true → net_plain (nets_of es) (record { 0 = e.first + offset_in b i }) ≡ bit_name q i
       at e None is some within = absurd (false≢true within)
       at e (Some b) is some within = one_named es q e b i is some within
+
       by : (o : Option Entry) → place es q ≡ o → selects (bounds_or o) i ≡ true → map (named_bit (nets_of es)) (one_bit o i) ≡ Named (bit_name q i) ∷ []
       by None is within = absurd (false≢true within)
       by (Some e) is within = ap (λ (name : List ℕ). Named name ∷ []) (at e e.bounds is refl within)
@@ -57,6 +51,7 @@ module _ (es : Entries) (ds : List Declaration) (agree : (q : List ℕ) → boun
           → map (named_bit (nets_of es)) (net_bits (e.first + offset_in b part.left) (width part)) ≡ named_of (name_bits q (Some part))
       at e None is some within = absurd (false≢true within)
       at e (Some b) is some within = part_named es q e b part is some within
+
       by : (o : Option Entry) → place es q ≡ o → selects_part (bounds_or o) part ≡ true → map (named_bit (nets_of es)) (part_bits o part) ≡ named_of (name_bits q (Some part))
       by None is within = absurd (false≢true within)
       by (Some e) is within = at e e.bounds is refl within
@@ -85,7 +80,7 @@ module _ (es : Entries) (ds : List Declaration) (agree : (q : List ℕ) → boun
   seen_pins [] fine = refl
   seen_pins (c ∷ cs) fine =
       ap (λ (e : SeenExpression). let s : SeenConnection = record { pin = plain_of c.pin; expression = e } in s ∷ map (seen_connection (nets_of es)) (map (numbered_connection es) cs))
-        (seen_one c.expression (All-head (λ (c : Connection). IsFineExpression es c.expression) c cs fine))
+      (seen_one c.expression (All-head (λ (c : Connection). IsFineExpression es c.expression) c cs fine))
       ∙ ap (λ (rest : List SeenConnection). said_connection ds c ∷ rest) (seen_pins cs (All-tail (λ (c : Connection). IsFineExpression es c.expression) c cs fine))
 
   assigns_in : (line : ℕ) (s : Statement) → IsFineStatement es s → map (seen_assign (nets_of es)) (numbered_assigns_in es line s) ≡ said_assigns_in ds line s

@@ -1,5 +1,5 @@
 -- The net numbers of a numbered netlist lie within its nets, and its assigns are as wide on both sides.
-use Rattle.std.proofs.Common.{◌≡◌, ℕ, zero, suc, ◌+◌, ◌-◌, ◌/◌, ◌%◌, ◌<◌, ◌≤◌, Bool, true, false, cond, not, eqb, List, [], ◌∷◌, ◌++◌, length, map, drop, replicate, Option, Some, None, refl, sym, ap, subst, ◌∙◌, arith}
+use Rattle.std.proofs.Common.{◌≡◌, ℕ, zero, suc, ◌+◌, ◌-◌, ◌/◌, ◌<◌, ◌≤◌, Bool, true, false, cond, eqb, List, [], ◌∷◌, length, map, drop, replicate, Option, Some, None, refl, sym, ap, subst, ◌∙◌, arith}
 use Rattle.std.specs.Prelude.{fold}
 use Rattle.std.specs.Option.{IsSome}
 use Rattle.std.specs.List.{flat_map, All}
@@ -9,8 +9,6 @@ use Rattle.std.proofs.lemmas.List.Elements.{All-head, All-tail}
 use Rattle.text_scan.specs.Each.{Each}
 use Rattle.netlist_core.specs.declared.netlist.Bit.{Bit}
 use Rattle.netlist_core.specs.declared.netlist.Bit.TheVariants.{Net, Zero, One, Unknown}
-use Rattle.netlist_core.specs.declared.netlist.Assign.{Assign}
-use Rattle.netlist_core.specs.declared.netlist.Instance.{Instance}
 use Rattle.netlist_core.specs.declared.netlist.Connection.{Connection as NetConnection}
 use Rattle.netlist_core.specs.Netlists.{IsBitWithin, IsAssign, IsInstance, AreDistinct}
 use Rattle.verilog_syntax.specs.declared.statement.Item.{Item}
@@ -24,15 +22,14 @@ use Rattle.verilog_reader.specs.declared.bounds.Bounds.{Bounds}
 use Rattle.verilog_reader.specs.declared.entry.Entry.{Entry}
 use Rattle.verilog_reader.specs.Values.{plain_of, decimal_value}
 use Rattle.verilog_reader.specs.Constants.{value_bits, fill_of, fitted, digit_bits, digit_width, is_decimal_base, constant_base, constant_size, constant_digits, constant_bits}
-use Rattle.verilog_reader.specs.Declarations.{Declaration, declarations, width, offset, bounds_in}
+use Rattle.verilog_reader.specs.Declarations.{Declaration, width, bounds_in}
 use Rattle.verilog_reader.specs.Faults.{width_or_one, selects, selects_part, part_of, item_width, expression_width, differ_in_width, pins_in, has_twice}
-use Rattle.verilog_reader.specs.Numbering.{total, place, bounds_or, numbers_from, net_bit, net_bits, all_bits, one_bit, part_bits, offset_in, numbered_item, numbered_items, numbered_expression, numbered_connection, numbered_assigns_in, numbered_assigns, numbered_instances_in, numbered_instances, entries, IsFineItem, IsFineExpression, IsFineStatement}
+use Rattle.verilog_reader.specs.Numbering.{total, place, bounds_or, numbers_from, net_bit, net_bits, all_bits, one_bit, part_bits, offset_in, numbered_item, numbered_items, numbered_connection, numbered_assigns_in, numbered_assigns, numbered_instances_in, numbered_instances, IsFineItem, IsFineExpression, IsFineStatement}
 use Rattle.verilog_reader.proofs.Filling.{Entries}
 use Rattle.verilog_reader.proofs.Tables.{within}
 use Rattle.verilog_reader.proofs.NumberedLists.{length-numbers}
 use Rattle.verilog_reader.proofs.NetBits.{offset_within, part_end}
 use Rattle.verilog_reader.proofs.ConstantMarks.{IsMark, marks}
-use Rattle.verilog_reader.proofs.Checked.{IsSound}
 use Rattle.verilog_reader.proofs.Distinct.{each_append, each_weaker, all_of, distinct, distinct_names}
 
 -- numbers in a row
@@ -67,6 +64,7 @@ length-constant text = by (is_decimal_base (constant_base text))
   where
     digits : List Bit
     digits = flat_map (digit_bits (digit_width (constant_base text))) (constant_digits text)
+
     by : (t : Bool) → length (cond t (value_bits (constant_size text) (decimal_value (constant_digits text))) (fitted (constant_size text) (fill_of (constant_digits text)) digits)) ≡ constant_size text
     by true = length-value (constant_size text) (decimal_value (constant_digits text))
     by false = length-fitted (constant_size text) (fill_of (constant_digits text)) digits
@@ -96,6 +94,7 @@ module _ (es : Entries) (ds : List Declaration) (agree : (q : List ℕ) → boun
           let fits = subst (λ (b : Option Bounds). e.first + width_or_one b ≤ total es) some (within q es e is) in
           let here = offset_within b i chosen in
           omega (arith, fits, here)
+
       by : (o : Option Entry) → place es q ≡ o → selects (bounds_or o) i ≡ true → IsItem (one_bit o i) 1
       by None is chosen = absurd (false≢true chosen)
       by (Some e) is chosen = record { inside = (at e e.bounds is refl chosen, tt); many = refl }
@@ -109,6 +108,7 @@ module _ (es : Entries) (ds : List Declaration) (agree : (q : List ℕ) → boun
           let fits = subst (λ (b : Option Bounds). e.first + width_or_one b ≤ total es) some (within q es e is) in
           let here = part_end b part chosen in
           omega (arith, fits, here)
+
       by : (o : Option Entry) → place es q ≡ o → selects_part (bounds_or o) part ≡ true → IsItem (part_bits o part) (width part)
       by None is chosen = absurd (false≢true chosen)
       by (Some e) is chosen = record {

@@ -1,9 +1,8 @@
 -- What a Verilog text denotes: the netlist of its statements (IEEE 1364-2005, 12). A net bit is named by its plain name; net
 -- numbers are free.
-use Rattle.std.specs.Prelude.{length, ◌≡◌, ℕ, Bool, not, if◌then◌else◌, List, [], ◌∷◌, ◌++◌, map, filter, decimal, Option, Some, None, Ok}
+use Rattle.std.specs.Prelude.{length, ◌≡◌, ℕ, if◌then◌else◌, List, [], ◌∷◌, ◌++◌, map, decimal, Option, Some, None, Ok}
 use Rattle.std.specs.List.{flat_map}
 use Rattle.text_scan.specs.declared.span.Span.{Span}
-use Rattle.netlist_core.specs.declared.netlist.Bit.{Bit}
 use Rattle.netlist_core.specs.declared.netlist.Direction.{Direction}
 use Rattle.netlist_core.specs.declared.netlist.Direction.TheVariants as directions
 use Rattle.netlist_core.specs.declared.netlist.NetName.{NetName}

@@ -1,6 +1,6 @@
 -- The faults of a Verilog text beyond its form: each kind is a test of a statement beside those before it, and beside all.
 -- Of the kinds that occur the least is answered, and of that the first statement that fails its test.
-use Rattle.std.specs.Prelude.{◌≡◌, ℕ, ◌+◌, ◌<◌, Bool, true, false, ◌&&◌, ◌||◌, not, nat_lt, ◌==◌, if◌then◌else◌, List, [], ◌∷◌, ◌++◌, map, filter, take, slice_get, Option, Some, None, is_some, is_none, Result, Ok, Err}
+use Rattle.std.specs.Prelude.{◌≡◌, ℕ, ◌+◌, ◌<◌, Bool, true, false, ◌&&◌, ◌||◌, not, nat_lt, ◌==◌, if◌then◌else◌, List, [], ◌∷◌, ◌++◌, map, filter, take, slice_get, Option, Some, None, is_some, Result, Ok, Err}
 use Rattle.std.specs.List.{flat_map, list_any, sum_by}
 use Rattle.std.specs.Str.{bytes_eq}
 use Rattle.text_scan.specs.declared.fault.Fault.{Fault}
@@ -8,12 +8,10 @@ use Rattle.text_scan.specs.declared.fault.ReadFault.{ReadFault}
 use Rattle.text_scan.specs.declared.fault.ReadFault.TheVariants as faults
 use Rattle.text_scan.specs.declared.kind.Kind.{Kind}
 use Rattle.text_scan.specs.declared.kind.Kind.TheVariants.{VerilogNumber, VerilogTwice, BadSelect}
-use Rattle.verilog_syntax.specs.declared.statement.Declared.{Declared}
 use Rattle.verilog_syntax.specs.declared.statement.Range.{Range}
 use Rattle.verilog_syntax.specs.declared.statement.Item.{Item}
 use Rattle.verilog_syntax.specs.declared.statement.Item.TheVariants as items
 use Rattle.verilog_syntax.specs.declared.statement.Expression.{Expression}
-use Rattle.verilog_syntax.specs.declared.statement.Connection.{Connection}
 use Rattle.verilog_syntax.specs.declared.statement.Statement.{Statement}
 use Rattle.verilog_syntax.specs.declared.statement.Statement.TheVariants as statements
 use Rattle.verilog_syntax.specs.declared.reading.Placed.{Placed}
@@ -21,7 +19,7 @@ use Rattle.verilog_syntax.specs.Reading.{fault_at, result_and_then, read_stateme
 use Rattle.verilog_reader.specs.declared.bounds.Bounds.{Bounds}
 use Rattle.verilog_reader.specs.Values.{plain_of, decimal_value, is_big_index, bit_name}
 use Rattle.verilog_reader.specs.Constants.{constant_size}
-use Rattle.verilog_reader.specs.Declarations.{bounds_of, width, has_index, has_part, indexes, Declaration, declarations_in, declarations, is_named, first_of, is_declared, bounds_in, is_port_kind, is_wire, ports_in, header_ports, has, items_in, mentions_in, undeclared_in}
+use Rattle.verilog_reader.specs.Declarations.{width, has_index, has_part, indexes, Declaration, declarations_in, declarations, is_named, first_of, bounds_in, is_port_kind, is_wire, ports_in, header_ports, has, items_in, mentions_in, undeclared_in}
 
 -- the first statement that fails a test beside those before it
 unfoldable pub check_from : (List Placed → Placed → Bool) → Kind → List Placed → List Placed → Result (Unit {0}) Fault

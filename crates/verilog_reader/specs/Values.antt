@@ -1,5 +1,5 @@
 -- Names and numbers as values (IEEE 1364-2005, 3.5.1 and 3.7).
-use Rattle.std.specs.Prelude.{ℕ, zero, suc, ◌+◌, ◌-◌, ◌*◌, Bool, ◌&&◌, not, nat_lt, ◌==◌, if◌then◌else◌, List, [], ◌∷◌, ◌++◌, take, fold, decimal}
+use Rattle.std.specs.Prelude.{ℕ, ◌+◌, ◌-◌, ◌*◌, Bool, ◌&&◌, not, nat_lt, ◌==◌, if◌then◌else◌, List, [], ◌∷◌, ◌++◌, take, fold, decimal}
 use Rattle.std.specs.List.{prefix_len}
 use Rattle.text_scan.specs.VerilogTokens.{is_blank}
 use Rattle.text_scan.specs.Seams.{is_identifier}

@@ -59,12 +59,7 @@ fn push_constant(alloc: Global, bits: &mut Rows<Bit>, text: &[u8]) -> Result<(),
     Ok(())
 }
 
-fn push_item(
-    alloc: Global,
-    bits: &mut Rows<Bit>,
-    nets: &Nets,
-    item: &Item,
-) -> Result<(), NoMemory>
+fn push_item(alloc: Global, bits: &mut Rows<Bit>, nets: &Nets, item: &Item) -> Result<(), NoMemory>
     requires { IsFineItem nets.now item.now }
     ensures ok { OnOk result (bits.new ≡ bits.old ++ numbered_item nets.now item.now) }
 {

@@ -10,8 +10,8 @@ use crate::entry::Entry;
 use crate::net_names::push_names;
 use crate::vectors::width_or_one;
 use indexmap::IndexMap;
-use std::alloc::Global;
 use netlist_core::NetName;
+use std::alloc::Global;
 use std::marker::Model;
 use text_scan::{NoMemory, Rows};
 

@@ -1,4 +1,4 @@
-use Rattle.std.proofs.Common.{◌≡◌, List, length, sym, ◌∙◌, rules, ap, subst, arith}
+use Rattle.std.proofs.Common.{length, sym, ◌∙◌, rules, ap, arith}
 use Rattle.std.specs.List.{list_any}
 use Rattle.std.proofs.lemmas.List.{take_all}
 use Rattle.path_report.proofs.Named.{is_output, is_named, not_named}

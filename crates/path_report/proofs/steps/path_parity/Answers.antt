@@ -1,4 +1,4 @@
-use Rattle.std.proofs.Common.{rules, ◌≡◌, ◌+◌, drop, get_or, sym, ap, ◌∙◌}
+use Rattle.std.proofs.Common.{◌+◌, drop, sym, ap, ◌∙◌}
 use Rattle.std.specs.Prelude.{Bool}
 use Rattle.std.specs.List.{flat_map}
 use Rattle.chain_trace.specs.Parities.{plus}

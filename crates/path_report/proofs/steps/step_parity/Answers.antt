@@ -1,4 +1,4 @@
-use Rattle.std.proofs.Common.{rules, ◌≡◌, sym, ap, ap₂, ◌∙◌, refl, Some, None}
+use Rattle.std.proofs.Common.{rules, ◌≡◌, ap, ◌∙◌, Some}
 use Rattle.std.specs.Prelude.{Bool}
 use Rattle.std.specs.List.{slice_get}
 use Rattle.chain_trace.specs.Parities.{plus}

@@ -1,7 +1,5 @@
-use Rattle.std.proofs.Common.{◌≡◌, ◌++◌, drop, map}
-use Rattle.std.specs.List.{flat_map}
-use Rattle.verilog_reader.specs.Values.{plain_of}
-use Rattle.verilog_reader.specs.Numbering.{place, port_bits, numbered_ports, numbered_connection, numbered_assigns, numbered_instances}
+use Rattle.std.proofs.Common.{◌≡◌, ◌++◌, drop}
+use Rattle.verilog_reader.specs.Numbering.{numbered_assigns}
 use Rattle.verilog_reader.proofs.fold.assigns_of.Given as goal
 
 abbrev pub invariant-loop-placed : goal.invariant-loop-placed

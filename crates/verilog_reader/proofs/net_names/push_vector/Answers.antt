@@ -1,6 +1,5 @@
-use Rattle.std.proofs.Common.{◌∙◌, ap, List, ℕ, arith}
-use Rattle.netlist_core.specs.declared.netlist.NetName.{NetName}
-use Rattle.verilog_reader.specs.Values.{bit_name, name_text}
+use Rattle.std.proofs.Common.{◌∙◌, arith}
+use Rattle.verilog_reader.specs.Values.{bit_name}
 use Rattle.verilog_reader.specs.Declarations.{index_at, width}
 use Rattle.verilog_reader.specs.Denoted.{bit_text}
 use Rattle.verilog_reader.proofs.NumberedLists.{name_more, bit_is, pushed}

@@ -1,4 +1,4 @@
-use Rattle.std.proofs.Common.{rules, ◌≡◌, Ok}
+use Rattle.std.proofs.Common.{rules}
 use Rattle.verilog_reader.proofs.NetlistOf.{faultless}
 use Rattle.verilog_reader.proofs.netlist.read_netlist.Goals as goal
 

@@ -1,4 +1,4 @@
-use Rattle.std.proofs.Common.{◌≡◌, ◌++◌, ◌∷◌, [], List, Bor, ℕ, sym, ap, ◌∙◌, arith}
+use Rattle.std.proofs.Common.{List, Bor, ℕ, sym, ◌∙◌, arith}
 use Rattle.std.specs.Str.{bytes_eq}
 use Rattle.indexmap.proofs.CallerLemmas.{insert_entry-new}
 use Rattle.verilog_reader.specs.declared.entry.Entry.{Entry}
