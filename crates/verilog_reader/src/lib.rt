@@ -33,3 +33,7 @@ pub use netlist::read_netlist;
 
 #[cfg(test)]
 mod constant_tests;
+#[cfg(test)]
+mod netlist_tests;
+#[cfg(test)]
+mod tests;
