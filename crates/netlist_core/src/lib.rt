@@ -6,11 +6,13 @@
 #![tactic(auto)]
 
 mod classes;
+mod form;
 mod netlist;
 mod pins;
 pub mod plain;
 
 pub use classes::{Classes, classes_of};
+pub use form::is_netlist;
 pub use netlist::{
     Assign, Bit, Connection, Direction, Expr, Instance, NetId, NetName, Netlist, Port,
 };
