@@ -1,3 +1,4 @@
 pub mod Chains
 pub mod Sides
 pub mod Roots
+mod Distinct

@@ -1,5 +1,5 @@
 -- The roots after two classes are joined, and the lists of parents and of class numbers that keep them.
-use Rattle.std.proofs.Common.{◌≡◌, ◌≢◌, ℕ, ◌+◌, ◌<◌, ◌≤◌, min, max, Bool, true, false, cond, eqb, List, [], ◌∷◌, ◌++◌, length, get_or, ◌⊎◌, inl, inr, refl, sym, ap, ◌∙◌, subst, arith}
+use Rattle.std.proofs.Common.{◌≡◌, ◌≢◌, ℕ, ◌<◌, ◌≤◌, min, max, Bool, true, false, cond, eqb, List, [], ◌∷◌, ◌++◌, length, get_or, ◌⊎◌, inl, inr, refl, sym, ap, ◌∙◌, subst, arith}
 use Rattle.std.proofs.Math.ListN.{set}
 use Rattle.std.proofs.lemmas.List.{length-set, get_or-set_same, get_or-set_other}
 use Rattle.std.proofs.lemmas.Bool.Decides.{nat_tests}
@@ -7,8 +7,8 @@ use Rattle.std.proofs.lemmas.Bool.{cases_eq, cases_lt}
 use Rattle.netlist_core.specs.declared.netlist.Bit.{Bit}
 use Rattle.netlist_core.specs.declared.netlist.Netlist.{Netlist}
 use Rattle.netlist_core.specs.Joining.{net_bit, AreSidesOf, AreLinked, AreClassesOf, assigned}
-use Rattle.netlist_core.specs.Forests.{Falls, AreLeast, AreParents, AreRoots, IsForest, IsNumbering, merged, joined_roots}
-use Rattle.netlist_core.proofs.Chains.{link-same, link-back, link-more, merged_same, merged_to, same_after, same_alone}
+use Rattle.netlist_core.specs.Forests.{AreLeast, AreParents, AreRoots, IsForest, IsNumbering, merged, joined_roots}
+use Rattle.netlist_core.proofs.Chains.{link-same, link-more, merged_same, merged_to, same_after, same_alone}
 use Rattle.netlist_core.proofs.Sides.{IsConstant, sides_swap, sides_more, sides_here, sides_cases, sides_still, no_sides}
 
 merged_low : (high low r k : ℕ) → low ≤ high → r ≤ k → merged high low r ≤ k

@@ -7,12 +7,14 @@
 
 mod classes;
 mod erasure;
+mod form;
 mod netlist;
 mod pins;
 pub mod plain;
 
 pub use classes::{Classes, classes_of};
 pub use erasure::{SinkPin, Sinks};
+pub use form::is_netlist;
 pub use netlist::{
     Assign, Bit, Connection, Direction, Expr, Instance, NetId, NetName, Netlist, Port,
 };

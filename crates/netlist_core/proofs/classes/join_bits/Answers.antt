@@ -1,4 +1,4 @@
-use Rattle.std.proofs.Common.{◌≡◌, ◌<◌, length, refl, inl, inr}
+use Rattle.std.proofs.Common.{length, refl, inl, inr}
 use Rattle.netlist_core.proofs.Roots.{forest_joined, forest_still}
 use Rattle.netlist_core.proofs.classes.join_bits.Goals as goal
 

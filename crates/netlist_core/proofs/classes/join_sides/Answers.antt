@@ -1,7 +1,6 @@
-use Rattle.std.proofs.Common.{◌≡◌, ◌∙◌, ◌++◌, List, length, take, refl, arith}
+use Rattle.std.proofs.Common.{◌∙◌, List, length, arith}
 use Rattle.std.proofs.lemmas.List.{get_or_default}
 use Rattle.netlist_core.specs.declared.netlist.Bit.{Bit}
-use Rattle.netlist_core.specs.Netlists.{pairs}
 use Rattle.netlist_core.specs.Forests.{IsForest}
 use Rattle.netlist_core.proofs.Sides.{bits_more, bits_all}
 use Rattle.netlist_core.proofs.classes.join_sides.Goals as goal

@@ -1,4 +1,4 @@
-use Rattle.std.proofs.Common.{◌≡◌, ◌<◌, length, max, arith}
+use Rattle.std.proofs.Common.{◌<◌, length, arith}
 use Rattle.netlist_core.proofs.Roots.{parents_joined, written}
 use Rattle.netlist_core.proofs.classes.link.Goals as goal
 

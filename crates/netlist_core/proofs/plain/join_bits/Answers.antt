@@ -1,4 +1,4 @@
-use Rattle.std.proofs.Common.{◌≡◌, ◌<◌, length, refl, inl, inr}
+use Rattle.std.proofs.Common.{length, refl, inl, inr}
 use Rattle.std.proofs.lemmas.List.{get_or_read}
 use Rattle.netlist_core.proofs.Roots.{numbering_joined, numbering_still}
 use Rattle.netlist_core.proofs.plain.join_bits.Goals as goal
