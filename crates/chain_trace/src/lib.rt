@@ -18,3 +18,6 @@ pub use bits::bits_of;
 pub use laws::path_law;
 pub use path::{BitId, Path, PathBits, Sink, Source, Step};
 pub use tracing::trace;
+
+#[cfg(test)]
+mod tests;
