@@ -1,4 +1,3 @@
 pub mod Netlists
 pub mod Joining
 pub mod Forests
-pub mod Erasure

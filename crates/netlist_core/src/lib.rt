@@ -6,14 +6,12 @@
 #![tactic(auto)]
 
 mod classes;
-mod erasure;
 mod form;
 mod netlist;
 mod pins;
 pub mod plain;
 
 pub use classes::{Classes, classes_of};
-pub use erasure::{SinkPin, Sinks};
 pub use form::is_netlist;
 pub use netlist::{
     Assign, Bit, Connection, Direction, Expr, Instance, NetId, NetName, Netlist, Port,

@@ -20,6 +20,7 @@ fn of_nets(alloc: Global, count: usize) -> Result<Netlist, NoMemory> {
         module: Name::copy(alloc, b"m".as_slice())?,
         line: 1,
         nets,
+        declared: 0,
         ports: Rows::new(alloc),
         assigns: Rows::new(alloc),
         instances: Rows::new(alloc),
