@@ -12,3 +12,6 @@ mod written;
 pub use edits::{BitEdit, NetBit};
 pub use laws::written_law;
 pub use written::verilog_text;
+
+#[cfg(test)]
+mod tests;
