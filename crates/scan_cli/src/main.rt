@@ -4,6 +4,8 @@
 #![tactic(auto)]
 
 mod file_desk;
+#[cfg(test)]
+mod tests;
 
 use file_desk::FileDesk;
 use scan_job::run;
