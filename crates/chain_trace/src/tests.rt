@@ -131,7 +131,7 @@ fn netlist_of(
 fn three_flops(
     alloc: Global,
     a_input: u32,
-    a_out: &str,
+    over_qn: bool,
     b_input: u32,
     so: Direction,
     assigns: &[(u32, u32)],
@@ -141,13 +141,21 @@ fn three_flops(
         (D, Direction::Input, 2),
         (SO, so, 3),
     ];
-    let cells: [(&str, u64, &[(&str, u32)]); 4] = [
-        ("SDF", 5, &[("D", D), ("SI", a_input), (a_out, QA)]),
-        ("SDF", 6, &[("D", D), ("SI", b_input), ("Q", QB)]),
-        ("SDF", 7, &[("D", D), ("SI", QB), ("Q", QC)]),
-        ("SDF", 8, &[("D", D), ("SI", SI), ("Q", QZ)]),
-    ];
-    netlist_of(alloc, &ports, &cells, assigns)
+    let a_out = if over_qn { "QN" } else { "Q" };
+    let mut netlist = netlist_of(alloc, &ports, &[], &[])?;
+    for (line, input, out, net) in [
+        (5, a_input, a_out, QA),
+        (6, b_input, "Q", QB),
+        (7, QB, "Q", QC),
+        (8, SI, "Q", QZ),
+    ] {
+        let pins = [("D", D), ("SI", input), (out, net)];
+        put_instance(&mut netlist, alloc, "SDF", line, &pins)?;
+    }
+    for (left, right) in assigns {
+        put_assign(&mut netlist, alloc, *left, *right)?;
+    }
+    Ok(netlist)
 }
 
 fn is_driven(direction: Direction) -> bool
@@ -251,16 +259,16 @@ fn bit(instance: u32, index: u32) -> BitId {
 #[test]
 fn traces_three_flops(rt: HostRuntime) -> Result<(), Fail> {
     let table = read_table(rt.alloc(), small_table().as_bytes())?;
-    for (pin, out, inverted, so) in [
-        ("Q", 0, false, Direction::Output),
-        ("QN", 1, true, Direction::Output),
-        ("Q", 0, false, Direction::Inout),
+    for (over_qn, so) in [
+        (false, Direction::Output),
+        (true, Direction::Output),
+        (false, Direction::Inout),
     ] {
-        let netlist = three_flops(rt.alloc(), SI, pin, QA, so, &[(SO, QC)])?;
+        let netlist = three_flops(rt.alloc(), SI, over_qn, QA, so, &[(SO, QC)])?;
         let expected = Expected {
-            steps: &[step(0, out), step(1, 0), step(2, 0)],
+            steps: &[step(0, u32::from(over_qn)), step(1, 0), step(2, 0)],
             bits: &[bit(0, 0), bit(1, 0), bit(2, 0)],
-            parity: &[false, inverted, false],
+            parity: &[false, over_qn, false],
             out_parity: false,
         };
         check_path(&rt, &netlist, &table, SO, expected)?;
@@ -304,18 +312,24 @@ fn traces_bus_names(rt: HostRuntime) -> Result<(), Fail> {
 fn adds_inversions(rt: HostRuntime) -> Result<(), Fail> {
     let table = read_table(rt.alloc(), OTHER_CELLS.as_bytes())?;
     let ports = [(SI, Direction::Input, 2), (SO, Direction::Output, 3)];
-    for (pin, out, inverted) in [("Q", 0, false), ("QN", 1, true)] {
+    for over_qn in [false, true] {
+        let x_out = if over_qn { "QN" } else { "Q" };
         let cells: [(&str, u64, &[(&str, u32)]); 4] = [
-            ("TWO", 5, &[("SI", SI), (pin, QA)]),
+            ("TWO", 5, &[("SI", SI), (x_out, QA)]),
             ("INV", 6, &[("A", QA), ("Z", QB)]),
             ("TWO", 7, &[("SI", QB), ("Q", QC)]),
             ("INV", 8, &[("A", QC), ("Z", SO)]),
         ];
         let netlist = netlist_of(rt.alloc(), &ports, &cells, &[])?;
         let expected = Expected {
-            steps: &[step(0, out), step(1, 0), step(2, 0), step(3, 0)],
+            steps: &[
+                step(0, u32::from(over_qn)),
+                step(1, 0),
+                step(2, 0),
+                step(3, 0),
+            ],
             bits: &[bit(0, 0), bit(0, 1), bit(2, 0), bit(2, 1)],
-            parity: &[true, false, inverted, false],
+            parity: &[true, false, over_qn, false],
             out_parity: true,
         };
         check_path(&rt, &netlist, &table, SO, expected)?;
@@ -365,7 +379,7 @@ fn names_lines_of_faults(rt: HostRuntime) -> Result<(), Fail> {
         (SO, QA, inout, &[(SO, QC)], Kind::TwoDrivers, 5),
     ];
     for (a_input, b_input, so, assigns, kind, line) in cases {
-        let netlist = three_flops(rt.alloc(), a_input, "Q", b_input, so, assigns)?;
+        let netlist = three_flops(rt.alloc(), a_input, false, b_input, so, assigns)?;
         check_fault(&rt, &netlist, &table, SO, kind, line)?;
     }
     Ok(())
