@@ -103,11 +103,10 @@ fn put_instance(
     })
 }
 
-// A few cells: ports with their lines, cells with their lines and pins, and assigns.
+// A few nets, ports with their lines, and assigns.
 fn netlist_of(
     alloc: Global,
     ports: &[(u32, Direction, u64)],
-    cells: &[(&str, u64, &[(&str, u32)])],
     assigns: &[(u32, u32)],
 ) -> Result<Netlist, NoMemory> {
     let mut netlist = of_nets(alloc, NETS)?;
@@ -117,9 +116,6 @@ fn netlist_of(
             direction: *direction,
             line: *line,
         })?;
-    }
-    for (cell, line, pins) in cells {
-        put_instance(&mut netlist, alloc, cell, *line, pins)?;
     }
     for (left, right) in assigns {
         put_assign(&mut netlist, alloc, *left, *right)?;
@@ -142,18 +138,16 @@ fn three_flops(
         (SO, so, 3),
     ];
     let a_out = if over_qn { "QN" } else { "Q" };
-    let mut netlist = netlist_of(alloc, &ports, &[], &[])?;
-    for (line, input, out, net) in [
+    let mut netlist = netlist_of(alloc, &ports, assigns)?;
+    let flops = [
         (5, a_input, a_out, QA),
         (6, b_input, "Q", QB),
         (7, QB, "Q", QC),
         (8, SI, "Q", QZ),
-    ] {
-        let pins = [("D", D), ("SI", input), (out, net)];
+    ];
+    for (line, input, pin, out) in flops {
+        let pins = [("D", D), ("SI", input), (pin, out)];
         put_instance(&mut netlist, alloc, "SDF", line, &pins)?;
-    }
-    for (left, right) in assigns {
-        put_assign(&mut netlist, alloc, *left, *right)?;
     }
     Ok(netlist)
 }
@@ -167,12 +161,11 @@ fn is_driven(direction: Direction) -> bool
 fn is_output(netlist: &Netlist, net: NetId) -> bool
     ensures value { result ≡ has_port is_driven netlist.now net }
 {
-    for port in netlist.ports.as_slice() {
-        if port.net.0 == net.0 && is_driven(port.direction) {
-            return true;
-        }
-    }
-    false
+    netlist
+        .ports
+        .as_slice()
+        .iter()
+        .any(|port| port.net.0 == net.0 && is_driven(port.direction))
 }
 
 // The classes of a netlist, in which it is seen that an output can be traced.
@@ -287,13 +280,12 @@ fn traces_bus_names(rt: HostRuntime) -> Result<(), Fail> {
         (QB, Direction::Output, 5),
         (QZ, Direction::Output, 5),
     ];
-    let cells: [(&str, u64, &[(&str, u32)]); 4] = [
-        ("SDF", 8, &[("D", D), ("SI", SI), ("Q", QA)]),
-        ("SDF", 9, &[("D", D), ("SI", QA), ("Q", QB)]),
-        ("SDF", 10, &[("D", QB), ("SI", QB), ("Q", QC)]),
-        ("BUF", 11, &[("A", QC), ("Z", SO)]),
-    ];
-    let netlist = netlist_of(rt.alloc(), &ports, &cells, &[(QZ, QC)])?;
+    let mut netlist = netlist_of(rt.alloc(), &ports, &[(QZ, QC)])?;
+    for (line, data, input, out) in [(8, D, SI, QA), (9, D, QA, QB), (10, QB, QB, QC)] {
+        let pins = [("D", data), ("SI", input), ("Q", out)];
+        put_instance(&mut netlist, rt.alloc(), "SDF", line, &pins)?;
+    }
+    put_instance(&mut netlist, rt.alloc(), "BUF", 11, &[("A", QC), ("Z", SO)])?;
     let steps = [step(0, 0), step(1, 0), step(2, 0), step(3, 0)];
     for (output, passed) in [(SO, &steps[..]), (QZ, &steps[..3])] {
         let expected = Expected {
@@ -314,13 +306,15 @@ fn adds_inversions(rt: HostRuntime) -> Result<(), Fail> {
     let ports = [(SI, Direction::Input, 2), (SO, Direction::Output, 3)];
     for over_qn in [false, true] {
         let x_out = if over_qn { "QN" } else { "Q" };
-        let cells: [(&str, u64, &[(&str, u32)]); 4] = [
-            ("TWO", 5, &[("SI", SI), (x_out, QA)]),
-            ("INV", 6, &[("A", QA), ("Z", QB)]),
-            ("TWO", 7, &[("SI", QB), ("Q", QC)]),
-            ("INV", 8, &[("A", QC), ("Z", SO)]),
-        ];
-        let netlist = netlist_of(rt.alloc(), &ports, &cells, &[])?;
+        let mut netlist = netlist_of(rt.alloc(), &ports, &[])?;
+        for (line, cell, from, to) in [
+            (5, "TWO", ("SI", SI), (x_out, QA)),
+            (6, "INV", ("A", QA), ("Z", QB)),
+            (7, "TWO", ("SI", QB), ("Q", QC)),
+            (8, "INV", ("A", QC), ("Z", SO)),
+        ] {
+            put_instance(&mut netlist, rt.alloc(), cell, line, &[from, to])?;
+        }
         let expected = Expected {
             steps: &[
                 step(0, u32::from(over_qn)),
@@ -343,7 +337,8 @@ fn passes_two_scan_paths(rt: HostRuntime) -> Result<(), Fail> {
     let table = read_table(rt.alloc(), OTHER_CELLS.as_bytes())?;
     let ports = [(SI, Direction::Input, 2), (SO, Direction::Output, 3)];
     let pins = [("SI", SI), ("Q", QA), ("TI", QA), ("T", SO)];
-    let netlist = netlist_of(rt.alloc(), &ports, &[("PAIR", 5, &pins)], &[])?;
+    let mut netlist = netlist_of(rt.alloc(), &ports, &[])?;
+    put_instance(&mut netlist, rt.alloc(), "PAIR", 5, &pins)?;
     let second = Step {
         instance: 0,
         path: 1,
