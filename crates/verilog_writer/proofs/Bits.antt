@@ -17,19 +17,19 @@ use Rattle.verilog_reader.proofs.Indexes.{with_digit}
 use Rattle.verilog_writer.specs.declared.edits.NetBit.{NetBit}
 use Rattle.verilog_writer.specs.VerilogText.{indexed_text, indexed_item, net_text, net_item, IsIndex, IsNetBit}
 
-first_part : (a b : Bool) → (a && b) ≡ true → a ≡ true
+pub first_part : (a b : Bool) → (a && b) ≡ true → a ≡ true
 first_part true b e = refl
 first_part false b e = absurd cc
 
-second_part : (a b : Bool) → (a && b) ≡ true → b ≡ true
+pub second_part : (a b : Bool) → (a && b) ≡ true → b ≡ true
 second_part true b e = e
 second_part false b e = absurd cc
 
 -- an index
-own : IsNumeralModel (λ ds. list_all is_digit ds ≡ true) decimal_value
+pub own : IsNumeralModel (λ ds. list_all is_digit ds ≡ true) decimal_value
 own = numerals_by_fold _ (search rules) (fold with_digit) (search rules)
 
-positive : (n : ℕ) → nat_lt 0 (suc n) ≡ true
+pub positive : (n : ℕ) → nat_lt 0 (suc n) ≡ true
 positive n = grind (arith, nat_tests)
 
 some_all : (w : List ℕ) → 0 < length w → list_all is_digit w ≡ true → is_decimal w ≡ true
@@ -45,10 +45,10 @@ index_good [] e = absurd cc
 index_good (b ∷ bs) e = second_part (nat_lt 0 (suc (length bs))) _ e
 
 -- a name
-abbrev is_plain : List ℕ → Bool
+abbrev pub is_plain : List ℕ → Bool
 is_plain name = is_identifier name && not (is_reserved name)
 
-no_backslash : (b : ℕ) → (b == 92) ≡ true → is_word_start b ≡ true → ⊥
+pub no_backslash : (b : ℕ) → (b == 92) ≡ true → is_word_start b ≡ true → ⊥
 no_backslash b e start = grind (arith, nat_tests)
 
 start_plain : (b : ℕ) (bs : List ℕ) (t : Bool) → (b == 92) ≡ t → is_plain (b ∷ bs) ≡ true → cond t (is_escaped bs) (is_plain (b ∷ bs)) ≡ true
@@ -62,7 +62,7 @@ unfolding is_name
 plain_good [] e = absurd cc
 plain_good (b ∷ bs) e = start_plain b bs (b == 92) refl e
 
-blank_ends : (bs : List ℕ) → list_all (λ c. not (is_blank c)) bs ≡ true → prefix_len (λ c. not (is_blank c)) (bs ++ 32 ∷ []) ≡ length bs
+pub blank_ends : (bs : List ℕ) → list_all (λ c. not (is_blank c)) bs ≡ true → prefix_len (λ c. not (is_blank c)) (bs ++ 32 ∷ []) ≡ length bs
 blank_ends [] e = refl
 blank_ends (b ∷ bs) e =
     let black = first_part (not (is_blank b)) _ e in

@@ -2,6 +2,8 @@ pub mod Bits
 pub mod Changed
 pub mod Edited
 pub mod Good
+pub mod Names
+pub mod Nets
 pub mod Shared
 pub mod Slots
 pub mod WrittenLaw

@@ -1,1 +1,2 @@
 pub mod VerilogText
+pub mod NetTexts
