@@ -5,3 +5,7 @@ pub mod Ranges
 pub mod Finding
 pub mod Marked
 pub mod Entries
+pub mod Named
+pub mod NamedNets
+pub mod NamedSides
+pub mod NamedPaths

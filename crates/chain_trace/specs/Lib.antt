@@ -2,3 +2,4 @@ pub mod Paths
 pub mod Parities
 pub mod Faults
 pub mod Drivers
+pub mod Named

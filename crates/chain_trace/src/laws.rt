@@ -7,6 +7,7 @@ ghost use Rattle.chain_trace.specs.declared.path.Path.{Path};
 ghost use Rattle.text_scan.specs.declared.fault.Fault.{Fault};
 ghost use Rattle.chain_trace.specs.Paths.{IsScanPath};
 ghost use Rattle.chain_trace.specs.Faults.{IsTraceFault};
+ghost use Rattle.chain_trace.specs.Named.{NamesLaw};
 
 /// A scan output has at most one path, and none where a fault is met going backward from it. The call does nothing; its
 /// contract is the law.
@@ -14,4 +15,9 @@ ghost use Rattle.chain_trace.specs.Faults.{IsTraceFault};
 pub fn path_law()
     ensures only { (n : Netlist) (cells : Cells) (output : NetId) (p q : Path) → IsScanPath n cells output p → IsScanPath n cells output q → p ≡ q }
     ensures no_fault { (n : Netlist) (cells : Cells) (output : NetId) (fault : Fault) → IsTraceFault n cells output fault → (p : Path) → IsScanPath n cells output p → ⊥ }
+{}
+
+/// Paths don't hang on the numbers of nets. The call does nothing; its contract is the law.
+pub fn names_law()
+    ensures same { NamesLaw }
 {}

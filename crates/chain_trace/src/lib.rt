@@ -11,12 +11,14 @@ mod entry;
 mod laws;
 mod lines;
 mod path;
+mod ports;
 mod tracing;
 mod walking;
 
 pub use bits::bits_of;
-pub use laws::path_law;
+pub use laws::{names_law, path_law};
 pub use path::{BitId, Path, PathBits, Sink, Source, Step};
+pub use ports::{input_named, output_named, plain_of};
 pub use tracing::trace;
 
 #[cfg(test)]

@@ -4,7 +4,7 @@ ghost use Rattle.netlist_core.specs.Netlists.{IsNetlist};
 ghost use Rattle.netlist_core.specs.Joining.{AreClassesOf};
 ghost use Rattle.chain_trace.specs.Paths.{is_driven, has_port};
 
-use crate::{BitId, Step, bits_of, trace};
+use crate::{BitId, Step, bits_of, input_named, output_named, plain_of, trace};
 use cell_table::{CellTable, read_table, small_table};
 use netlist_core::{
     Assign, Bit, Classes, Connection, Direction, Expr, Instance, NetId, NetName, Netlist, Port,
@@ -377,6 +377,31 @@ fn names_lines_of_faults(rt: HostRuntime) -> Result<(), Fail> {
         let netlist = three_flops(rt.alloc(), a_input, false, b_input, so, assigns)?;
         check_fault(&rt, &netlist, &table, SO, kind, line)?;
     }
+    Ok(())
+}
+
+// An inout port is found as an input and as an output; a net that is no port isn't found.
+#[test]
+fn finds_ports_by_names(rt: HostRuntime) -> Result<(), Fail> {
+    let ports = [
+        (SI, Direction::Input, 2),
+        (SO, Direction::Output, 3),
+        (D, Direction::Inout, 4),
+    ];
+    let netlist = netlist_of(rt.alloc(), &ports, &[])?;
+    for (name, input, output) in [
+        ("n0", Some(NetId(SI)), None),
+        ("n1", None, Some(NetId(SO))),
+        ("n2", Some(NetId(D)), Some(NetId(D))),
+        ("n3", None, None),
+        ("SO", None, None),
+        ("", None, None),
+    ] {
+        assert!(rt; input_named(&netlist, name.as_bytes()) == input);
+        assert!(rt; output_named(&netlist, name.as_bytes()) == output);
+    }
+    assert!(rt; plain_of(netlist.nets.as_slice(), NetId(QA)) == b"n3".as_slice());
+    assert!(rt; plain_of(netlist.nets.as_slice(), NetId(NETS)).is_empty());
     Ok(())
 }
 

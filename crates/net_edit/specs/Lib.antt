@@ -1,1 +1,6 @@
 pub mod Erasure
+pub mod Free
+pub mod Edits
+pub mod Edited
+pub mod Reordered
+pub mod EditKeys

@@ -5,11 +5,19 @@
 #![tactic(auto)]
 
 mod assigns;
+mod between;
+mod edits;
 mod erasure;
+mod free;
 mod instances;
+mod links;
+mod nets;
 mod sinks;
 
+pub use between::edits_for;
+pub use edits::{Edits, PinEdit, PortEdit};
 pub use erasure::erased;
+pub use free::is_free;
 pub use sinks::{SinkPin, Sinks};
 
 #[cfg(test)]

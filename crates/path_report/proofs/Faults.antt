@@ -25,7 +25,7 @@ same_ok r x y a b = let both = sym a ∙ b in cc
 -- a name tells the port
 same_port : (n : Netlist) (name : List ℕ) (a b : NetId) → IsNetlist n → IsOutputNamed n name a → IsOutputNamed n name b → a ≡ b
 same_port n name a b sound p q =
-    net_tells n.nets sound.names a b (port_within n is_driven a sound p.driven) (port_within n is_driven b sound q.driven) (p.named ∙ sym q.named)
+    net_tells n.nets sound.names a b (port_within n is_driven a sound p.port) (port_within n is_driven b sound q.port) (p.named ∙ sym q.named)
 
 module _ (table verilog output : List ℕ) (cells : Cells) (n : Netlist) (read : AreRead table verilog cells n) (net : NetId) (port : IsOutputNamed n output net) (path : Path) (is : IsScanPath n cells net path) where
   same_cells : (others : Cells) (m : Netlist) → AreRead table verilog others m → others ≡ cells

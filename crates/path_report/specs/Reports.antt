@@ -1,5 +1,5 @@
 -- The text of the scan path of an output, and the first fault where there is none.
-use Rattle.std.specs.Prelude.{◌≡◌, ℕ, Bool, true, false, List, [], ◌∷◌, ◌++◌, length, codes, decimal, Option, Some, None, IsTrue, Ok, Err}
+use Rattle.std.specs.Prelude.{◌≡◌, ℕ, Bool, true, false, List, [], ◌∷◌, ◌++◌, length, codes, decimal, Option, Some, None, Ok, Err}
 use Rattle.std.specs.List.{flat_map, slice_get}
 use Rattle.text_scan.specs.declared.fault.Fault.{Fault}
 use Rattle.text_scan.specs.declared.fault.FileKind.TheVariants.{Words}
@@ -16,7 +16,8 @@ use Rattle.cell_table.specs.declared.paths.OutPin.{OutPin}
 use Rattle.cell_table.specs.Cells.{Cells, table_of}
 use Rattle.chain_trace.specs.declared.path.Step.{Step}
 use Rattle.chain_trace.specs.declared.path.Path.{Path}
-use Rattle.chain_trace.specs.Paths.{scan_path_at, out_pin_at, is_driven, has_port, IsScanPath}
+use Rattle.chain_trace.specs.Paths.{scan_path_at, out_pin_at, is_driven, IsScanPath}
+use Rattle.chain_trace.specs.Named.{IsPortNamed}
 use Rattle.chain_trace.specs.Parities.{plus}
 use Rattle.chain_trace.specs.Faults.{IsTraceFault}
 
@@ -60,9 +61,8 @@ path_text n cells path =
     ++ codes "to " ++ plain_of n.nets path.output ++ 10 ∷ codes "parity " ++ parity_text (path_parity n cells path.steps) ++ 10 ∷ []
 
 -- the bit of an output or inout port that has this plain name
-pub record IsOutputNamed (n : Netlist) (name : List ℕ) (net : NetId) : Type 0 where
-  pub named : plain_of n.nets net ≡ name
-  pub driven : IsTrue (has_port is_driven n net)
+abbrev pub IsOutputNamed : Netlist → List ℕ → NetId → Type 0
+IsOutputNamed n name net = IsPortNamed is_driven n name net
 
 -- the cells of a table's text, and the netlist of a Verilog text
 pub record AreRead (table verilog : List ℕ) (cells : Cells) (n : Netlist) : Type 0 where

@@ -4,7 +4,6 @@
 //! Contract: `path_text` gives the text that `specs/Reports.antt` says, or the first fault.
 #![tactic(auto)]
 
-mod output;
 mod report;
 mod steps;
 

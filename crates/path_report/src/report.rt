@@ -5,10 +5,9 @@ ghost use Rattle.text_scan.specs.declared.fault.ReadFault.TheVariants as faults;
 ghost use Rattle.chain_trace.specs.Faults.{IfFault};
 ghost use Rattle.path_report.specs.Reports.{step_text, path_text, no_port, IsPathText, IsPathFault};
 
-use crate::output::{output_named, plain_of};
 use crate::steps::{path_parity, push_step};
 use cell_table::{CellTable, read_table};
-use chain_trace::{Path, Step, trace};
+use chain_trace::{Path, Step, output_named, plain_of, trace};
 use netlist_core::{Netlist, classes_of};
 use std::alloc::Global;
 use text_scan::{Fault, FileKind, Kind, NoMemory, ReadFault, Spot, Text};

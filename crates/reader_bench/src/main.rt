@@ -2,14 +2,13 @@
 //! prints what is the same at each run; with a number of megabytes it prints the times too.
 #![tactic(auto)]
 
-ghost use Rattle.std.specs.Prelude.{◌≡◌, ◌<◌, ◌^◌, IsTrue, length};
+ghost use Rattle.std.specs.Prelude.{◌<◌, ◌^◌, length};
 ghost use Rattle.netlist_core.specs.Netlists.{IsNetlist};
-ghost use Rattle.chain_trace.specs.Paths.{is_driven, has_port};
 
 use anyhow::{Context, Result, bail, ensure};
 use cell_table::CellTable;
-use chain_trace::trace;
-use netlist_core::{Direction, NetId, Netlist, classes_of};
+use chain_trace::{output_named, trace};
+use netlist_core::{Netlist, classes_of};
 use std::alloc::Global;
 use std::env;
 use std::fmt::Write;
@@ -76,24 +75,8 @@ fn netlist_text(alloc: Global, size: usize) -> Result<String> {
     Ok(text)
 }
 
-fn is_driven(direction: Direction) -> bool
-    ensures { result ≡ is_driven direction }
-{
-    matches!(direction, Direction::Output | Direction::Inout)
-}
-
-/// Whether a net is a bit of an output or inout port.
-fn is_output(netlist: &Netlist, net: NetId) -> bool
-    ensures { result ≡ has_port is_driven netlist.now net }
-{
-    let ports = netlist.ports.as_slice();
-    ports
-        .iter()
-        .any(|port| port.net.0 == net.0 && is_driven(port.direction))
-}
-
-/// The number of steps of the chain to the last port.
-fn trace_last(alloc: Global, netlist: &Netlist) -> Result<usize>
+/// The number of steps of the chain to its output.
+fn trace_output(alloc: Global, netlist: &Netlist) -> Result<usize>
     requires { IsNetlist netlist.now }
 {
     let cell = Name::copy(alloc, b"SDF").ok().context("no memory")?;
@@ -102,12 +85,13 @@ fn trace_last(alloc: Global, netlist: &Netlist) -> Result<usize>
     let table = CellTable::one(alloc, &cell, &input, &out)
         .ok()
         .context("no memory")?;
-    let port = netlist.ports.as_slice().last().context("no port")?;
-    ensure!(is_output(netlist, port.net), "no output");
+    let Some(output) = output_named(netlist, b"so") else {
+        bail!("no output");
+    };
     let Ok(classes) = classes_of(alloc, netlist) else {
         bail!("no memory");
     };
-    let path = trace(alloc, netlist, &classes, &table, port.net)
+    let path = trace(alloc, netlist, &classes, &table, output)
         .ok()
         .context("no path")?;
     Ok(path.steps.as_slice().len())
@@ -128,7 +112,7 @@ fn measure(
     };
     let to_read = start.elapsed(rt)?.as_micros();
     let start = Instant::now(rt)?;
-    let steps = trace_last(rt.alloc(), &netlist)?;
+    let steps = trace_output(rt.alloc(), &netlist)?;
     let to_trace = start.elapsed(rt)?.as_micros();
     let nets = netlist.nets.as_slice().len();
     println!(rt; "{bytes} bytes, {nets} nets, {steps} steps")?;

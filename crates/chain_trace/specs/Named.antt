@@ -1,0 +1,29 @@
+-- Ports by their names, and paths of netlists that are the same by names.
+use Rattle.std.specs.Prelude.{◌≡◌, ℕ, Bool, List, IsTrue}
+use Rattle.netlist_core.specs.declared.netlist.NetId.{NetId}
+use Rattle.netlist_core.specs.declared.netlist.Direction.{Direction}
+use Rattle.netlist_core.specs.declared.netlist.Netlist.{Netlist}
+use Rattle.netlist_core.specs.Netlists.{named, plain_of, IsNetlist}
+use Rattle.cell_table.specs.Cells.{Cells}
+use Rattle.chain_trace.specs.declared.path.Path.{Path}
+use Rattle.chain_trace.specs.Paths.{has_port, IsScanPath}
+
+-- the bit of a port of such a direction that has this plain name
+pub record IsPortNamed (test : Direction → Bool) (n : Netlist) (name : List ℕ) (net : NetId) : Type 0 where
+  pub named : plain_of n.nets net ≡ name
+  pub port : IsTrue (has_port test n net)
+
+-- a path with the same ports by their names, over the same steps
+pub record IsSamePath (n m : Netlist) (old new : Path) : Type 0 where
+  pub input : plain_of m.nets new.input ≡ plain_of n.nets old.input
+  pub output : plain_of m.nets new.output ≡ plain_of n.nets old.output
+  pub steps : new.steps ≡ old.steps
+
+pub record HasSamePath (n m : Netlist) (cells : Cells) (old : Path) : Type 0 where
+  pub path : Path
+  pub is : IsScanPath m cells path.output path
+  pub same : IsSamePath n m old path
+
+-- the numbers of nets are free: two netlists with the same names have the same paths
+abbrev pub NamesLaw : Type 0
+NamesLaw = (n m : Netlist) (cells : Cells) (path : Path) → IsNetlist n → IsNetlist m → named n ≡ named m → IsScanPath n cells path.output path → HasSamePath n m cells path

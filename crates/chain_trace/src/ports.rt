@@ -1,0 +1,56 @@
+//! Ports by their names.
+ghost use Rattle.std.specs.Prelude.{◌≡◌, MatchOption};
+ghost use Rattle.netlist_core.specs.declared.netlist.NetId.{NetId};
+ghost use Rattle.netlist_core.specs.Netlists.{plain_of};
+ghost use Rattle.chain_trace.specs.Paths.{is_driven, drives};
+ghost use Rattle.chain_trace.specs.Named.{IsPortNamed};
+
+use netlist_core::{Direction, NetId, NetName, Netlist};
+
+/// The plain name of a net; empty where there is no such net.
+pub fn plain_of(nets: &[NetName], net: NetId) -> &[u8]
+    ensures value { result.now ≡ plain_of nets.now net }
+{
+    match nets.get(net.0 as usize) {
+        Some(name) => name.plain.bytes(),
+        None => &[],
+    }
+}
+
+fn is_driven(direction: Direction) -> bool
+    ensures value { result ≡ is_driven direction }
+{
+    matches!(direction, Direction::Output | Direction::Inout)
+}
+
+fn drives(direction: Direction) -> bool
+    ensures value { result ≡ drives direction }
+{
+    matches!(direction, Direction::Input | Direction::Inout)
+}
+
+/// The bit of an output or inout port that has this plain name.
+pub fn output_named(netlist: &Netlist, name: &[u8]) -> Option<NetId>
+    ensures value { MatchOption result ((net : NetId) → IsPortNamed is_driven netlist.now name.now net → ⊥) (IsPortNamed is_driven netlist.now name.now) }
+{
+    let nets = netlist.nets.as_slice();
+    for port in netlist.ports.as_slice() {
+        if is_driven(port.direction) && plain_of(nets, port.net) == name {
+            return Some(port.net);
+        }
+    }
+    None
+}
+
+/// The bit of an input or inout port that has this plain name.
+pub fn input_named(netlist: &Netlist, name: &[u8]) -> Option<NetId>
+    ensures value { MatchOption result ((net : NetId) → IsPortNamed drives netlist.now name.now net → ⊥) (IsPortNamed drives netlist.now name.now) }
+{
+    let nets = netlist.nets.as_slice();
+    for port in netlist.ports.as_slice() {
+        if drives(port.direction) && plain_of(nets, port.net) == name {
+            return Some(port.net);
+        }
+    }
+    None
+}

@@ -1,0 +1,25 @@
+use netlist_core::NetId;
+use text_scan::Rows;
+
+/// The in pin of a scan path of an instance, and the net that is to stand there.
+#[derive(Clone, Copy, Debug, PartialEq, Eq)]
+pub struct PinEdit {
+    pub instance: u32,
+    pub path: u32,
+    pub source: NetId,
+}
+
+/// A scan output, the place of its assign among the netlist's, and the net that is to stand at its right side.
+#[derive(Clone, Copy, Debug, PartialEq, Eq)]
+pub struct PortEdit {
+    pub port: NetId,
+    pub assign: u32,
+    pub source: NetId,
+}
+
+/// The edits that make other paths of a netlist's paths, in the order of the new paths.
+#[derive(Debug, Drop)]
+pub struct Edits {
+    pub pins: Rows<PinEdit>,
+    pub ports: Rows<PortEdit>,
+}
