@@ -1,4 +1,4 @@
-use Rattle.std.proofs.Common.{◌≡◌, ◌∙◌, Bool, true, false, not, List, ap, ap₂, sym, subst}
+use Rattle.std.proofs.Common.{◌∙◌, true, false, not, List, ap, ap₂, sym, subst}
 use Rattle.std.specs.List.{flat_map, list_any}
 use Rattle.net_edit.specs.declared.edits.PinEdit.{PinEdit}
 use Rattle.net_edit.specs.declared.edits.PortEdit.{PortEdit}

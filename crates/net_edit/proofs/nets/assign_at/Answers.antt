@@ -1,9 +1,7 @@
-use Rattle.std.proofs.Common.{◌≡◌, ◌∙◌, List, length, get_or, ap, sym, subst, arith}
-use Rattle.std.specs.Prelude.{Some, Option, position}
-use Rattle.std.proofs.lemmas.List.{get_or_default}
+use Rattle.std.proofs.Common.{◌≡◌, ◌∙◌, List, ap, sym, arith}
+use Rattle.std.specs.Prelude.{Some, position}
 use Rattle.netlist_core.specs.declared.netlist.Assign.{Assign}
 use Rattle.net_edit.specs.Free.{is_one_net}
-use Rattle.net_edit.specs.Edits.{assign_at}
 use Rattle.net_edit.proofs.EditPlaces.{first_at, nowhere}
 use Rattle.net_edit.proofs.nets.assign_at.Goals as goal
 

@@ -1,5 +1,5 @@
 use Rattle.std.proofs.Common.{◌≡◌, drop}
-use Rattle.chain_trace.specs.Paths.{drives, has_port}
+use Rattle.chain_trace.specs.Paths.{drives}
 use Rattle.std.specs.List.{list_any}
 use Rattle.std.specs.Prelude.{◌==◌, ◌&&◌}
 use Rattle.net_edit.proofs.nets.is_source_port.Given as goal
