@@ -1,10 +1,9 @@
 -- The edits that put one path into another order: each is of a scan sink of the path, and no two are at one place.
 use Rattle.std.proofs.Common.{◌≡◌, ℕ, zero, suc, ◌<◌, ◌≤◌, Bool, true, false, ◌&&◌, not, List, [], ◌∷◌, ◌++◌, length, get_or, map, refl, sym, ap, ap₂, ◌∙◌, subst, arith}
-use Rattle.std.specs.Prelude.{Option, Some, None, Contains}
+use Rattle.std.specs.Prelude.{Option, Some}
 use Rattle.std.specs.List.{flat_map, filter, list_any, slice_get}
 use Rattle.std.specs.Str.{bytes_eq}
 use Rattle.std.proofs.lemmas.Bool.{or_left, or_right}
-use Rattle.std.proofs.lemmas.Option.{same_Some}
 use Rattle.std.proofs.lemmas.List.{append-nil, length-map}
 use Rattle.std.proofs.lemmas.List.Folds.{list_any-append}
 use Rattle.std.proofs.lemmas.Slice.Eq.{bytes_eq-Decides}
@@ -18,7 +17,6 @@ use Rattle.cell_table.specs.Cells.{Cells}
 use Rattle.chain_trace.specs.declared.path.Step.{Step}
 use Rattle.chain_trace.specs.declared.path.Path.{Path}
 use Rattle.chain_trace.specs.declared.path.Source.TheVariants as sources
-use Rattle.chain_trace.specs.declared.path.Sink.TheVariants as sinks
 use Rattle.chain_trace.specs.Paths.{scan_path_at}
 use Rattle.net_edit.specs.declared.edits.PinEdit.{PinEdit}
 use Rattle.net_edit.specs.declared.edits.PortEdit.{PortEdit}
@@ -28,8 +26,8 @@ use Rattle.net_edit.specs.Edited.{input_of, IsPinEdit, IsPortEdit, AreEdits, pin
 use Rattle.net_edit.specs.Erasure.{is_sink_pin}
 use Rattle.net_edit.specs.Free.{is_free}
 use Rattle.net_edit.specs.Reordered.{IsReordered, sink_pin_of, sink_pin, sinks_of}
-use Rattle.net_edit.proofs.EditEach.{each_append, each_more, Apart, apart_distinct}
-use Rattle.net_edit.proofs.EditSteps.{IsEntered, connection_of, IsRead, steps_read, places_apart}
+use Rattle.net_edit.proofs.EditEach.{each_more, Apart, apart_distinct}
+use Rattle.net_edit.proofs.EditSteps.{connection_of, IsRead, steps_read, places_apart}
 use Rattle.net_edit.proofs.EditPins.{edit_at, pins_in, pins_each, pins_apart}
 use Rattle.net_edit.proofs.EditPorts.{IsFreeEdit, ports_in, ports_each, ports_few, last_moved}
 

@@ -1,9 +1,9 @@
 -- The edit of an output among links.
-use Rattle.std.proofs.Common.{◌≡◌, ◌≢◌, ℕ, ◌+◌, ◌<◌, ◌≤◌, ◌⊎◌, inl, inr, Bool, true, false, ◌&&◌, ◌||◌, ◌==◌, cond, not, List, [], ◌∷◌, ◌++◌, length, get_or, take, refl, sym, ap, ap₂, ◌∙◌, subst, arith}
-use Rattle.std.specs.Prelude.{Option, Some, None, is_some, sum_by, position}
+use Rattle.std.proofs.Common.{◌≡◌, ◌≢◌, ℕ, ◌+◌, ◌<◌, ◌≤◌, inl, inr, Bool, true, false, ◌&&◌, ◌==◌, cond, not, List, [], ◌∷◌, ◌++◌, length, get_or, take, refl, sym, ap, ap₂, ◌∙◌, subst, arith}
+use Rattle.std.specs.Prelude.{Option, Some, None, is_some, sum_by}
 use Rattle.std.specs.List.{flat_map, filter, list_any, slice_get}
 use Rattle.std.proofs.lemmas.Bool.{and_parts, cases_order, eqb-true, eq-eqb, not-true, both_ways, or_left, or_right}
-use Rattle.std.proofs.lemmas.Option.{none-some, slice_get-get_or}
+use Rattle.std.proofs.lemmas.Option.{slice_get-get_or}
 use Rattle.std.proofs.lemmas.List.{append-nil, length-take-le, get_or-take}
 use Rattle.std.proofs.lemmas.List.Folds.{Any-from_list_any}
 use Rattle.std.proofs.lemmas.List.Quantifiers.{position-Some}
@@ -19,16 +19,15 @@ use Rattle.cell_table.specs.Cells.{Cells}
 use Rattle.chain_trace.specs.declared.path.Step.{Step}
 use Rattle.chain_trace.specs.declared.path.Source.{Source}
 use Rattle.chain_trace.specs.declared.path.Source.TheVariants as sources
-use Rattle.chain_trace.specs.declared.path.Sink.{Sink}
 use Rattle.chain_trace.specs.declared.path.Sink.TheVariants as sinks
 use Rattle.chain_trace.specs.declared.path.Path.{Path}
 use Rattle.chain_trace.specs.Paths.{source_net}
 use Rattle.chain_trace.proofs.Ranges.{source_within}
 use Rattle.net_edit.specs.declared.edits.PortEdit.{PortEdit}
-use Rattle.net_edit.specs.Free.{count_in, count_in_assign, count_in_instance, count_of, is_one_net, is_assign_of, is_free}
+use Rattle.net_edit.specs.Free.{count_in, count_in_assign, count_of, is_one_net, is_assign_of, is_free}
 use Rattle.net_edit.specs.Edits.{Link, links_from, links, same_step, same_source, same_link, assign_at, port_edit_of, port_edit}
 use Rattle.net_edit.specs.Edited.{IsPortEdit}
-use Rattle.net_edit.specs.Reordered.{last_source, last_of, IsReordered}
+use Rattle.net_edit.specs.Reordered.{last_source, last_of}
 
 -- one net is that net
 one_net : (net : NetId) (bits : List Bit) → is_one_net net bits ≡ true → single_net bits ≡ Some net

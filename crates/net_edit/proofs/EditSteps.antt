@@ -1,6 +1,6 @@
 -- The steps of a path: where they are entered, and that they are apart.
-use Rattle.std.proofs.Common.{◌≡◌, ℕ, suc, ◌<◌, Bool, true, List, [], ◌∷◌, ◌++◌, length, get_or, refl, sym, ap, ◌∙◌, subst, arith}
-use Rattle.std.specs.Prelude.{Option, Some, None, Contains, option_and_then}
+use Rattle.std.proofs.Common.{◌≡◌, ℕ, suc, List, [], ◌∷◌, sym, ap, ◌∙◌, subst, arith}
+use Rattle.std.specs.Prelude.{Option, Some, Contains, option_and_then}
 use Rattle.std.specs.List.{slice_get}
 use Rattle.text_scan.specs.Each.{Each}
 use Rattle.netlist_core.specs.declared.netlist.NetId.{NetId}

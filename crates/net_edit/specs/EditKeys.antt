@@ -7,7 +7,7 @@ use Rattle.chain_trace.specs.declared.path.Source.{Source}
 use Rattle.chain_trace.specs.declared.path.Source.TheVariants as sources
 use Rattle.chain_trace.specs.declared.path.Sink.{Sink}
 use Rattle.chain_trace.specs.declared.path.Sink.TheVariants as sinks
-use Rattle.net_edit.specs.Edits.{Link, same_link}
+use Rattle.net_edit.specs.Edits.{Link}
 
 -- the place of a step and its out pin, or a port
 abbrev pub source_key : Source → Option (ℕ × ℕ) × ℕ

@@ -1,5 +1,5 @@
 -- The netlist with edits: other nets at in pins and at the right sides of assigns.
-use Rattle.std.specs.Prelude.{◌≡◌, ℕ, ◌+◌, ◌<◌, Bool, false, ◌&&◌, ◌==◌, List, [], ◌∷◌, length, map, Option, Some, None, option_map, find}
+use Rattle.std.specs.Prelude.{◌≡◌, ℕ, ◌+◌, ◌<◌, Bool, ◌&&◌, ◌==◌, List, [], ◌∷◌, length, map, Option, Some, None, option_map, find}
 use Rattle.std.specs.Str.{bytes_eq}
 use Rattle.std.specs.List.{slice_get}
 use Rattle.text_scan.specs.Each.{Each}

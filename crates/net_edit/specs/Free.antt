@@ -1,5 +1,5 @@
 -- Which ports are free: what drives such a port can be exchanged by its assign.
-use Rattle.std.specs.Prelude.{ℕ, ◌+◌, Bool, true, false, ◌&&◌, ◌==◌, List, [], ◌∷◌, Option, is_some, count_by, sum_by}
+use Rattle.std.specs.Prelude.{ℕ, ◌+◌, Bool, false, ◌&&◌, ◌==◌, List, [], ◌∷◌, is_some, count_by, sum_by}
 use Rattle.std.specs.List.{list_any}
 use Rattle.netlist_core.specs.declared.netlist.NetId.{NetId}
 use Rattle.netlist_core.specs.declared.netlist.Bit.{Bit}

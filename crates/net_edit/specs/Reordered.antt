@@ -1,7 +1,6 @@
 -- A path whose steps are put into another order, and what its edits make of it.
-use Rattle.std.specs.Prelude.{◌≡◌, ◌≢◌, ℕ, true, ◌↔◌, List, [], ◌∷◌, map, Contains, Option, Some, None, if◌then◌else◌}
+use Rattle.std.specs.Prelude.{◌≡◌, ◌≢◌, true, ◌↔◌, List, [], ◌∷◌, Contains, Option, Some, None, if◌then◌else◌}
 use Rattle.std.specs.List.{flat_map, slice_get}
-use Rattle.netlist_core.specs.declared.netlist.NetId.{NetId}
 use Rattle.netlist_core.specs.declared.netlist.Instance.{Instance}
 use Rattle.netlist_core.specs.declared.netlist.Netlist.{Netlist}
 use Rattle.netlist_core.specs.Netlists.{plain_of}
