@@ -1,9 +1,9 @@
 -- What is known of the sources of each class, one source after another.
-use Rattle.std.proofs.Common.{◌≡◌, ◌≢◌, ℕ, ◌+◌, ◌==◌, ◌&&◌, ◌||◌, ◌<◌, ◌≤◌, Bool, true, false, cond, eqb, List, [], ◌∷◌, length, get_or, take, replicate, ◌⊎◌, inl, inr, refl, sym, ap, ◌∙◌, subst, arith}
+use Rattle.std.proofs.Common.{◌≡◌, ◌≢◌, ℕ, ◌+◌, ◌==◌, ◌&&◌, ◌||◌, ◌<◌, ◌≤◌, Bool, true, false, cond, List, length, get_or, take, replicate, ◌⊎◌, inl, inr, refl, sym, ap, ◌∙◌, subst, arith}
 use Rattle.std.specs.Prelude.{Option, Some, None, MatchOption}
-use Rattle.std.specs.List.{list_any, slice_get}
+use Rattle.std.specs.List.{list_any}
 use Rattle.std.proofs.lemmas.Bool.{cases_lt, cases_eq, eqb-true, eq-eqb, false≢true}
-use Rattle.std.proofs.lemmas.Option.{none-some, same_Some, cond_some, slice_get_within, get_or_from_slice_get}
+use Rattle.std.proofs.lemmas.Option.{none-some, same_Some, cond_some, slice_get_within}
 use Rattle.std.proofs.lemmas.List.{take_all, get_or-replicate, length-replicate, length-take-le, get_or-take}
 use Rattle.std.proofs.lemmas.List.Folds.{list_any_more, list_any_at, list_any_kept}
 use Rattle.netlist_core.specs.declared.netlist.NetId.{NetId}
@@ -19,9 +19,9 @@ use Rattle.chain_trace.specs.declared.path.Sink.{Sink}
 use Rattle.chain_trace.specs.declared.path.Sink.TheVariants as sinks
 use Rattle.chain_trace.specs.declared.drivers.Found.{Found}
 use Rattle.chain_trace.specs.declared.drivers.Found.TheVariants.{Absent, Only, Several}
-use Rattle.chain_trace.specs.Paths.{drives, has_port, source_net, sink_net, AreApart, Feeds, IsOnlySource}
-use Rattle.chain_trace.specs.Faults.{HasNoSource, HasTwoSources}
-use Rattle.chain_trace.specs.Drivers.{StandsOn, IsOnly, AreTwo, Tells, AreDrivers, IsAdded, IsPut, IsBefore, IsDone, IsAny, Says}
+use Rattle.chain_trace.specs.Paths.{drives, has_port, source_net, sink_net, AreApart, Feeds}
+use Rattle.chain_trace.specs.Faults.{HasNoSource}
+use Rattle.chain_trace.specs.Drivers.{StandsOn, Tells, AreDrivers, IsAdded, IsPut, IsBefore, IsDone, IsAny, Says}
 use Rattle.chain_trace.proofs.Ranges.{and_left, and_right, out_of, source_within, sink_within}
 use Rattle.chain_trace.proofs.Unique.{same_step, same_port, not_both}
 

@@ -1,5 +1,5 @@
 -- A trace that has met a sink: one more step, its end, and what each fault excludes.
-use Rattle.std.proofs.Common.{◌≡◌, ◌≢◌, ℕ, ◌+◌, ◌-◌, ◌<◌, ◌≤◌, List, [], ◌∷◌, ◌++◌, length, get_or, ◌⊎◌, inl, inr, refl, sym, ap, ◌∙◌, subst, arith}
+use Rattle.std.proofs.Common.{◌≡◌, ℕ, ◌+◌, ◌-◌, ◌<◌, ◌≤◌, List, [], ◌∷◌, ◌++◌, length, get_or, ◌⊎◌, inl, inr, refl, sym, ap, ◌∙◌, subst, arith}
 use Rattle.std.specs.Prelude.{reverse, Result, Ok, Err}
 use Rattle.std.proofs.lemmas.Bool.{cases_lt}
 use Rattle.std.proofs.lemmas.List.{length-append, length-reverse, get_or-reverse, get_or_append_left, get_or_at, get_or_default, length_push}
@@ -12,7 +12,7 @@ use Rattle.chain_trace.specs.declared.path.Source.{Source}
 use Rattle.chain_trace.specs.declared.path.Source.TheVariants as sources
 use Rattle.chain_trace.specs.declared.path.Sink.{Sink}
 use Rattle.chain_trace.specs.declared.path.Sink.TheVariants as sinks
-use Rattle.chain_trace.specs.Paths.{Feeds, IsOnlySource, Leads, AreOfOnePath, StandOnce, IsScanPath}
+use Rattle.chain_trace.specs.Paths.{IsOnlySource, AreOfOnePath, StandOnce, IsScanPath}
 use Rattle.chain_trace.specs.Faults.{Meets, IsMet, HasNoSource, HasTwoSources, IsAmong, IsTraceFault, IfFault}
 use Rattle.chain_trace.specs.Drivers.{Says}
 use Rattle.chain_trace.specs.declared.drivers.Found.{Found}

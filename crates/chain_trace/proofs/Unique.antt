@@ -1,5 +1,5 @@
 -- A scan output has at most one path: going backward, each sink tells its source.
-use Rattle.std.proofs.Common.{◌≡◌, ℕ, List, [], ◌∷◌, ◌++◌, refl, sym, ap, ◌∙◌, subst}
+use Rattle.std.proofs.Common.{◌≡◌, List, [], ◌∷◌, ◌++◌, refl, sym, ap, ◌∙◌, subst}
 use Rattle.std.specs.Prelude.{reverse}
 use Rattle.std.proofs.lemmas.List.{reverse-append, reverse-reverse, append_assoc, append-nil}
 use Rattle.netlist_core.specs.declared.netlist.NetId.{NetId}
@@ -11,7 +11,7 @@ use Rattle.chain_trace.specs.declared.path.Source.{Source}
 use Rattle.chain_trace.specs.declared.path.Source.TheVariants as sources
 use Rattle.chain_trace.specs.declared.path.Sink.{Sink}
 use Rattle.chain_trace.specs.declared.path.Sink.TheVariants as sinks
-use Rattle.chain_trace.specs.Paths.{Feeds, IsOnlySource, Leads, IsScanPath}
+use Rattle.chain_trace.specs.Paths.{IsOnlySource, Leads, IsScanPath}
 
 -- backward from a sink over steps, the nearest first, to a port
 abbrev pub Backs : Netlist → Cells → Sink → List Step → NetId → Type 0

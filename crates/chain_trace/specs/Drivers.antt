@@ -1,5 +1,5 @@
 -- How sources are found: for each class what is known of its sources among those that were gone over.
-use Rattle.std.specs.Prelude.{◌≡◌, ◌≢◌, ◌<◌, ◌⊎◌, ◌↔◌, ℕ, ◌==◌, ◌&&◌, true, List, [], ◌∷◌, length, slice_index, slice_index_or, take, Option, Some, None}
+use Rattle.std.specs.Prelude.{◌≡◌, ◌≢◌, ◌<◌, ◌⊎◌, ◌↔◌, ℕ, ◌==◌, ◌&&◌, true, List, [], length, slice_index, slice_index_or, take, Some}
 use Rattle.std.specs.List.{list_any}
 use Rattle.netlist_core.specs.declared.netlist.NetId.{NetId}
 use Rattle.netlist_core.specs.declared.netlist.Netlist.{Netlist}

@@ -1,4 +1,4 @@
-use Rattle.std.proofs.Common.{◌≡◌, ◌≤◌, length, ap, arith}
+use Rattle.std.proofs.Common.{length, ap, arith}
 use Rattle.chain_trace.proofs.Marks.{item_more, bits_all}
 use Rattle.chain_trace.proofs.bits.bits_of.Goals as goal
 

@@ -1,4 +1,4 @@
-use Rattle.std.proofs.Common.{◌≡◌, ℕ, length, ap, sym, subst, ◌∙◌, arith}
+use Rattle.std.proofs.Common.{◌≡◌, ℕ, length, ap, subst, arith}
 use Rattle.chain_trace.specs.Drivers.{AreDrivers, IsDone}
 use Rattle.chain_trace.proofs.Finding.{drivers_all}
 use Rattle.chain_trace.proofs.drivers.drivers_of.Goals as goal

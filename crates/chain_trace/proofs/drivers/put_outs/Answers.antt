@@ -1,8 +1,7 @@
-use Rattle.std.proofs.Common.{◌≡◌, ◌<◌, ◌≤◌, ℕ, length, get_or, List, ap, sym, subst, ◌∙◌, arith}
-use Rattle.std.specs.Prelude.{Some, Option, MatchOption}
+use Rattle.std.proofs.Common.{◌≡◌, ℕ, length, get_or, List, ap, sym, subst, ◌∙◌, arith}
+use Rattle.std.specs.Prelude.{Some, MatchOption}
 use Rattle.std.specs.List.{slice_get}
 use Rattle.std.proofs.lemmas.Option.{slice_get-get_or}
-use Rattle.netlist_core.specs.declared.netlist.NetId.{NetId}
 use Rattle.cell_table.specs.declared.paths.OutPin.{OutPin}
 use Rattle.chain_trace.specs.declared.path.Step.{Step}
 use Rattle.chain_trace.specs.declared.path.Source.TheVariants as sources

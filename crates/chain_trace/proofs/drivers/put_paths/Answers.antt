@@ -1,4 +1,4 @@
-use Rattle.std.proofs.Common.{◌≡◌, ◌≤◌, ◌+◌, ℕ, length, ap, sym, subst, ◌∙◌, arith}
+use Rattle.std.proofs.Common.{◌≡◌, ◌+◌, ℕ, sym, subst, arith}
 use Rattle.chain_trace.specs.Drivers.{AreDrivers, IsDone}
 use Rattle.chain_trace.proofs.Ranges.{no_paths, paths_within}
 use Rattle.chain_trace.proofs.Finding.{instance_done}

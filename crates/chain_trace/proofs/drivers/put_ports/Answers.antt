@@ -1,4 +1,4 @@
-use Rattle.std.proofs.Common.{◌≡◌, ◌≢◌, ◌<◌, ◌≤◌, ℕ, length, get_or, true, false, List, inl, inr, ap, sym, subst, ◌∙◌, arith}
+use Rattle.std.proofs.Common.{◌≡◌, ◌≢◌, ◌<◌, ℕ, length, get_or, true, false, List, inl, inr, ap, sym, subst, ◌∙◌, arith}
 use Rattle.netlist_core.specs.declared.netlist.Port.{Port}
 use Rattle.netlist_core.specs.declared.netlist.Direction.TheVariants.{Input}
 use Rattle.chain_trace.specs.declared.path.Source.TheVariants as sources

@@ -8,7 +8,7 @@ use Rattle.chain_trace.specs.declared.drivers.Found.{Found}
 use Rattle.chain_trace.specs.declared.drivers.Found.TheVariants.{Absent}
 use Rattle.chain_trace.specs.Drivers.{AreDrivers, IsAny, Says}
 use Rattle.chain_trace.proofs.Finding.{drivers_any, says_port}
-use Rattle.chain_trace.specs.Paths.{is_driven, IsScanPath, sink_net}
+use Rattle.chain_trace.specs.Paths.{is_driven, sink_net}
 use Rattle.chain_trace.specs.Faults.{IsTraceFault}
 use Rattle.chain_trace.proofs.Ranges.{port_within, class_within, are_within, source_in}
 use Rattle.chain_trace.proofs.Unique.{path_unique}

@@ -1,4 +1,4 @@
-use Rattle.std.proofs.Common.{◌≡◌, ◌<◌, ℕ, length, get_or, sym, subst, arith}
+use Rattle.std.proofs.Common.{ℕ, get_or, sym, subst, arith}
 use Rattle.std.specs.Prelude.{Some}
 use Rattle.chain_trace.specs.declared.path.Sink.TheVariants as sinks
 use Rattle.chain_trace.specs.declared.drivers.Found.TheVariants.{Absent}

@@ -1,6 +1,6 @@
-use Rattle.std.proofs.Common.{◌≡◌, ℕ, List, [], ◌∷◌, Bool, subst, arith}
+use Rattle.std.proofs.Common.{◌≡◌, ℕ, [], ◌∷◌, subst, arith}
 use Rattle.std.proofs.lemmas.List.{get_or_default}
-use Rattle.chain_trace.specs.Parities.{Mark, Bit, bit_marks, GoesOn}
+use Rattle.chain_trace.specs.Parities.{Bit, GoesOn}
 use Rattle.chain_trace.proofs.Marks.{bit_more}
 use Rattle.chain_trace.proofs.path.PathBits.put_bits.Goals as goal
 
