@@ -18,8 +18,8 @@ use Rattle.scan_words.specs.declared.verb.Verb.{Verb}
 use Rattle.scan_words.specs.declared.verb.Verb.TheVariants as verbs
 use Rattle.scan_job.specs.declared.stop.Stop.{Stop}
 use Rattle.scan_job.specs.declared.stop.Stop.TheVariants.{NoForm, Refused, InputFailed, OutputFailed, NoMemory}
-use Rattle.narrow_rewire.specs.Erased.{AreErasedAlike}
-use Rattle.narrow_rewire.specs.Texts.{first_fault as rewire_fault, written_verilog, moved_count}
+use Rattle.chain_rewire.specs.Rewiring.{IsRewired, AreErasedAlike}
+use Rattle.chain_rewire.specs.Faults.{IsRewireFault}
 use Rattle.path_report.specs.Reports.{IsPathText, IsPathFault}
 use Rattle.scan_job.specs.Commands.{value_at, names_by, names_of, rewire_of}
 use Rattle.scan_job.specs.FirstFault.{size_fault, is_too_large, first_too_large, input_slots, IsCommandFault, HasNoCommandFault, IsFirstFault, HasNoFault}
@@ -253,7 +253,7 @@ AgreeAt verb order one other = (slot : Slot) → IsInput slot → IsUsed order s
 command_same : (verb : Verb) (order : Order) (one other : Slot → List ℕ) (fault : Fault) → order.verb ≡ verb → AgreeAt verb order one other
     → IsCommandFault verb order one fault → IsCommandFault verb order other fault
 command_same verbs.Rewire order one other fault e agree is =
-    subst (λ (text : List ℕ). rewire_fault text (rewire_of order) ≡ Some fault) (agree Verilog tt (verilog_used order verbs.Rewire e)) is
+    subst (λ (text : List ℕ). IsRewireFault text (rewire_of order) fault) (agree Verilog tt (verilog_used order verbs.Rewire e)) is
 command_same verbs.Trace order one other fault e agree is =
     subst (λ (table : List ℕ). IsPathFault table (other Verilog) (value_at order 2) fault) (agree Table tt (table_used order e))
     (subst (λ (text : List ℕ). IsPathFault (one Table) text (value_at order 2) fault) (agree Verilog tt (verilog_used order verbs.Trace e)) is)
@@ -262,9 +262,10 @@ texts_same : (verb : Verb) (order : Order) (one other : Slot → List ℕ) (outp
 texts_same verbs.Rewire order one other outputs e agree are =
     let same = agree Verilog tt (verilog_used order verbs.Rewire e) in
     record {
-      verilog = are.verilog ∙ ap (λ (text : List ℕ). written_verilog text (rewire_of order)) same;
-      console = are.console ∙ ap (λ (text : List ℕ). rewire_text (moved_count text (rewire_of order))) same;
-      erased = subst (λ (text : List ℕ). AreErasedAlike (rewire_of order) text outputs.verilog) same are.erased;
+      moved = are.moved;
+      rewired = subst (λ (text : List ℕ). IsRewired text (rewire_of order) outputs.verilog are.moved) same are.rewired;
+      console = are.console;
+      erased = subst (λ (text : List ℕ). AreErasedAlike text (rewire_of order) outputs.verilog) same are.erased;
       path = are.path;
     }
 texts_same verbs.Trace order one other outputs e agree are =

@@ -4,7 +4,7 @@ use Rattle.desk_io.specs.declared.names.Names.{Names}
 use Rattle.scan_words.specs.declared.order.Order.{Order}
 use Rattle.scan_words.specs.declared.verb.Verb.{Verb}
 use Rattle.scan_words.specs.declared.verb.Verb.TheVariants as verbs
-use Rattle.narrow_rewire.specs.declared.rewire.Rewire.{Rewire}
+use Rattle.chain_rewire.specs.declared.rewire.Rewire.{Rewire}
 
 -- the value of the option at a place of the command's list of options
 abbrev pub value_at : Order → ℕ → List ℕ

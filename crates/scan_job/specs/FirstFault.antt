@@ -19,8 +19,8 @@ use Rattle.scan_words.specs.declared.order.Order.{Order}
 use Rattle.scan_words.specs.declared.verb.Verb.{Verb}
 use Rattle.scan_words.specs.declared.verb.Verb.TheVariants as verbs
 use Rattle.path_report.specs.Reports.{IsPathFault}
+use Rattle.chain_rewire.specs.Faults.{IsRewireFault}
 use Rattle.scan_job.specs.Commands.{value_at, names_of, rewire_of}
-use Rattle.narrow_rewire.specs.Texts.{first_fault as rewire_fault}
 
 -- the file of an input slot, as faults name it
 abbrev pub file_of : Slot → FileKind
@@ -53,7 +53,7 @@ input_slots = Table ∷ Lef ∷ Verilog ∷ Def ∷ Stil ∷ []
 
 -- the first fault that the command itself finds in its files, of which none is too large
 abbrev pub IsCommandFault : Verb → Order → (Slot → List ℕ) → Fault → Type 0
-IsCommandFault verbs.Rewire order files fault = rewire_fault (files Verilog) (rewire_of order) ≡ Some fault
+IsCommandFault verbs.Rewire order files fault = IsRewireFault (files Verilog) (rewire_of order) fault
 IsCommandFault verbs.Trace order files fault = IsPathFault (files Table) (files Verilog) (value_at order 2) fault
 
 abbrev pub HasNoCommandFault : Verb → Order → (Slot → List ℕ) → Type 0

@@ -9,8 +9,7 @@ use Rattle.scan_words.specs.declared.verb.Verb.{Verb}
 use Rattle.scan_words.specs.declared.verb.Verb.TheVariants as verbs
 use Rattle.scan_job.specs.Commands.{value_at, rewire_of}
 use Rattle.scan_job.specs.FirstFault.{HasNoFault}
-use Rattle.narrow_rewire.specs.Erased.{AreErasedAlike, HasScanPath}
-use Rattle.narrow_rewire.specs.Texts.{written_verilog, moved_count}
+use Rattle.chain_rewire.specs.Rewiring.{IsRewired, AreErasedAlike, HasPath}
 use Rattle.path_report.specs.Reports.{IsPathText}
 
 -- what `rewire` says: how many in pins and ports it edited
@@ -19,12 +18,13 @@ rewire_text moved = codes "moved " ++ decimal moved ++ 10 ∷ []
 
 -- the outputs are those of the command: each text that it writes
 pub record AreRewired (order : Order) (files : Slot → List ℕ) (outputs : Outputs) : Type 0 where
-  pub verilog : outputs.verilog ≡ written_verilog (files Verilog) (rewire_of order)
-  pub console : outputs.console ≡ rewire_text (moved_count (files Verilog) (rewire_of order))
-  -- but for the in pins of the path and the net of the scan output, the written module is the read one
-  pub erased : AreErasedAlike (rewire_of order) (files Verilog) outputs.verilog
+  pub moved : ℕ
+  pub rewired : IsRewired (files Verilog) (rewire_of order) outputs.verilog moved
+  pub console : outputs.console ≡ rewire_text moved
+  -- but for the scan sinks of the path, the written netlist is the read one
+  pub erased : AreErasedAlike (files Verilog) (rewire_of order) outputs.verilog
   -- and its scan path has the instances in the order of the words
-  pub path : HasScanPath (rewire_of order) outputs.verilog order.further
+  pub path : HasPath outputs.verilog (rewire_of order) order.further
 
 abbrev pub AreTexts : Verb → Order → (Slot → List ℕ) → Outputs → Type 0
 AreTexts verbs.Rewire order files outputs = AreRewired order files outputs

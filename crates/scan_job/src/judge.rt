@@ -4,25 +4,24 @@ ghost use Rattle.desk_io.specs.Inputs.{input_at};
 ghost use Rattle.scan_words.specs.declared.verb.Verb.TheVariants as verbs;
 ghost use Rattle.scan_job.specs.FirstFault.{IsCommandFault, HasNoCommandFault, Refuses};
 ghost use Rattle.scan_job.specs.Texts.{AreTexts, AreRewired};
-ghost use Rattle.scan_job.specs.Commands.{value_at, rewire_of, IsFit};
-ghost use Rattle.narrow_rewire.specs.Texts.{first_fault};
+ghost use Rattle.scan_job.specs.Commands.{value_at, IsFit};
 
 use crate::line::rewire_line;
 use crate::names::{rewire_of, value_at};
+use chain_rewire::rewire_text;
 use desk_io::{Inputs, Outputs, Slot};
-use narrow_rewire::rewire_text;
 use path_report::path_text;
 use scan_words::{Order, Verb};
 use std::alloc::Global;
 use text_scan::{ReadFault, Text};
 
-/// The texts of `rewire`, or the first fault of its file.
+/// The texts of `rewire`, or the first fault of its file and its words.
 fn judge_rewire(alloc: Global, order: &Order, inputs: &Inputs) -> Result<Outputs, ReadFault>
     requires small { length (input_at inputs.now Verilog) < 2 ^ 32 }
     requires apart { value_at order.now 2 ≢ value_at order.now 3 }
-    ensures no_fault { IfOk result (λ outputs. first_fault (input_at inputs.now Verilog) (rewire_of order.now) ≡ None) }
+    ensures no_fault { IfOk result (λ outputs. HasNoCommandFault verbs.Rewire order.now (input_at inputs.now)) }
     ensures texts { IfOk result (AreRewired order.now (input_at inputs.now)) }
-    ensures refused { Refuses result (λ fault. first_fault (input_at inputs.now Verilog) (rewire_of order.now) ≡ Some fault) }
+    ensures refused { Refuses result (IsCommandFault verbs.Rewire order.now (input_at inputs.now)) }
 {
     let rewire = rewire_of(alloc, order)?;
     let done = rewire_text(alloc, inputs.text(Slot::Verilog), &rewire)?;

@@ -1,8 +1,8 @@
 ghost use Rattle.std.specs.Prelude.{◌≡◌, IfOk};
 ghost use Rattle.scan_job.specs.Commands.{value_at, names_of, rewire_of};
 
+use chain_rewire::Rewire;
 use desk_io::Names;
-use narrow_rewire::Rewire;
 use scan_words::{Order, Verb};
 use std::alloc::Global;
 use text_scan::{Name, NoMemory, Rows, Word};

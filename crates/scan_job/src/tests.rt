@@ -43,6 +43,22 @@ fn rewiring(alloc: Global, units: &str) -> Result<Vec<Word>, Fail> {
     words(alloc, line.as_str())
 }
 
+/// The words of `rewire` for a line of its scan-in, its scan-out and its units.
+fn rewiring_between(alloc: Global, line: &str) -> Result<Vec<Word>, Fail> {
+    let mut all = words(
+        alloc,
+        "rewire --verilog v.v --cell SDF --in-pin SI --out-pin Q --out-verilog w.v",
+    )?;
+    let names = ["--scan-in", "--scan-out"];
+    for (k, word) in line.split(' ').enumerate() {
+        if let Some(name) = names.get(k) {
+            all.push(Word::copy(alloc, name)?)?;
+        }
+        all.push(Word::copy(alloc, word)?)?;
+    }
+    Ok(all)
+}
+
 fn tracing(alloc: Global, output: &str) -> Result<Vec<Word>, Fail> {
     let line = format!(in alloc; "trace --table t.toml --verilog v.v --scan-out {output}")?;
     words(alloc, line.as_str())
@@ -68,24 +84,50 @@ fn desk(
 }
 
 #[test]
-fn a_chain_is_rewired_or_refused(rt: HostRuntime) -> Result<(), Fail> {
+fn a_chain_is_rewired(rt: HostRuntime) -> Result<(), Fail> {
     let alloc = rt.alloc();
     let constant = THREE_FLOPS.replace(alloc, ".D(d0)", ".D(1'b0)")?;
-    for (units, text, status, verilog, console) in [
-        ("a c b", THREE_FLOPS, 0, REWIRED, "moved 3\n"),
-        ("a b c", THREE_FLOPS, 0, THREE_FLOPS, "moved 0\n"),
-        ("a c", THREE_FLOPS, 2, "", "words:0: NotPermutation\n"),
-        ("a c b", constant.as_str(), 2, "", "v.v:0: VerilogSyntax\n"),
+    let rewired = REWIRED.replace(alloc, ".D(d0)", ".D(1'b0)")?;
+    for (units, text, verilog, console) in [
+        ("a c b", THREE_FLOPS, REWIRED, "moved 3\n"),
+        ("a b c", THREE_FLOPS, THREE_FLOPS, "moved 0\n"),
+        ("a c b", constant.as_str(), rewired.as_str(), "moved 3\n"),
     ] {
         let mut desk = desk(alloc, "", text, 0, 0)?;
         let words = rewiring(alloc, units)?;
-        assert_eq!(rt; run(alloc, &words, &mut desk), status, "{units}");
+        assert_eq!(rt; run(alloc, &words, &mut desk), 0, "{units}");
         assert_eq!(rt;
             desk.written(Slot::OutVerilog),
             verilog.as_bytes(),
             "{units}"
         );
         assert_eq!(rt; desk.written(Slot::Console), console.as_bytes(), "{units}");
+    }
+    Ok(())
+}
+
+#[test]
+fn a_chain_is_refused_by_its_first_fault(rt: HostRuntime) -> Result<(), Fail> {
+    let alloc = rt.alloc();
+    let unclosed = THREE_FLOPS.replace(alloc, "endmodule\n", "")?;
+    let undriven = THREE_FLOPS.replace(alloc, ".SI(si)", ".SI(sx)")?;
+    let direct = THREE_FLOPS.replace(alloc, ".Q(qc)", ".Q(so)")?;
+    let direct = direct.replace(alloc, "  assign so = qc;\n", "")?;
+    for (line, text, console) in [
+        ("si so a c", THREE_FLOPS, "words:0: NotPermutation\n"),
+        ("si so a c b b", THREE_FLOPS, "words:0: NotPermutation\n"),
+        ("si qa a c b", THREE_FLOPS, "words:0: NoPort\n"),
+        ("qa so a c b", THREE_FLOPS, "words:0: NoPort\n"),
+        ("se so a c b", THREE_FLOPS, "words:0: WrongPort\n"),
+        ("si so a c b", undriven.as_str(), "v.v:5: NoDriver\n"),
+        ("si so a c b", unclosed.as_str(), "v.v:1: VerilogSyntax\n"),
+        ("si so a c b", direct.as_str(), "words:0: PinnedLast\n"),
+    ] {
+        let mut desk = desk(alloc, "", text, 0, 0)?;
+        let words = rewiring_between(alloc, line)?;
+        assert_eq!(rt; run(alloc, &words, &mut desk), 2, "{line}");
+        assert_eq!(rt; desk.written(Slot::OutVerilog), b"".as_slice(), "{line}");
+        assert_eq!(rt; desk.written(Slot::Console), console.as_bytes(), "{line}");
     }
     Ok(())
 }

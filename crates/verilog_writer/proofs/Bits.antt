@@ -14,8 +14,7 @@ use Rattle.verilog_syntax.specs.Words as words
 use Rattle.verilog_syntax.specs.Grammar.{IsName, IsDecimal, item_texts, IsOperand}
 use Rattle.verilog_reader.specs.Values.{decimal_value}
 use Rattle.verilog_reader.proofs.Indexes.{with_digit}
-use Rattle.verilog_writer.specs.declared.edits.NetBit.{NetBit}
-use Rattle.verilog_writer.specs.VerilogText.{indexed_text, indexed_item, net_text, net_item, IsIndex, IsNetBit}
+use Rattle.verilog_writer.specs.VerilogText.{NetBit, indexed_text, indexed_item, net_text, net_item, IsIndex, IsNetBit}
 
 pub first_part : (a b : Bool) → (a && b) ≡ true → a ≡ true
 first_part true b e = refl

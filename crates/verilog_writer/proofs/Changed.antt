@@ -13,8 +13,7 @@ use Rattle.verilog_syntax.specs.declared.statement.Statement.TheVariants as stat
 use Rattle.verilog_syntax.specs.declared.reading.Placed.{Placed}
 use Rattle.verilog_syntax.specs.Grammar.{item_texts, expression_texts, texts_parts, name_parts, declared_text, range_parts, connection_parts, header_parts, statement_parts}
 use Rattle.verilog_syntax.specs.Laws.{module_parts}
-use Rattle.verilog_writer.specs.declared.edits.BitEdit.{BitEdit}
-use Rattle.verilog_writer.specs.VerilogText.{net_item, is_at, changed_items, changed_connection, changed_statement, changed_statements}
+use Rattle.verilog_writer.specs.VerilogText.{BitEdit, net_item, is_at, changed_items, changed_connection, changed_statement, changed_statements}
 
 -- the texts of the tokens at a place
 abbrev pub new_texts : List BitEdit → Span → List (List ℕ) → List (List ℕ)

@@ -16,8 +16,7 @@ use Rattle.splice.proofs.Joined.{edits_join}
 use Rattle.splice.proofs.Law.{are_rising}
 use Rattle.verilog_syntax.specs.Laws.{tokens_in}
 use Rattle.verilog_syntax.specs.Grammar.{item_texts}
-use Rattle.verilog_writer.specs.declared.edits.BitEdit.{BitEdit}
-use Rattle.verilog_writer.specs.VerilogText.{net_item, text_edits, is_at, IsNetBit}
+use Rattle.verilog_writer.specs.VerilogText.{BitEdit, net_item, text_edits, is_at, IsNetBit}
 use Rattle.verilog_writer.proofs.Bits.{bit_item}
 use Rattle.verilog_writer.proofs.Changed.{new_texts, changed_parts, changed_none}
 use Rattle.verilog_writer.proofs.Shared.{shared, shared_fits}
@@ -50,10 +49,10 @@ slots_rising text ps fits = are_rising text (slot_edits ps) (shared ps) (emptied
 same_number : (n : ℕ) → (n == n) ≡ true
 same_number n = grind (arith, nat_tests)
 
-at_same : (a b : Span) → a ≡ b → is_at a b ≡ true
+pub at_same : (a b : Span) → a ≡ b → is_at a b ≡ true
 at_same a b e = subst (λ (s : Span). is_at a s ≡ true) e (rw (same_number a.start) (same_number a.end))
 
-at_apart : (a b : Span) → (a.start ≡ b.start → ⊥) → is_at a b ≡ false
+pub at_apart : (a b : Span) → (a.start ≡ b.start → ⊥) → is_at a b ≡ false
 at_apart a b ne = rw (ne_eqb a.start b.start ne) refl
 
 -- later edits, and later slots

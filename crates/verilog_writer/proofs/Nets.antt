@@ -32,7 +32,7 @@ use Rattle.verilog_writer.specs.NetTexts.{IsNetText, NetsLaw}
 use Rattle.verilog_writer.proofs.Bits.{first_part, second_part}
 use Rattle.verilog_writer.proofs.Names.{plain_escapable}
 
-abbrev CanBeEscaped : List ℕ → Type 0
+abbrev pub CanBeEscaped : List ℕ → Type 0
 CanBeEscaped name = is_escapable name ≡ true
 
 -- the names that statements mention
@@ -89,7 +89,7 @@ mentions_named listed [] good = tt
 mentions_named listed (p ∷ ps) good = each_join CanBeEscaped (mentions_in p.statement) (mentions ps) (statement_named listed p.statement good.0) (mentions_named listed ps good.1)
 
 -- and those that they declare
-abbrev HasSmall : Option Bounds → Type 0
+abbrev pub HasSmall : Option Bounds → Type 0
 HasSmall None = Unit {0}
 HasSmall (Some b) = IsSmall b
 
@@ -134,7 +134,7 @@ declarations_sound listed (p ∷ ps) good small =
     (declarations_sound listed ps good.1 (second_part (not (has_bad_number p.statement)) _ small))
 
 -- so the entries of the nets have names that can be escaped, and small bounds
-abbrev IsSoundEntry : List ℕ × Option Bounds → Type 0
+abbrev pub IsSoundEntry : List ℕ × Option Bounds → Type 0
 IsSoundEntry e = CanBeEscaped e.0 × HasSmall e.1
 
 declared_sound : (before ds : List Declaration) → Each IsSoundDeclaration ds → Each IsSoundEntry (first_declared before ds)
@@ -183,10 +183,12 @@ entries_written : (es : List (List ℕ × Option Bounds)) → Each IsSoundEntry 
 entries_written [] sound = tt
 entries_written (e ∷ es) sound = each_join IsWrittenNet (entry_nets e.0 e.1) (flat_map (λ e. entry_nets e.0 e.1) es) (entry_written e.0 e.1 sound.0.0 sound.0.1) (entries_written es sound.1)
 
--- a text without a fault has passed the number check
-record Passed (text : List ℕ) (ps : List Placed) : Type 0 where
+-- a text without a fault has passed the checks
+pub record Passed (text : List ℕ) (ps : List Placed) : Type 0 where
   pub read : read_statements text ≡ Ok ps
   pub number : check_number ps ≡ Ok tt
+  pub twice : check_twice ps ≡ Ok tt
+  pub select : check_select ps ≡ Ok tt
 
 ok_err : {X P : Type 0} (f : Fault) (x : X) → ◌≡◌ {A = Result X Fault} (Err f) (Ok x) → P
 ok_err f x e = absurd cc
@@ -198,21 +200,20 @@ result_ok : {A B P : Type 0} (f : A → Result B Fault) (r : Result A Fault) (y 
 result_ok f (Ok x) y e k = k x refl e
 result_ok f (Err fault) y e k = ok_err fault y e
 
-passed : (text : List ℕ) (ps : List Placed) → read_faultless text ≡ Ok ps → Passed text ps
+pub passed : (text : List ℕ) (ps : List Placed) → read_faultless text ≡ Ok ps → Passed text ps
 unfolding read_faultless
 passed text ps e =
     result_ok _ (read_statements text) ps e (λ qs read e. result_ok _ (check_number qs) ps e (λ a number e.
     result_ok _ (check_twice qs) ps e (λ b twice e. result_ok _ (check_select qs) ps e (λ c select e.
-    subst (Passed text) (same_ok qs ps e) (record { read = read; number = number })))))
+    subst (Passed text) (same_ok qs ps e) (record { read = read; number = number; twice = twice; select = select })))))
 
-pub nets_law : NetsLaw
-nets_law text n d =
-    let ps = d.statements in
-    let p = passed text ps d.reads in
+pub entries_sound : (text : List ℕ) (ps : List Placed) → Passed text ps → Each IsSoundEntry (net_entries ps)
+entries_sound text ps p =
     let s = spelled_law text ps p.read in
     let declared = declarations_sound s.listed ps s.good.good (small_passed ps p.number) in
     let mentioned = undeclared_sound (declarations ps) (mentions ps) (mentions_named s.listed ps s.good.good) in
-    let entries : Each IsSoundEntry (net_entries ps)
-    = each_join IsSoundEntry (first_declared [] (declarations ps)) (first_mentioned [] (undeclared_in (declarations ps) (mentions ps))) (declared_sound [] (declarations ps) declared) (mentioned_sound [] (undeclared_in (declarations ps) (mentions ps)) mentioned)
-    in
-    subst (Each IsWrittenNet) (sym d.is.nets) (entries_written (net_entries ps) entries)
+    each_join IsSoundEntry (first_declared [] (declarations ps)) (first_mentioned [] (undeclared_in (declarations ps) (mentions ps))) (declared_sound [] (declarations ps) declared)
+    (mentioned_sound [] (undeclared_in (declarations ps) (mentions ps)) mentioned)
+
+pub nets_law : NetsLaw
+nets_law text n d = subst (Each IsWrittenNet) (sym d.is.nets) (entries_written (net_entries d.statements) (entries_sound text d.statements (passed text d.statements d.reads)))

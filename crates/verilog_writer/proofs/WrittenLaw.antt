@@ -12,8 +12,7 @@ use Rattle.verilog_syntax.specs.declared.reading.Placed.{Placed}
 use Rattle.verilog_syntax.specs.Laws.{module_parts, tokens_in}
 use Rattle.verilog_syntax.proofs.SpelledLaw.{spelled_law}
 use Rattle.verilog_syntax.proofs.ReadLaw.{read_law}
-use Rattle.verilog_writer.specs.declared.edits.BitEdit.{BitEdit}
-use Rattle.verilog_writer.specs.VerilogText.{text_edits, written_verilog, changed_statements, IsPlaceIn, WrittenLaw}
+use Rattle.verilog_writer.specs.VerilogText.{BitEdit, text_edits, written_verilog, changed_statements, IsPlaceIn, WrittenLaw}
 use Rattle.verilog_writer.proofs.Changed.{changed_parts, module_changed}
 use Rattle.verilog_writer.proofs.Edited.{slots_rising, edits_made, edits_ready}
 use Rattle.verilog_writer.proofs.Good.{changed_good}

@@ -1,2 +1,3 @@
 pub mod VerilogText
 pub mod NetTexts
+pub mod Written

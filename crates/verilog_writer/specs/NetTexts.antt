@@ -6,8 +6,7 @@ use Rattle.netlist_core.specs.Netlists.{Named}
 use Rattle.verilog_reader.specs.Values.{bit_name}
 use Rattle.verilog_reader.specs.Declarations.{Declaration, bounds_in}
 use Rattle.verilog_reader.specs.Denoted.{item_bits, DenotesNetlist}
-use Rattle.verilog_writer.specs.declared.edits.NetBit.{NetBit}
-use Rattle.verilog_writer.specs.VerilogText.{net_text, net_item, IsNetBit}
+use Rattle.verilog_writer.specs.VerilogText.{NetBit, net_text, net_item, IsNetBit}
 
 abbrev pub indexed_name : List ℕ → Option ℕ → List ℕ
 indexed_name name None = name

@@ -16,8 +16,16 @@ use Rattle.verilog_syntax.specs.Reading.{read_statements}
 use Rattle.verilog_syntax.specs.Laws.{AreRead}
 use Rattle.verilog_reader.specs.Values.{name_text}
 use Rattle.verilog_reader.specs.Denoted.{bit_text}
-use Rattle.verilog_writer.specs.declared.edits.NetBit.{NetBit}
-use Rattle.verilog_writer.specs.declared.edits.BitEdit.{BitEdit}
+
+-- a net bit: a scalar net, or the bit of a vector at an index, by the plain name of the net or the vector
+pub record NetBit : Type 0 where
+  pub name : List ℕ
+  pub index : Option ℕ
+
+-- the place of an expression, and the net bit that stands there instead
+pub record BitEdit : Type 0 where
+  pub span : Span
+  pub bit : NetBit
 
 abbrev pub indexed_text : List ℕ → Option ℕ → List ℕ
 indexed_text name None = name_text name

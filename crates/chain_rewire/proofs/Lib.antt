@@ -1,0 +1,10 @@
+pub mod NameLists
+pub mod Members
+pub mod Instances
+pub mod Ordering
+pub mod NameRefusals
+pub mod PathRefusals
+pub mod Units
+pub mod Reorderings
+pub mod Exclusions
+pub mod NewPaths

@@ -1,0 +1,68 @@
+use Rattle.std.proofs.Common.{refl, Err}
+use Rattle.std.proofs.lemmas.Result.{err_from_is_err_and}
+use Rattle.text_scan.specs.declared.fault.Fault.{Fault}
+use Rattle.verilog_reader.specs.Denoted.{DenotesNetlist}
+use Rattle.chain_trace.specs.declared.path.Path.{Path}
+use Rattle.chain_rewire.specs.Rewiring.{IsTraced}
+use Rattle.chain_rewire.specs.Faults.{IsRewireFault}
+use Rattle.chain_rewire.proofs.Reorderings.{is_reordered, ordered_names}
+use Rattle.chain_rewire.proofs.Exclusions.{fault_weaker, excluded}
+use Rattle.chain_rewire.proofs.NewPaths.{erased, has_path}
+use Rattle.chain_rewire.proofs.rewire.rewire_text.Goals as goal
+
+pub returns-in_err-path-clause-fault : goal.returns-in_err-path-clause-fault
+returns-in_err-path-clause-fault c =
+    let text = c.args.text.now in
+    let w = c.args.rewire.now in
+    let n = c.in_ok-netlist.netlist in
+    let p = err_from_is_err_and c.from_residual-in_err-path.result c.from_residual-in_err-path.ensures.1 in
+    rw (p.1, p.2)
+    (fault_weaker {X = Path} (Err c.in_err-path.field-0.0) (λ fault. (text : _) → DenotesNetlist text n → IsRewireFault text w fault) (IsRewireFault text w) (λ fault is. is text c.in_ok-netlist.ensures.value)
+    c.in_err-path.ensures.fault)
+
+pub returns-in_err-new-clause-fault : goal.returns-in_err-new-clause-fault
+returns-in_err-new-clause-fault c =
+    let text = c.args.text.now in
+    let w = c.args.rewire.now in
+    let n = c.in_ok-netlist.netlist in
+    let path = c.in_ok-path.path in
+    let traced = c.in_ok-path.ensures.path text c.in_ok-netlist.ensures.value in
+    let p = err_from_is_err_and c.from_residual-in_err-new.result c.from_residual-in_err-new.ensures.1 in
+    rw (p.1, p.2)
+    (fault_weaker {X = Path} (Err c.in_err-new.field-0.0) (λ fault. (text : _) → IsTraced text w n path → IsRewireFault text w fault) (IsRewireFault text w) (λ fault is. is text traced) c.in_err-new.ensures.fault)
+
+pub verilog_text-requires-clause-edits : goal.verilog_text-requires-clause-edits
+verilog_text-requires-clause-edits c =
+    let traced = c.in_ok-path.ensures.path c.args.text.now c.in_ok-netlist.ensures.value in
+    c.in_ok-edits.ensures.edits c.in_ok-path.path c.in_ok-new.new refl refl
+    (is_reordered c.args.text.now c.args.rewire.now c.in_ok-netlist.netlist c.in_ok-path.path traced c.in_ok-new.ensures.instances c.in_ok-table.table c.in_ok-new.new c.requires.pins c.in_ok-new.ensures.last
+    c.in_ok-table.ensures.value c.in_ok-new.ensures.value)
+
+pub returns-clause-erased : goal.returns-clause-erased
+returns-clause-erased c =
+    let traced = c.in_ok-path.ensures.path c.args.text.now c.in_ok-netlist.ensures.value in
+    let reordered =
+    is_reordered c.args.text.now c.args.rewire.now c.in_ok-netlist.netlist c.in_ok-path.path traced c.in_ok-new.ensures.instances c.in_ok-table.table c.in_ok-new.new c.requires.pins c.in_ok-new.ensures.last
+    c.in_ok-table.ensures.value c.in_ok-new.ensures.value
+    in
+    erased c.args.text.now c.args.rewire.now c.in_ok-netlist.netlist c.in_ok-path.path traced c.in_ok-table.table c.in_ok-table.ensures.value c.in_ok-edits.edits c.in_ok-verilog.verilog c.in_ok-verilog.ensures.denoted
+    (c.in_ok-edits.ensures.erased c.in_ok-path.path c.in_ok-new.new refl refl reordered)
+
+pub returns-clause-path : goal.returns-clause-path
+returns-clause-path c =
+    let text = c.args.text.now in
+    let w = c.args.rewire.now in
+    let n = c.in_ok-netlist.netlist in
+    let path = c.in_ok-path.path in
+    let new = c.in_ok-new.new in
+    let traced = c.in_ok-path.ensures.path text c.in_ok-netlist.ensures.value in
+    let reordered =
+    is_reordered text w n path traced c.in_ok-new.ensures.instances c.in_ok-table.table new c.requires.pins c.in_ok-new.ensures.last c.in_ok-table.ensures.value c.in_ok-new.ensures.value
+    in
+    has_path text w n path traced c.in_ok-table.table c.in_ok-table.ensures.value c.in_ok-edits.edits c.in_ok-verilog.verilog c.in_ok-verilog.ensures.denoted c.names_law.ensures.same new c.in_ok-new.ensures.value
+    (ordered_names text w n path traced c.in_ok-new.ensures.instances) (c.in_ok-edits.ensures.netlist path new refl refl reordered) (c.in_ok-edits.ensures.path path new refl refl reordered)
+
+pub returns-clause-no_fault : goal.returns-clause-no_fault
+returns-clause-no_fault c =
+    excluded c.netlist_law.ensures.one c.path_law.ensures.only c.path_law.ensures.no_fault c.args.text.now c.args.rewire.now c.in_ok-netlist.netlist c.in_ok-path.path
+    (c.in_ok-path.ensures.path c.args.text.now c.in_ok-netlist.ensures.value) c.in_ok-new.ensures.instances c.in_ok-new.ensures.last

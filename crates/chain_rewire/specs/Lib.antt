@@ -1,0 +1,3 @@
+pub mod Rewiring
+pub mod Faults
+pub mod Names

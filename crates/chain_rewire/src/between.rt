@@ -1,0 +1,41 @@
+//! The scan path between the ports of the words.
+ghost use Rattle.std.specs.Prelude.{◌≡◌, ℕ, List, IfOk};
+ghost use Rattle.netlist_core.specs.Netlists.{IsNetlist};
+ghost use Rattle.verilog_reader.specs.Denoted.{DenotesNetlist};
+ghost use Rattle.chain_trace.specs.Faults.{IfFault};
+ghost use Rattle.chain_rewire.specs.Rewiring.{cells_of, IsTraced};
+ghost use Rattle.chain_rewire.specs.Faults.{IsRewireFault};
+
+use crate::faults::words_fault;
+use crate::rewire::Rewire;
+use cell_table::CellTable;
+use chain_trace::{Path, input_named, output_named, plain_of, trace};
+use netlist_core::{Netlist, classes_of};
+use std::alloc::Global;
+use text_scan::{Kind, ReadFault};
+
+/// The scan path from the scan-in to the scan-out of a netlist.
+pub(crate) fn path_between(
+    alloc: Global,
+    netlist: &Netlist,
+    table: &CellTable,
+    rewire: &Rewire,
+) -> Result<Path, ReadFault>
+    requires netlist { IsNetlist netlist.now }
+    requires table { table.now ≡ cells_of rewire.now }
+    ensures path { IfOk result (λ path. (text : List ℕ) → DenotesNetlist text netlist.now → IsTraced text rewire.now netlist.now path) }
+    ensures fault { IfFault result (λ fault. (text : List ℕ) → DenotesNetlist text netlist.now → IsRewireFault text rewire.now fault) }
+{
+    let Some(output) = output_named(netlist, rewire.scan_out.bytes()) else {
+        return Err(words_fault(Kind::NoPort));
+    };
+    let Some(_) = input_named(netlist, rewire.scan_in.bytes()) else {
+        return Err(words_fault(Kind::NoPort));
+    };
+    let classes = classes_of(alloc, netlist)?;
+    let path = trace(alloc, netlist, &classes, table, output)?;
+    if plain_of(netlist.nets.as_slice(), path.input) != rewire.scan_in.bytes() {
+        return Err(words_fault(Kind::WrongPort));
+    }
+    Ok(path)
+}

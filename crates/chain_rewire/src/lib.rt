@@ -1,0 +1,17 @@
+//! Puts the scan path of a Verilog netlist into the order of given names.
+//!
+//! Floor: top, on verilog_writer, net_edit, chain_trace, verilog_reader, cell_table, netlist_core and text_scan; scan_job
+//! calls it.
+//! Contract: `rewire_text` writes the text that `specs/Rewiring.antt` says, or answers the first fault of `specs/Faults.antt`.
+#![tactic(auto)]
+
+mod between;
+mod faults;
+mod names;
+mod order;
+mod rewire;
+
+pub use rewire::{Rewire, Rewired, rewire_text};
+
+#[cfg(test)]
+mod tests;

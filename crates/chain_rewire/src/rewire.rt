@@ -1,0 +1,78 @@
+//! The Verilog with the path in the order of the names.
+ghost use Rattle.std.specs.Prelude.{◌≢◌, ◌<◌, ◌^◌, length, IfOk};
+ghost use Rattle.text_scan.specs.declared.fault.Fault.{Fault};
+ghost use Rattle.chain_trace.specs.Faults.{IfFault};
+ghost use Rattle.chain_rewire.specs.Rewiring.{IsRewired, AreErasedAlike, HasPath};
+ghost use Rattle.chain_rewire.specs.Faults.{IsRewireFault};
+
+use crate::between::path_between;
+use crate::order::ordered_path;
+use cell_table::CellTable;
+use chain_trace::{names_law, path_law};
+use net_edit::edits_for;
+use std::alloc::Global;
+use text_scan::{Name, ReadFault, Rows, Text};
+use verilog_reader::{netlist_law, read_netlist};
+use verilog_writer::verilog_text;
+
+/// What the words of `rewire` ask for.
+#[derive(Debug, Drop)]
+pub struct Rewire {
+    /// The one cell kind whose instances make up the path.
+    pub cell: Name,
+    /// The pin at which the path enters an instance.
+    pub in_pin: Name,
+    /// The pin at which the path leaves an instance.
+    pub out_pin: Name,
+    /// The input or inout port bit at which the path begins, by its plain name.
+    pub scan_in: Name,
+    /// The output or inout port bit at which the path ends, by its plain name.
+    pub scan_out: Name,
+    /// The plain names of the path's instances, in their new order.
+    pub units: Rows<Name>,
+}
+
+/// What `rewire` makes.
+#[derive(Debug, Drop)]
+pub struct Rewired {
+    /// The written Verilog.
+    pub verilog: Text,
+    /// How many in pins and ports have another source than before.
+    pub moved: u64,
+}
+
+/// The Verilog text in which the scan path of the scan-out has its instances in the order of the words, and how many in pins
+/// and ports have another source than before. Only their expressions are replaced.
+///
+/// Refused by the first fault: of the Verilog (VerilogSyntax, SecondModule, VerilogNumber, VerilogTwice, BadSelect); NoPort
+/// where no bit of an output or inout port has the name of the scan-out, or no bit of an input or inout port that of the
+/// scan-in; NoDriver, TwoDrivers or Loop where the scan-out has no path; WrongPort where the path begins at another port than
+/// the scan-in; NotPermutation where the units aren't the path's instances, each once; and PinnedLast where another unit
+/// would be last though the scan-out isn't free.
+pub fn rewire_text(alloc: Global, text: &[u8], rewire: &Rewire) -> Result<Rewired, ReadFault>
+    requires size { length text.now < 2 ^ 32 }
+    requires pins { rewire.now.in_pin ≢ rewire.now.out_pin }
+    ensures rewired { IfOk result (λ made. IsRewired text.now rewire.now made.verilog made.moved) }
+    // Both texts denote netlists that are the same by names but for the scan sinks.
+    ensures erased { IfOk result (λ made. AreErasedAlike text.now rewire.now made.verilog) }
+    // The written text has the path with the instances in the order of the words.
+    ensures path { IfOk result (λ made. HasPath made.verilog rewire.now rewire.now.units) }
+    ensures fault { IfFault result (IsRewireFault text.now rewire.now) }
+    ensures no_fault { IfOk result (λ made. (fault : Fault) → IsRewireFault text.now rewire.now fault → ⊥) }
+{
+    // These calls do nothing; their contracts are laws.
+    netlist_law();
+    path_law();
+    names_law();
+    let netlist = read_netlist(alloc, text)?;
+    let table = CellTable::one(alloc, &rewire.cell, &rewire.in_pin, &rewire.out_pin)?;
+    let path = path_between(alloc, &netlist, &table, rewire)?;
+    let new = ordered_path(alloc, &netlist, &path, rewire)?;
+    let edits = edits_for(alloc, &netlist, &table, &[path], &[new])?;
+    let verilog = verilog_text(alloc, text, &netlist, &table, &edits)?;
+    let moved = edits.pins.as_slice().len() + edits.ports.as_slice().len();
+    Ok(Rewired {
+        verilog,
+        moved: moved as u64,
+    })
+}

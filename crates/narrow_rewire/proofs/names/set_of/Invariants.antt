@@ -1,8 +1,0 @@
-use Rattle.std.proofs.Common.{◌≡◌, List, ℕ, take, Bor}
-use Rattle.std.specs.Str.{bytes_eq}
-use Rattle.std.specs.HashSet.{contains}
-use Rattle.narrow_rewire.specs.Names.{now_of, has}
-use Rattle.narrow_rewire.proofs.names.set_of.Given as goal
-
-abbrev pub invariant-loop-name : goal.invariant-loop-name
-invariant-loop-name l = (q : Bor (List ℕ)) → contains (λ x y. bytes_eq x.now y.now) l.set q ≡ has q.now (now_of (take l.name-index l.names))
