@@ -1,11 +1,10 @@
 -- The edits of a text as net bits, and what they make of the expressions of pins and of right sides.
-use Rattle.std.proofs.Common.{◌≡◌, ℕ, zero, suc, ◌+◌, ◌<◌, Bool, true, false, cond, ◌&&◌, ◌⊎◌, inl, inr, ⊎_elim, List, [], ◌∷◌, ◌++◌, length, map, option_map, Option, Some, None, refl, sym, ap, ◌∙◌, subst, arith}
+use Rattle.std.proofs.Common.{◌≡◌, ℕ, zero, suc, ◌<◌, Bool, true, false, cond, ◌&&◌, inl, inr, ⊎_elim, List, [], ◌∷◌, length, map, option_map, Option, Some, None, refl, sym, ap, ◌∙◌, subst, arith}
 use Rattle.std.specs.Prelude.{IsPermutation, ◌==◌, find}
-use Rattle.std.specs.List.{flat_map, slice_get, All}
+use Rattle.std.specs.List.{flat_map, slice_get}
 use Rattle.std.specs.Str.{bytes_eq}
 use Rattle.std.proofs.lemmas.Bool.{false≢true}
 use Rattle.std.proofs.lemmas.Bool.Decides.{nat_tests}
-use Rattle.std.proofs.lemmas.List.Sorted.{IsPermutation-sym}
 use Rattle.text_scan.specs.Each.{Each}
 use Rattle.text_scan.specs.declared.span.Span.{Span}
 use Rattle.splice.specs.declared.Edit.{Edit}
@@ -16,13 +15,13 @@ use Rattle.netlist_core.specs.declared.netlist.Assign.{Assign}
 use Rattle.netlist_core.specs.declared.netlist.Connection.{Connection}
 use Rattle.netlist_core.specs.declared.netlist.Instance.{Instance}
 use Rattle.netlist_core.specs.declared.netlist.Netlist.{Netlist}
-use Rattle.netlist_core.specs.Netlists.{plain_of as net_plain, single_net, connection_at, IsInstance, IsNetlist}
+use Rattle.netlist_core.specs.Netlists.{plain_of as net_plain, single_net, IsInstance}
 use Rattle.cell_table.specs.Cells.{Cells}
 use Rattle.chain_trace.specs.Paths.{scan_path_at}
 use Rattle.net_edit.specs.declared.edits.PinEdit.{PinEdit}
 use Rattle.net_edit.specs.declared.edits.PortEdit.{PortEdit}
 use Rattle.net_edit.specs.declared.edits.Edits.{Edits}
-use Rattle.net_edit.specs.Edited.{input_of, in_connection, is_edit_of_pin, pin_source, assign_source, IsPinEdit, IsPortEdit, AreEdits}
+use Rattle.net_edit.specs.Edited.{input_of, is_edit_of_pin, pin_source, assign_source, IsPinEdit, IsPortEdit, AreEdits}
 use Rattle.verilog_syntax.specs.declared.statement.Item.{Item}
 use Rattle.verilog_syntax.specs.declared.reading.Placed.{Placed}
 use Rattle.verilog_reader.specs.Denoted.{DenotesNetlist}
@@ -35,8 +34,8 @@ use Rattle.verilog_writer.specs.Written.{text_of, edit_at, right_edit, pin_text,
 use Rattle.verilog_writer.proofs.Edited.{at_same, at_apart}
 use Rattle.verilog_writer.proofs.KeptLists.{Has, one_place, has_left, has_right, has_flat, each_has, each_permuted, has_permuted}
 use Rattle.verilog_writer.proofs.KeptPlaces.{instance_spans, right_spans, has_span, one_pin, has_right_span, one_assign}
-use Rattle.verilog_writer.proofs.KeptEdits.{IsConnectionAt, connection_is, found_has, IsOfPin, IsOfPort, pins_made, ports_made, once, StartsApart, AreSlots, pin_span, port_span}
-use Rattle.verilog_writer.proofs.KeptNets.{IsKnown, IsKnownNet, net_known, text_tells}
+use Rattle.verilog_writer.proofs.KeptEdits.{connection_is, found_has, IsOfPin, IsOfPort, pins_made, ports_made, once, StartsApart, AreSlots, pin_span, port_span}
+use Rattle.verilog_writer.proofs.KeptNets.{IsKnown, net_known, text_tells}
 
 -- an edit with the text of a known net bit
 pub record IsKnownEdit (ps : List Placed) (y : Edit) : Type 0 where
@@ -197,7 +196,7 @@ module _ (text : List ℕ) (n : Netlist) (d : DenotesNetlist text n) (cells : Ce
       (each_weaker (IsOfPort n edits.ports) (IsKnownEdit d.statements) (flat_map (port_text n) edits.ports) (λ y a. known_text a.edit.source y a.source (ap (λ (z : Edit). z.text) a.is)) (ports_made n cells edits.ports are.ports))
 
   module _ (ss : List Span) (end : ℕ) (slots : AreSlots n ss end) (all : List Edit) (same : IsPermutation (edit_texts n cells edits) all) (bits : List BitEdit) (texts : text_edits bits ≡ all)
-    (known : Each (λ (e : BitEdit). IsKnownBit d.statements e.bit) bits) (apart : StartsApart all) where
+      (known : Each (λ (e : BitEdit). IsKnownBit d.statements e.bit) bits) (apart : StartsApart all) where
     -- where an edit stands
     edited_place : (y : Edit) (net : NetId) → Has y (edit_texts n cells edits) → net.0 < length n.nets → y.text ≡ text_of n net → IsReplaced d.statements n bits y.span net
     edited_place y net h lt is =

@@ -2,7 +2,7 @@
 use Rattle.std.proofs.Common.{◌≡◌, ℕ, Bool, true, false, cond, not, nat_lt, ◌&&◌, ◌||◌, List, [], ◌∷◌, ◌++◌, map, Option, Some, None, is_some, Result, Ok, Err, refl, sym, ap, ap₂, ◌∙◌, subst, append_assoc, arith}
 use Rattle.std.specs.Prelude.{◌==◌}
 use Rattle.std.specs.Option.{option_or}
-use Rattle.std.specs.List.{flat_map, list_any, filter, find}
+use Rattle.std.specs.List.{list_any, filter}
 use Rattle.std.proofs.lemmas.Bool.{false≢true, or_parts}
 use Rattle.std.proofs.lemmas.Bool.Decides.{nat_tests}
 use Rattle.std.proofs.lemmas.List.{append-nil}
@@ -17,8 +17,8 @@ use Rattle.verilog_syntax.specs.declared.reading.Placed.{Placed}
 use Rattle.verilog_syntax.specs.Reading.{fault_at}
 use Rattle.verilog_reader.specs.declared.bounds.Bounds.{Bounds}
 use Rattle.verilog_reader.specs.Declarations.{Declaration, declarations_in, declarations, is_named, first_of, is_declared, bounds_or_none, bounds_in, is_port_kind, is_wire, ports_in, header_ports, has, items_in, mentions_in, mentions, undeclared_in}
-use Rattle.verilog_reader.specs.Faults.{check_from, check_number, check_twice, check_select, is_bad_number, is_bad_range, range_in, vector_bits, bad_number, is_vector, has_twice, same_bounds, may_stand_again, stands_again, any_again, instances_named, instance_names, pins_in, has_bit_in, scalars_in, scalars, are_bits, have_bits, bad_twice, is_bad_select, has_direction, is_badly_listed, differ_in_width, bad_select}
-use Rattle.verilog_reader.specs.Numbering.{place, bounds_or, entries}
+use Rattle.verilog_reader.specs.Faults.{check_from, check_number, check_twice, check_select, is_bad_number, is_bad_range, range_in, vector_bits, bad_number, is_vector, has_twice, same_bounds, stands_again, any_again, instances_named, instance_names, pins_in, has_bit_in, scalars_in, scalars, are_bits, have_bits, bad_twice, is_bad_select, has_direction, is_badly_listed, differ_in_width, bad_select}
+use Rattle.verilog_reader.specs.Numbering.{entries}
 use Rattle.verilog_reader.proofs.Checked.{Passes, passes, IsSound, declared_named, each_left, each_right}
 use Rattle.verilog_reader.proofs.Distinct.{each_append}
 use Rattle.verilog_reader.proofs.Places.{named, bounds_are}
@@ -50,11 +50,12 @@ number_passes all before before' [] (q ∷ qs) same are sound pass = absurd are
 number_passes all before before' (p ∷ ps) [] same are sound pass = absurd are
 number_passes all before before' (p ∷ ps) (q ∷ qs) same are sound pass =
     let more = pushed before before' p q same are.0 in
-    let many = (or_parts (is_bad_range (range_in p.statement) || list_any is_bad_number (items_in p.statement)) (nat_lt 16777216 (vector_bits (declarations (before ++ p ∷ [])))) pass.0).1 in
-    (or_false (is_bad_range (range_in q.statement) || list_any is_bad_number (items_in q.statement)) (nat_lt 16777216 (vector_bits (declarations (before' ++ q ∷ []))))
-    (or_false (is_bad_range (range_in q.statement)) (list_any is_bad_number (items_in q.statement)) sound.0.range sound.0.number)
-    (ap (λ (ds : List Declaration). nat_lt 16777216 (vector_bits ds)) more ∙ many),
-    number_passes all (before ++ p ∷ []) (before' ++ q ∷ []) ps qs more are.1 sound.1 pass.1)
+    let many = (or_parts (is_bad_range (range_in p.statement) || list_any is_bad_number (items_in p.statement)) (nat_lt 16777216 (vector_bits (declarations (before ++ p ∷ [])))) pass.0).1 in (
+      or_false (is_bad_range (range_in q.statement) || list_any is_bad_number (items_in q.statement)) (nat_lt 16777216 (vector_bits (declarations (before' ++ q ∷ []))))
+          (or_false (is_bad_range (range_in q.statement)) (list_any is_bad_number (items_in q.statement)) sound.0.range sound.0.number)
+          (ap (λ (ds : List Declaration). nat_lt 16777216 (vector_bits ds)) more ∙ many),
+      number_passes all (before ++ p ∷ []) (before' ++ q ∷ []) ps qs more are.1 sound.1 pass.1,
+    )
 
 -- selects
 select_passes : (all all' before before' ps qs : List Placed) → AreAlike all all' → AreAlike ps qs → Each (λ q. IsSound all q.statement) qs → Passes (λ before p. bad_select all p) before ps → Passes (λ before q. bad_select all' q) before' qs
@@ -70,19 +71,20 @@ select_passes all all' before before' (p ∷ ps) (q ∷ qs) whole are sound pass
     (list_any (is_badly_listed (header_ports all)) (declarations_in p.statement)) pass.0 in
     let b = or_parts (list_any (is_bad_select (bounds_in ds)) (items_in p.statement) || differ_in_width (bounds_in ds) p.statement) (list_any (λ port. not (has_direction ds port)) (ports_in p.statement)) a.0 in
     let whole_same : (list_any (is_bad_select (bounds_in ds)) (items_in q.statement) || differ_in_width (bounds_in ds) q.statement || list_any (λ port. not (has_direction ds port)) (ports_in q.statement)
-        || list_any (is_badly_listed (header_ports all)) (declarations_in q.statement)) ≡ false
+    || list_any (is_badly_listed (header_ports all)) (declarations_in q.statement)) ≡ false
     = or_false (list_any (is_bad_select (bounds_in ds)) (items_in q.statement) || differ_in_width (bounds_in ds) q.statement || list_any (λ port. not (has_direction ds port)) (ports_in q.statement))
     (list_any (is_badly_listed (header_ports all)) (declarations_in q.statement))
     (or_false (list_any (is_bad_select (bounds_in ds)) (items_in q.statement) || differ_in_width (bounds_in ds) q.statement) (list_any (λ port. not (has_direction ds port)) (ports_in q.statement))
     (or_false (list_any (is_bad_select (bounds_in ds)) (items_in q.statement)) (differ_in_width (bounds_in ds) q.statement) sound.0.select sound.0.widths)
     (ap (λ (l : List (List ℕ)). list_any (λ port. not (has_direction ds port)) l) are.0.ports ∙ b.1))
     (ap (λ (l : List Declaration). list_any (is_badly_listed (header_ports all)) l) are.0.declarations ∙ a.1)
-    in
-    (subst (λ (l : List (List ℕ)). (list_any (is_bad_select (bounds_in (declarations all'))) (items_in q.statement) || differ_in_width (bounds_in (declarations all')) q.statement
-        || list_any (λ port. not (has_direction (declarations all') port)) (ports_in q.statement) || list_any (is_badly_listed l) (declarations_in q.statement)) ≡ false) (sym ports)
-    (subst (λ (es : List Declaration). (list_any (is_bad_select (bounds_in es)) (items_in q.statement) || differ_in_width (bounds_in es) q.statement || list_any (λ port. not (has_direction es port)) (ports_in q.statement)
-        || list_any (is_badly_listed (header_ports all)) (declarations_in q.statement)) ≡ false) (sym same) whole_same),
-    select_passes all all' (before ++ p ∷ []) (before' ++ q ∷ []) ps qs whole are.1 sound.1 pass.1)
+    in (
+      subst (λ (l : List (List ℕ)). (list_any (is_bad_select (bounds_in (declarations all'))) (items_in q.statement) || differ_in_width (bounds_in (declarations all')) q.statement
+          || list_any (λ port. not (has_direction (declarations all') port)) (ports_in q.statement) || list_any (is_badly_listed l) (declarations_in q.statement)) ≡ false) (sym ports)
+          (subst (λ (es : List Declaration). (list_any (is_bad_select (bounds_in es)) (items_in q.statement) || differ_in_width (bounds_in es) q.statement || list_any (λ port. not (has_direction es port)) (ports_in q.statement)
+          || list_any (is_badly_listed (header_ports all)) (declarations_in q.statement)) ≡ false) (sym same) whole_same),
+      select_passes all all' (before ++ p ∷ []) (before' ++ q ∷ []) ps qs whole are.1 sound.1 pass.1,
+    )
 
 -- each declaration has the bounds of the first of its name
 abbrev Steady : List Declaration → Declaration → Type 0
@@ -255,7 +257,7 @@ module _ (ps : List Placed) where
       same = pushed before before' p q known.same like;
       instances = instances_push before' q ∙ ap₂ (λ (a b : List (List ℕ)). a ++ b) known.instances like.instances ∙ sym (instances_push before p);
       again = ap (any_again []) (declarations_push before p) ∙ again-append [] (declarations before) (declarations_in p.statement)
-      ∙ or_false (any_again [] (declarations before)) (any_again (declarations before) (declarations_in p.statement)) known.again once.again;
+          ∙ or_false (any_again [] (declarations before)) (any_again (declarations before) (declarations_in p.statement)) known.again once.again;
       steady_so = subst (Each (Steady ds)) (sym (declarations_push before p)) (each_append (Steady ds) (declarations before) (declarations_in p.statement) known.steady_so same);
       scalar = subst (Each (IsScalar ps)) (sym (scalars_push before' q)) (each_append (IsScalar ps) (scalars ds before') (scalars_in ds q.statement) known.scalar scalar);
     }
@@ -270,11 +272,12 @@ module _ (ps : List Placed) where
         let D = λ (d : Declaration). named (entries ps) d.name ≡ true in
         let once = is_once before p pass.0 in
         let mine = each_left (Steady ds) (declarations_in p.statement) (declarations olds) same in
-        let scalar = are_scalars p.statement q.statement are.0 mine (each_left D (declarations_in p.statement) (declarations olds) there) (each_left P (mentions_in q.statement) (mentions news) mentioned) in
-        (once_again all' before before' p q whole known are.0 once mine scalar,
-        twice_passes all' (before ++ p ∷ []) (before' ++ q ∷ []) olds news whole (one_more before before' p q known are.0 once mine scalar) are.1
-        (each_right (Steady ds) (declarations_in p.statement) (declarations olds) same) (each_right D (declarations_in p.statement) (declarations olds) there)
-        (each_right P (mentions_in q.statement) (mentions news) mentioned) pass.1)
+        let scalar = are_scalars p.statement q.statement are.0 mine (each_left D (declarations_in p.statement) (declarations olds) there) (each_left P (mentions_in q.statement) (mentions news) mentioned) in (
+          once_again all' before before' p q whole known are.0 once mine scalar,
+          twice_passes all' (before ++ p ∷ []) (before' ++ q ∷ []) olds news whole (one_more before before' p q known are.0 once mine scalar) are.1
+              (each_right (Steady ds) (declarations_in p.statement) (declarations olds) same) (each_right D (declarations_in p.statement) (declarations olds) there)
+              (each_right P (mentions_in q.statement) (mentions news) mentioned) pass.1,
+        )
 
 -- the checks of the changed statements
 module _ (ps qs : List Placed) (are : AreAlike ps qs) (sound : Each (λ q. IsSound ps q.statement) qs) (mentioned : Each (λ q. named (entries ps) q ≡ true) (mentions qs)) where

@@ -1,21 +1,19 @@
 -- The changed statements name no more nets than the old ones.
-use Rattle.std.proofs.Common.{◌≡◌, ℕ, ◌+◌, ◌≤◌, Bool, true, false, cond, not, ◌||◌, List, [], ◌∷◌, ◌++◌, length, map, Option, Some, None, refl, sym, ap, ◌∙◌, subst, arith}
+use Rattle.std.proofs.Common.{◌≡◌, ℕ, ◌+◌, ◌≤◌, Bool, true, false, cond, not, ◌||◌, List, [], ◌∷◌, ◌++◌, length, map, Option, None, refl, sym, ap, ◌∙◌, subst, arith}
 use Rattle.std.specs.Cmp.{IsEquivalence}
-use Rattle.std.specs.List.{flat_map, list_any, IsDistinct, AllByRecursion}
+use Rattle.std.specs.List.{IsDistinct, AllByRecursion}
 use Rattle.std.specs.Set.{is_member}
 use Rattle.std.specs.Str.{bytes_eq}
 use Rattle.std.proofs.lemmas.Bool.{false≢true, or_parts}
-use Rattle.std.proofs.lemmas.List.{length-map}
 use Rattle.std.proofs.lemmas.List.Folds.{list_any-append}
 use Rattle.std.proofs.lemmas.Map.Made.{length-le_from_is_member}
 use Rattle.text_scan.specs.Each.{Each}
 use Rattle.verilog_syntax.specs.declared.reading.Placed.{Placed}
 use Rattle.verilog_reader.specs.declared.bounds.Bounds.{Bounds}
 use Rattle.verilog_reader.specs.Declarations.{Declaration, declarations, is_declared, has, mentions, undeclared_in}
-use Rattle.verilog_reader.specs.Denoted.{first_declared, first_mentioned, net_entries}
-use Rattle.verilog_reader.specs.Faults.{width_or_one}
-use Rattle.verilog_reader.specs.Numbering.{total, with_declared, entries}
-use Rattle.verilog_reader.proofs.Distinct.{each_weaker, each_both}
+use Rattle.verilog_reader.specs.Denoted.{first_declared, first_mentioned}
+use Rattle.verilog_reader.specs.Numbering.{total, entries}
+use Rattle.verilog_reader.proofs.Distinct.{each_weaker}
 use Rattle.verilog_reader.proofs.Filling.{Entries}
 use Rattle.verilog_reader.proofs.Places.{same_bytes, bytes_same, bytes_swap, named, named_all, declared_first, declared_named, entries_are}
 use Rattle.verilog_writer.proofs.KeptNets.{undeclared_new}
@@ -72,15 +70,21 @@ first_apart before (name ∷ names) = by (has before name) refl (first_apart (be
         → AreFirst before (cond t (first_mentioned (before ++ name ∷ []) names) ((name, None) ∷ first_mentioned (before ++ name ∷ []) names))
     by true is more = record {
       new = each_weaker (λ (e : List ℕ × Option Bounds). has (before ++ name ∷ []) e.0 ≡ false) (λ (e : List ℕ × Option Bounds). has before e.0 ≡ false) (first_mentioned (before ++ name ∷ []) names)
-      (λ e h. (last_has before name e.0 h).0) more.new;
+          (λ e h. (last_has before name e.0 h).0) more.new;
       apart = more.apart;
     }
     by false is more = record {
-      new = (is, each_weaker (λ (e : List ℕ × Option Bounds). has (before ++ name ∷ []) e.0 ≡ false) (λ (e : List ℕ × Option Bounds). has before e.0 ≡ false) (first_mentioned (before ++ name ∷ []) names)
-      (λ e h. (last_has before name e.0 h).0) more.new);
-      apart = (apart_names name (first_mentioned (before ++ name ∷ []) names)
-      (each_weaker (λ (e : List ℕ × Option Bounds). has (before ++ name ∷ []) e.0 ≡ false) (λ (e : List ℕ × Option Bounds). bytes_eq name e.0 ≡ false) (first_mentioned (before ++ name ∷ []) names)
-      (λ e h. (last_has before name e.0 h).1) more.new), more.apart);
+      new = (
+        is,
+        each_weaker (λ (e : List ℕ × Option Bounds). has (before ++ name ∷ []) e.0 ≡ false) (λ (e : List ℕ × Option Bounds). has before e.0 ≡ false) (first_mentioned (before ++ name ∷ []) names)
+            (λ e h. (last_has before name e.0 h).0) more.new,
+      );
+      apart = (
+        apart_names name (first_mentioned (before ++ name ∷ []) names)
+            (each_weaker (λ (e : List ℕ × Option Bounds). has (before ++ name ∷ []) e.0 ≡ false) (λ (e : List ℕ × Option Bounds). bytes_eq name e.0 ≡ false) (first_mentioned (before ++ name ∷ []) names)
+            (λ e h. (last_has before name e.0 h).1) more.new),
+        more.apart,
+      );
     }
 
 laws : IsEquivalence bytes_eq

@@ -1,8 +1,7 @@
 -- The written text denotes a netlist that is by names the one with edits.
-use Rattle.std.proofs.Common.{◌≡◌, ℕ, suc, ◌+◌, ◌<◌, ◌≤◌, ◌^◌, Bool, true, false, List, [], ◌∷◌, ◌++◌, length, map, take, Option, Some, Ok, refl, sym, ap, ap₂, ◌∙◌, subst, arith}
+use Rattle.std.proofs.Common.{◌≡◌, ℕ, suc, ◌+◌, ◌<◌, ◌^◌, true, false, List, [], ◌∷◌, ◌++◌, length, map, take, Option, Some, Ok, refl, sym, ap, ap₂, ◌∙◌, subst, arith}
 use Rattle.std.specs.Prelude.{IsPermutation}
 use Rattle.std.specs.List.{flat_map, slice_get}
-use Rattle.std.specs.List.Sorted.{IsNonDecreasingBy}
 use Rattle.std.proofs.lemmas.List.{map-append, length-map}
 use Rattle.std.proofs.lemmas.List.Concat.{flat_map-append}
 use Rattle.text_scan.specs.Each.{Each}
@@ -12,8 +11,6 @@ use Rattle.splice.specs.Spliced.{AreRising, spliced}
 use Rattle.netlist_core.specs.declared.netlist.Direction.{Direction}
 use Rattle.netlist_core.specs.declared.netlist.NetName.{NetName}
 use Rattle.netlist_core.specs.declared.netlist.Port.{Port}
-use Rattle.netlist_core.specs.declared.netlist.Assign.{Assign}
-use Rattle.netlist_core.specs.declared.netlist.Instance.{Instance}
 use Rattle.netlist_core.specs.declared.netlist.Netlist.{Netlist}
 use Rattle.netlist_core.specs.Netlists.{NamedBit, NamedPort, NamedInstance, NamedNetlist, named_port, named_instance, named_assign, named}
 use Rattle.cell_table.specs.Cells.{Cells}
@@ -21,7 +18,7 @@ use Rattle.net_edit.specs.declared.edits.Edits.{Edits}
 use Rattle.net_edit.specs.Edited.{map_from, edited_instance, edited_assign, edited, AreEdits}
 use Rattle.verilog_syntax.specs.declared.statement.Statement.{Statement}
 use Rattle.verilog_syntax.specs.declared.reading.Placed.{Placed}
-use Rattle.verilog_syntax.specs.Laws.{bare_statement, bare}
+use Rattle.verilog_syntax.specs.Laws.{bare}
 use Rattle.verilog_syntax.specs.Reading.{read_statements}
 use Rattle.verilog_reader.specs.declared.bounds.Bounds.{Bounds}
 use Rattle.verilog_reader.specs.Declarations.{Declaration, declarations_in, declarations, bounds_in, mentions, undeclared_in}
@@ -34,7 +31,7 @@ use Rattle.verilog_reader.proofs.NetlistOf.{sounds, is_netlist_of, is_netlist, f
 use Rattle.verilog_reader.proofs.NumberedLists.{length-nets}
 use Rattle.verilog_reader.proofs.Places.{named as has_entry, entries_are}
 use Rattle.verilog_reader.proofs.Distinct.{each_weaker}
-use Rattle.verilog_writer.specs.VerilogText.{BitEdit, text_edits, changed_statement, changed_placed, changed_statements, IsPlaceIn, IsNetBit, AreVerilogEdits}
+use Rattle.verilog_writer.specs.VerilogText.{BitEdit, text_edits, changed_statement, changed_statements, IsPlaceIn, IsNetBit, AreVerilogEdits}
 use Rattle.verilog_writer.specs.Written.{edit_texts, DenotesAlike}
 use Rattle.verilog_writer.proofs.WrittenLaw.{written_law}
 use Rattle.verilog_writer.proofs.Nets.{passed}
@@ -43,7 +40,7 @@ use Rattle.verilog_writer.proofs.KeptPlaces.{places, place_is_in}
 use Rattle.verilog_writer.proofs.KeptEdits.{AreSlots, StartsApart, edits_apart, edits_placed, starts_permuted}
 use Rattle.verilog_writer.proofs.KeptText.{slots_are}
 use Rattle.verilog_writer.proofs.KeptBits.{IsKnownEdit, IsKnownBit, bit_edits, bit_edits_texts, bit_edits_known, bit_edits_are, edits_known, pin_comes, right_comes, left_wide}
-use Rattle.verilog_writer.proofs.KeptFrames.{AreAlike, alike, same_declarations, same_header, bare_flat, items_bare}
+use Rattle.verilog_writer.proofs.KeptFrames.{AreAlike, alike, same_declarations, same_header, bare_flat}
 use Rattle.verilog_writer.proofs.KeptSound.{changed_sound}
 use Rattle.verilog_writer.proofs.KeptChecks.{number_good, twice_good, select_good}
 use Rattle.verilog_writer.proofs.KeptCounts.{fewer_nets}
@@ -113,8 +110,8 @@ flat_changed : {Y : Type 0} (f : Statement → List Y) (bits : List BitEdit) (ps
 flat_changed f bits [] = refl
 flat_changed {Y} f bits (p ∷ ps) = ap (λ (l : List Y). f (changed_statement bits p.statement) ++ l) (flat_changed f bits ps)
 
-mentioned_sound : (ps : List Placed) → Each (λ p. IsSound ps p.statement) ps → Each (λ (p : Placed). differ_in_width (bounds_in (declarations ps)) p.statement ≡ false) ps
-mentioned_sound ps sound = each_weaker (λ (p : Placed). IsSound ps p.statement) (λ (p : Placed). differ_in_width (bounds_in (declarations ps)) p.statement ≡ false) ps (λ p s. s.widths) sound
+widths_sound : (ps : List Placed) → Each (λ p. IsSound ps p.statement) ps → Each (λ (p : Placed). differ_in_width (bounds_in (declarations ps)) p.statement ≡ false) ps
+widths_sound ps sound = each_weaker (λ (p : Placed). IsSound ps p.statement) (λ (p : Placed). differ_in_width (bounds_in (declarations ps)) p.statement ≡ false) ps (λ p s. s.widths) sound
 
 -- what is known of the text that is written, and of how it is read
 module _ (text : List ℕ) (n : Netlist) (d : DenotesNetlist text n) (cells : Cells) (edits : Edits) (are : AreEdits n cells edits) (all : List Edit) (same : IsPermutation (edit_texts n cells edits) all) (rising : AreRising 0 (length text) all) where
@@ -171,7 +168,7 @@ module _ (text : List ℕ) (n : Netlist) (d : DenotesNetlist text n) (cells : Ce
         × Each (λ (p : Placed). differ_in_width (bounds_in (declarations ps)) (changed_statement bits p.statement) ≡ false) ps
     right_sides =
         let a = assigns_come ps n bits edits.ports (right_comes text n d cells edits are (places ps) (length text) slots all same bits texts_are bits_known apart)
-        (left_wide text n d cells edits are (places ps) (length text) slots all same bits texts_are bits_known apart) ps 0 n.assigns d.is.assigns (from_start n.assigns) (mentioned_sound ps sound) in
+        (left_wide text n d cells edits are (places ps) (length text) slots all same bits texts_are bits_known apart) ps 0 n.assigns d.is.assigns (from_start n.assigns) (widths_sound ps sound) in
         (a.are_named, a.widths)
 
     pins : flat_map (λ (p : Placed). instances_named (declarations ps) (changed_statement bits p.statement)) ps ≡ map (named_instance n.nets) (map_from (edited_instance n cells edits.pins) 0 n.instances)

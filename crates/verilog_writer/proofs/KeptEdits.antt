@@ -1,5 +1,5 @@
 -- The edits of a text: each stands at the place of a connection or of a right side, no two at one, so in order they rise.
-use Rattle.std.proofs.Common.{◌≡◌, ℕ, zero, suc, ◌+◌, ◌<◌, ◌≤◌, Bool, true, false, cond, ◌⊎◌, inl, inr, ⊎_elim, List, [], ◌∷◌, ◌++◌, length, map, get_or, Option, Some, None, refl, sym, ap, ◌∙◌, subst, arith}
+use Rattle.std.proofs.Common.{◌≡◌, ℕ, zero, suc, ◌+◌, ◌<◌, ◌≤◌, Bool, true, false, cond, inl, inr, ⊎_elim, List, [], ◌∷◌, ◌++◌, length, map, get_or, Option, Some, None, refl, sym, ap, ◌∙◌, subst, arith}
 use Rattle.std.specs.Prelude.{IsPermutation, ◌==◌, option_and_then}
 use Rattle.std.specs.List.{flat_map, slice_get, IsDistinct, AllByRecursion}
 use Rattle.std.specs.List.Sorted.{IsNonDecreasingBy}
@@ -11,7 +11,6 @@ use Rattle.text_scan.specs.Each.{Each}
 use Rattle.text_scan.specs.declared.span.Span.{Span}
 use Rattle.splice.specs.declared.Edit.{Edit}
 use Rattle.splice.specs.Spliced.{AreRising}
-use Rattle.netlist_core.specs.declared.netlist.NetId.{NetId}
 use Rattle.netlist_core.specs.declared.netlist.Assign.{Assign}
 use Rattle.netlist_core.specs.declared.netlist.Connection.{Connection}
 use Rattle.netlist_core.specs.declared.netlist.Instance.{Instance}
@@ -28,8 +27,8 @@ use Rattle.verilog_reader.proofs.Checked.{each_from}
 use Rattle.verilog_reader.proofs.Distinct.{Distinct, IsApartFrom, each_weaker, each_both, each_append}
 use Rattle.verilog_reader.proofs.Places.{same_bytes}
 use Rattle.verilog_writer.specs.Written.{text_of, edit_at, right_edit, pin_text, port_text, edit_texts}
-use Rattle.verilog_writer.proofs.KeptLists.{Has, has_left, has_right, each_has, each_self, each_permuted, Spaced, inside, in_order, one_place}
-use Rattle.verilog_writer.proofs.KeptPlaces.{connection_spans, instance_spans, right_spans, has_span, one_pin, has_right_span, one_assign}
+use Rattle.verilog_writer.proofs.KeptLists.{Has, Spaced, inside, in_order, one_place}
+use Rattle.verilog_writer.proofs.KeptPlaces.{instance_spans, right_spans, has_span, one_pin, has_right_span, one_assign}
 
 -- the connection at a pin
 pub record IsConnectionAt (n : Netlist) (cells : Cells) (e : PinEdit) (c : Connection) : Type 0 where
@@ -97,9 +96,10 @@ module _ (n : Netlist) (cells : Cells) where
   pins_made [] each = tt
   pins_made (e ∷ es) each =
       let p = each.0 in
-      subst (λ (o : Option Connection). Each (IsOfPin n cells (e ∷ es)) (edit_at o (text_of n e.source) ++ flat_map (pin_text n cells) es)) (sym p.is)
-      (record { edit = e; has = inl refl; connection = p.connection; at = connection_is n cells e p.connection p.is; source = p.source; is = refl },
-      each_weaker (IsOfPin n cells es) (IsOfPin n cells (e ∷ es)) (flat_map (pin_text n cells) es) (λ y is. pin_later e es y is) (pins_made es each.1))
+      subst (λ (o : Option Connection). Each (IsOfPin n cells (e ∷ es)) (edit_at o (text_of n e.source) ++ flat_map (pin_text n cells) es)) (sym p.is) (
+        record { edit = e; has = inl refl; connection = p.connection; at = connection_is n cells e p.connection p.is; source = p.source; is = refl },
+        each_weaker (IsOfPin n cells es) (IsOfPin n cells (e ∷ es)) (flat_map (pin_text n cells) es) (λ y is. pin_later e es y is) (pins_made es each.1),
+      )
 
   port_later : (e : PortEdit) (es : List PortEdit) (y : Edit) → IsOfPort n es y → IsOfPort n (e ∷ es) y
   port_later e es y is = record { edit = is.edit; has = inr is.has; assign = is.assign; at = is.at; left = is.left; source = is.source; is = is.is }
@@ -108,9 +108,10 @@ module _ (n : Netlist) (cells : Cells) where
   ports_made [] each = tt
   ports_made (e ∷ es) each =
       let p = each.0 in
-      subst (λ (o : Option Assign). Each (IsOfPort n (e ∷ es)) (right_edit o (text_of n e.source) ++ flat_map (port_text n) es)) (sym p.is)
-      (record { edit = e; has = inl refl; assign = p.assign; at = p.is; left = p.left; source = p.source; is = refl },
-      each_weaker (IsOfPort n es) (IsOfPort n (e ∷ es)) (flat_map (port_text n) es) (λ y is. port_later e es y is) (ports_made es each.1))
+      subst (λ (o : Option Assign). Each (IsOfPort n (e ∷ es)) (right_edit o (text_of n e.source) ++ flat_map (port_text n) es)) (sym p.is) (
+        record { edit = e; has = inl refl; assign = p.assign; at = p.is; left = p.left; source = p.source; is = refl },
+        each_weaker (IsOfPort n es) (IsOfPort n (e ∷ es)) (flat_map (port_text n) es) (λ y is. port_later e es y is) (ports_made es each.1),
+      )
 
 -- what stands once in a list
 apart_places : {X : Type 0} (x : X) (xs : List X) → ((k : ℕ) (d : X) → k < length xs → x ≡ get_or xs k d → ⊥) → IsApartFrom x xs
@@ -186,10 +187,11 @@ module _ (n : Netlist) (cells : Cells) (ps : List Span) (end : ℕ) (slots : Are
       let p = each.0 in
       let x : Edit = record { span = p.connection.expr.span; text = text_of n e.source } in
       let mine : IsOfPin n cells (e ∷ []) x = record { edit = e; has = inl refl; connection = p.connection; at = connection_is n cells e p.connection p.is; source = p.source; is = refl } in
-      subst (λ (o : Option Connection). StartsApart (edit_at o (text_of n e.source) ++ flat_map (pin_text n cells) es)) (sym p.is)
-      (each_weaker (IsOfPin n cells es) (λ (y : Edit). x.span.start ≡ y.span.start → ⊥) (flat_map (pin_text n cells) es)
-      (λ y is same. has_not (pin_place n cells) is.edit (pin_place n cells e) es apart.0 is.has (same_pin (e ∷ []) es x y mine is same)) (pins_made n cells es each.1),
-      pins_apart es each.1 apart.1)
+      subst (λ (o : Option Connection). StartsApart (edit_at o (text_of n e.source) ++ flat_map (pin_text n cells) es)) (sym p.is) (
+        each_weaker (IsOfPin n cells es) (λ (y : Edit). x.span.start ≡ y.span.start → ⊥) (flat_map (pin_text n cells) es)
+            (λ y is same. has_not (pin_place n cells) is.edit (pin_place n cells e) es apart.0 is.has (same_pin (e ∷ []) es x y mine is same)) (pins_made n cells es each.1),
+        pins_apart es each.1 apart.1,
+      )
 
   ports_apart : (es : List PortEdit) → Each (IsPortEdit n) es → Distinct (map (λ (e : PortEdit). e.assign) es) → StartsApart (flat_map (port_text n) es)
   ports_apart [] each apart = tt
@@ -197,10 +199,11 @@ module _ (n : Netlist) (cells : Cells) (ps : List Span) (end : ℕ) (slots : Are
       let p = each.0 in
       let x : Edit = record { span = p.assign.right.span; text = text_of n e.source } in
       let mine : IsOfPort n (e ∷ []) x = record { edit = e; has = inl refl; assign = p.assign; at = p.is; left = p.left; source = p.source; is = refl } in
-      subst (λ (o : Option Assign). StartsApart (right_edit o (text_of n e.source) ++ flat_map (port_text n) es)) (sym p.is)
-      (each_weaker (IsOfPort n es) (λ (y : Edit). x.span.start ≡ y.span.start → ⊥) (flat_map (port_text n) es)
-      (λ y is same. has_not (λ (e : PortEdit). e.assign) is.edit e.assign es apart.0 is.has (same_port (e ∷ []) es x y mine is same)) (ports_made n cells es each.1),
-      ports_apart es each.1 apart.1)
+      subst (λ (o : Option Assign). StartsApart (right_edit o (text_of n e.source) ++ flat_map (port_text n) es)) (sym p.is) (
+        each_weaker (IsOfPort n es) (λ (y : Edit). x.span.start ≡ y.span.start → ⊥) (flat_map (port_text n) es)
+            (λ y is same. has_not (λ (e : PortEdit). e.assign) is.edit e.assign es apart.0 is.has (same_port (e ∷ []) es x y mine is same)) (ports_made n cells es each.1),
+        ports_apart es each.1 apart.1,
+      )
 
   pub edits_apart : (edits : Edits) → AreEdits n cells edits → StartsApart (edit_texts n cells edits)
   edits_apart edits are =

@@ -1,8 +1,7 @@
 -- What edits leave alone in statements: all but the items of expressions.
-use Rattle.std.proofs.Common.{◌≡◌, ℕ, Bool, false, List, [], ◌∷◌, ◌++◌, map, refl, sym, ap, ap₂, ◌∙◌, subst}
+use Rattle.std.proofs.Common.{◌≡◌, ℕ, List, [], ◌∷◌, ◌++◌, map, refl, sym, ap, ap₂, ◌∙◌}
 use Rattle.std.specs.List.{flat_map}
 use Rattle.verilog_syntax.specs.declared.statement.Item.{Item}
-use Rattle.verilog_syntax.specs.declared.statement.Range.{Range}
 use Rattle.verilog_syntax.specs.declared.statement.Expression.{Expression}
 use Rattle.verilog_syntax.specs.declared.statement.Connection.{Connection}
 use Rattle.verilog_syntax.specs.declared.statement.Statement.{Statement}
@@ -10,7 +9,7 @@ use Rattle.verilog_syntax.specs.declared.statement.Statement.TheVariants as stat
 use Rattle.verilog_syntax.specs.declared.reading.Placed.{Placed}
 use Rattle.verilog_syntax.specs.Laws.{nowhere, bare_connection, bare_statement, bare}
 use Rattle.verilog_reader.specs.Values.{plain_of}
-use Rattle.verilog_reader.specs.Declarations.{declarations_in, declarations, ports_in, header_ports, connection_items, items_in, mentions_of, mentions_in}
+use Rattle.verilog_reader.specs.Declarations.{declarations_in, declarations, ports_in, header_ports, connection_items, items_in}
 use Rattle.verilog_reader.specs.Faults.{BoundsAt, range_in, instances_named, instance_names, pins_in, differ_in_width}
 use Rattle.verilog_reader.specs.Denoted.{module_name, header_name}
 use Rattle.verilog_writer.specs.VerilogText.{BitEdit, changed_connection, changed_statement, changed_statements}

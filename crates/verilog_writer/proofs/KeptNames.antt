@@ -1,8 +1,7 @@
 -- By names the changed statements say what the netlist with edits shows.
-use Rattle.std.proofs.Common.{◌≡◌, ℕ, zero, suc, ◌+◌, Bool, true, false, not, List, [], ◌∷◌, ◌++◌, length, map, Option, Some, None, refl, sym, ap, ap₂, ◌∙◌, subst, inl, inr, arith}
+use Rattle.std.proofs.Common.{◌≡◌, ℕ, suc, ◌+◌, false, not, List, [], ◌∷◌, ◌++◌, length, map, Option, Some, None, refl, sym, ap, ap₂, ◌∙◌, subst, inl, inr, arith}
 use Rattle.std.specs.Prelude.{◌==◌}
 use Rattle.std.specs.List.{flat_map, slice_get, sum_by}
-use Rattle.std.proofs.lemmas.Bool.{false≢true}
 use Rattle.std.proofs.lemmas.Bool.Decides.{nat_tests}
 use Rattle.std.proofs.lemmas.List.{append-nil, map-append, length-append, length-map}
 use Rattle.std.proofs.lemmas.List.Sums.{sum_by-cons}
@@ -16,11 +15,11 @@ use Rattle.netlist_core.specs.declared.netlist.Assign.{Assign}
 use Rattle.netlist_core.specs.declared.netlist.Connection.{Connection as NetConnection}
 use Rattle.netlist_core.specs.declared.netlist.Instance.{Instance}
 use Rattle.netlist_core.specs.declared.netlist.Netlist.{Netlist}
-use Rattle.netlist_core.specs.Netlists.{NamedBit, Named, NamedInstance, pairs, named_bit, plain_of as net_plain, named_pin, named_instance, named_assign}
+use Rattle.netlist_core.specs.Netlists.{NamedBit, Named, NamedInstance, pairs, named_bit, named_pin, named_instance, named_assign}
 use Rattle.cell_table.specs.Cells.{Cells}
 use Rattle.net_edit.specs.declared.edits.PinEdit.{PinEdit}
 use Rattle.net_edit.specs.declared.edits.PortEdit.{PortEdit}
-use Rattle.net_edit.specs.Edited.{edited_expr, pin_source, edited_connection, edited_instance, map_from, assign_source, edited_assign}
+use Rattle.net_edit.specs.Edited.{edited_expr, pin_source, edited_instance, map_from, assign_source, edited_assign}
 use Rattle.verilog_syntax.specs.declared.statement.Item.{Item}
 use Rattle.verilog_syntax.specs.declared.statement.Item.TheVariants as items
 use Rattle.verilog_syntax.specs.declared.statement.Expression.{Expression}
@@ -30,10 +29,10 @@ use Rattle.verilog_syntax.specs.declared.statement.Statement.TheVariants as stat
 use Rattle.verilog_syntax.specs.declared.reading.Placed.{Placed}
 use Rattle.verilog_syntax.specs.Laws.{bare_connection, bare_statement}
 use Rattle.verilog_reader.specs.declared.bounds.Bounds.{Bounds}
-use Rattle.verilog_reader.specs.Values.{plain_of, name_text, bit_name}
+use Rattle.verilog_reader.specs.Values.{plain_of, bit_name}
 use Rattle.verilog_reader.specs.Constants.{constant_bits}
 use Rattle.verilog_reader.specs.Declarations.{width, indexes, Declaration, declarations, bounds_in}
-use Rattle.verilog_reader.specs.Denoted.{SeenExpression, SeenAssign, SeenConnection, SeenInstance, name_bits, named_of, item_bits, seen_assign, seen_connection, seen_instance, said_expression, said_connection, said_assigns_in, said_instances_in}
+use Rattle.verilog_reader.specs.Denoted.{SeenAssign, SeenConnection, SeenInstance, name_bits, named_of, item_bits, seen_assign, seen_connection, seen_instance, said_expression, said_connection, said_assigns_in, said_instances_in}
 use Rattle.verilog_reader.specs.Faults.{part_of, width_or_one, item_width, expression_width, differ_in_width}
 use Rattle.verilog_reader.proofs.NumberedLists.{length-indexes_from}
 use Rattle.verilog_reader.proofs.Within.{length-constant}
@@ -42,7 +41,7 @@ use Rattle.verilog_writer.specs.VerilogText.{NetBit, BitEdit, indexed_item, net_
 use Rattle.verilog_writer.proofs.Names.{name_again, bit_law}
 use Rattle.verilog_writer.proofs.KeptLists.{Has}
 use Rattle.verilog_writer.proofs.KeptNets.{IsKnown}
-use Rattle.verilog_writer.proofs.KeptBits.{IsKnownBit, IsReplaced, Comes}
+use Rattle.verilog_writer.proofs.KeptBits.{IsKnownBit, Comes}
 
 abbrev pub bits_of : List Declaration → List Item → List NamedBit
 bits_of ds all = flat_map (item_bits ds) all
@@ -252,7 +251,7 @@ module _ (ps : List Placed) (n : Netlist) (bits : List BitEdit) where
     instances_come (p ∷ olds) k all same at = instance_step p.statement p.line olds k all same at (λ k all same at. instances_come olds k all same at)
 
   module _ (ports : List PortEdit) (comes : (k : ℕ) (a : Assign) → slice_get n.assigns k ≡ Some a → Comes ps n bits a.right.span (assign_source ports k))
-    (wide : (k : ℕ) (a : Assign) (net : NetId) → slice_get n.assigns k ≡ Some a → assign_source ports k ≡ Some net → length a.left.bits ≡ 1) where
+      (wide : (k : ℕ) (a : Assign) (net : NetId) → slice_get n.assigns k ≡ Some a → assign_source ports k ≡ Some net → length a.left.bits ≡ 1) where
     abbrev changed_assigns : List Placed → List (List (NamedBit × NamedBit))
     changed_assigns olds = flat_map (λ (p : Placed). assigns_named ds (changed_statement bits p.statement)) olds
 
@@ -306,9 +305,9 @@ module _ (ps : List Placed) (n : Netlist) (bits : List BitEdit) where
         let m = more (k + 1) all others behind in
         record {
           are_named = ap₂ (λ (x : List (NamedBit × NamedBit)) (xs : List (List (NamedBit × NamedBit))). x ∷ xs)
-          (ap₂ (λ (x y : List NamedBit). pairs x y) (sym lefts) new ∙ sym (named_pairs n.nets a.left.bits (edited_expr (assign_source ports k) a.right).bits)) m.are_named;
+              (ap₂ (λ (x y : List NamedBit). pairs x y) (sym lefts) new ∙ sym (named_pairs n.nets a.left.bits (edited_expr (assign_source ports k) a.right).bits)) m.are_named;
           mine = width_kept right.span (assign_source ports k) left right come fits
-          (λ net is. sym (items_wide ds left.items) ∙ ap (λ (l : List NamedBit). length l) (sym lefts) ∙ length-map a.left.bits (named_bit n.nets) ∙ wide k a net here is) refl;
+              (λ net is. sym (items_wide ds left.items) ∙ ap (λ (l : List NamedBit). length l) (sym lefts) ∙ length-map a.left.bits (named_bit n.nets) ∙ wide k a net here is) refl;
           widths = m.widths;
         }
 

@@ -1,5 +1,5 @@
 -- The nets of a netlist are declared or mentioned as their texts say, and a text tells its net.
-use Rattle.std.proofs.Common.{◌≡◌, ℕ, ◌≤◌, ◌<◌, ◌^◌, Bool, true, false, cond, not, nat_lt, nat_le, ◌&&◌, ◌||◌, min, max, List, [], ◌∷◌, ◌++◌, length, map, get_or, decimal, Option, Some, None, is_some, refl, sym, ap, ◌∙◌, subst, append_assoc, arith}
+use Rattle.std.proofs.Common.{◌≡◌, ℕ, ◌≤◌, ◌<◌, ◌^◌, Bool, true, false, cond, not, nat_lt, nat_le, ◌&&◌, ◌||◌, min, max, List, [], ◌∷◌, ◌++◌, length, map, decimal, Option, Some, None, is_some, refl, sym, ap, ◌∙◌, subst, append_assoc, arith}
 use Rattle.std.specs.Option.{option_or}
 use Rattle.std.specs.Str.{bytes_eq}
 use Rattle.text_scan.specs.VerilogTokens.{texts}
@@ -18,18 +18,18 @@ use Rattle.verilog_syntax.specs.declared.reading.Placed.{Placed}
 use Rattle.verilog_syntax.specs.Grammar.{item_texts}
 use Rattle.verilog_reader.specs.declared.bounds.Bounds.{Bounds}
 use Rattle.verilog_reader.specs.Values.{plain_of, name_text, bit_name, decimal_value}
-use Rattle.verilog_reader.specs.Declarations.{width, indexes, has_index, Declaration, declarations, is_named, first_of, is_declared, bounds_or_none, bounds_in, has, mentions, undeclared_in}
+use Rattle.verilog_reader.specs.Declarations.{width, indexes, Declaration, declarations, is_named, first_of, is_declared, bounds_or_none, bounds_in, has, mentions, undeclared_in}
 use Rattle.verilog_reader.specs.Denoted.{first_declared, first_mentioned, net_entries, entry_nets, bit_text, DenotesNetlist}
 use Rattle.verilog_reader.specs.Faults.{selects}
 use Rattle.verilog_reader.specs.Numbering.{entries}
 use Rattle.verilog_reader.proofs.BitNaming.{IsSmall, indexes_within}
 use Rattle.verilog_reader.proofs.BitNaming as naming
-use Rattle.verilog_reader.proofs.Distinct.{all_of, each_weaker, each_both, each_append}
+use Rattle.verilog_reader.proofs.Distinct.{all_of, each_weaker, each_append}
 use Rattle.verilog_reader.proofs.Filling.{Entries}
 use Rattle.verilog_reader.proofs.Places.{bytes_same, named, entries_are}
 use Rattle.verilog_reader.proofs.PortNames.{find_any}
 use Rattle.verilog_writer.specs.NetTexts.{indexed_name, net_name}
-use Rattle.verilog_writer.specs.VerilogText.{NetBit, indexed_item, net_text, net_item, IsIndex, IsNetBit}
+use Rattle.verilog_writer.specs.VerilogText.{NetBit, indexed_item, net_text, IsIndex, IsNetBit}
 use Rattle.verilog_writer.specs.Written.{text_of}
 use Rattle.verilog_writer.proofs.Bits.{own, bit_item}
 use Rattle.verilog_writer.proofs.Names.{name_again}
@@ -108,9 +108,10 @@ or_true false b is = is
 
 all_named : (es : Entries) → Each (λ (e : List ℕ × Option Bounds). named es e.0 ≡ true) es
 all_named [] = tt
-all_named (e ∷ es) =
-    (ap (λ (t : Bool). t || named es e.0) (bytes_same e.0 e.0 refl),
-    each_weaker (λ (x : List ℕ × Option Bounds). named es x.0 ≡ true) (λ (x : List ℕ × Option Bounds). named (e ∷ es) x.0 ≡ true) es (λ x is. or_true (bytes_eq x.0 e.0) (named es x.0) is) (all_named es))
+all_named (e ∷ es) = (
+  ap (λ (t : Bool). t || named es e.0) (bytes_same e.0 e.0 refl),
+  each_weaker (λ (x : List ℕ × Option Bounds). named es x.0 ≡ true) (λ (x : List ℕ × Option Bounds). named (e ∷ es) x.0 ≡ true) es (λ x is. or_true (bytes_eq x.0 e.0) (named es x.0) is) (all_named es),
+)
 
 entries_named : (ps : List Placed) → Each (λ (e : List ℕ × Option Bounds). named (entries ps) e.0 ≡ true) (net_entries ps)
 entries_named ps = subst (λ (es : Entries). Each (λ (e : List ℕ × Option Bounds). named (entries ps) e.0 ≡ true) es) (entries_are ps) (all_named (entries ps))
@@ -129,14 +130,16 @@ bits_known : (ps : List Placed) (name : List ℕ) (b : Bounds) → bounds_in (de
     → Each (IsKnownName ps) (map (λ i. record { plain = bit_name name i; text = bit_text name i }) is)
 bits_known ps name b bounds black small [] within = tt
 bits_known ps name b bounds black small (i ∷ is) within =
-    let low : i ≤ 65535 = omega (arith, small.0, small.1, within.0.1) in
-    (record {
-      bit = record { name = name; index = Some i };
-      is = record { name = black; index = omega (arith, low) };
-      named = refl;
-      written = refl;
-      known = (not_beyond i low, ap (λ (o : Option Bounds). selects o i) bounds ∙ within_both (min b.left b.right) (max b.left b.right) i within.0.0 within.0.1);
-    }, bits_known ps name b bounds black small is within.1)
+    let low : i ≤ 65535 = omega (arith, small.0, small.1, within.0.1) in (
+      record {
+        bit = record { name = name; index = Some i };
+        is = record { name = black; index = omega (arith, low) };
+        named = refl;
+        written = refl;
+        known = (not_beyond i low, ap (λ (o : Option Bounds). selects o i) bounds ∙ within_both (min b.left b.right) (max b.left b.right) i within.0.0 within.0.1);
+      },
+      bits_known ps name b bounds black small is within.1,
+    )
 
 entry_known : (ps : List Placed) (name : List ℕ) (bounds : Option Bounds) → CanBeEscaped name → HasSmall bounds → bounds_in (declarations ps) name ≡ bounds → named (entries ps) name ≡ true
     → Each (IsKnownName ps) (entry_nets name bounds)

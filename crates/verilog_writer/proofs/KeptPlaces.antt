@@ -1,5 +1,5 @@
 -- The places of connections and of right sides, in the statements and in their netlist.
-use Rattle.std.proofs.Common.{◌≡◌, ℕ, zero, suc, ◌+◌, ◌<◌, ◌≤◌, Bool, true, false, ◌⊎◌, inl, inr, ⊎_elim, List, [], ◌∷◌, ◌++◌, length, map, Option, Some, None, refl, sym, ap, ◌∙◌, subst, arith}
+use Rattle.std.proofs.Common.{◌≡◌, ℕ, zero, suc, ◌+◌, Bool, true, false, ◌⊎◌, inl, inr, ⊎_elim, List, [], ◌∷◌, ◌++◌, map, Option, Some, None, refl, sym, ap, ◌∙◌, subst}
 use Rattle.std.specs.List.{flat_map, slice_get}
 use Rattle.std.proofs.lemmas.List.{append-nil}
 use Rattle.std.proofs.lemmas.List.Concat.{flat_map-append}
@@ -21,7 +21,7 @@ use Rattle.verilog_reader.specs.Declarations.{Declaration}
 use Rattle.verilog_reader.specs.Denoted.{SeenAssign, SeenConnection, SeenInstance, seen_assign, seen_connection, seen_instance, said_connection, said_assigns_in, said_instances_in}
 use Rattle.verilog_writer.specs.VerilogText.{places_in, IsOneOf, IsPlaceIn}
 use Rattle.verilog_writer.proofs.Edited.{slot_edits}
-use Rattle.verilog_writer.proofs.KeptLists.{Has, has_left, has_right, has_map, Spaced, inside, spaced_left, spaced_right, spaced_behind, no_common}
+use Rattle.verilog_writer.proofs.KeptLists.{Has, has_left, has_right, has_map, Spaced, spaced_left, spaced_right, spaced_behind, no_common}
 
 -- the places of the slots
 abbrev slot_places : List Part → List Span

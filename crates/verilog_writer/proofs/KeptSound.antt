@@ -1,5 +1,5 @@
 -- The changed statements are sound: their items fit the declarations, and name what is declared or mentioned.
-use Rattle.std.proofs.Common.{◌≡◌, ℕ, ◌<◌, ◌^◌, Bool, true, false, cond, not, nat_lt, ◌||◌, List, [], ◌∷◌, ◌++◌, map, decimal, Option, Some, None, refl, sym, ap, ◌∙◌, subst, arith}
+use Rattle.std.proofs.Common.{◌≡◌, ℕ, ◌<◌, ◌^◌, Bool, true, false, cond, not, nat_lt, ◌||◌, List, [], ◌∷◌, map, decimal, Option, Some, None, refl, sym, ap, ◌∙◌, subst, arith}
 use Rattle.std.specs.List.{flat_map, list_any}
 use Rattle.std.proofs.lemmas.Bool.{false≢true, or_parts}
 use Rattle.std.proofs.lemmas.Fmt.{digits_value-decimal}
@@ -15,7 +15,7 @@ use Rattle.verilog_syntax.specs.Laws.{bare_statement, bare}
 use Rattle.verilog_reader.specs.declared.bounds.Bounds.{Bounds}
 use Rattle.verilog_reader.specs.Values.{plain_of, decimal_value, name_text}
 use Rattle.verilog_reader.specs.Declarations.{declarations, bounds_in, mentions_of, mentions_in, mentions, connection_items, items_in}
-use Rattle.verilog_reader.specs.Faults.{is_bad_number, is_bad_range, range_in, is_bad_select, selects, differ_in_width}
+use Rattle.verilog_reader.specs.Faults.{is_bad_number, is_bad_range, is_bad_select, selects, differ_in_width}
 use Rattle.verilog_reader.specs.Numbering.{entries}
 use Rattle.verilog_reader.proofs.Checked.{IsSound, each_left, each_right}
 use Rattle.verilog_reader.proofs.Distinct.{each_append}
@@ -25,7 +25,7 @@ use Rattle.verilog_writer.proofs.Bits.{own}
 use Rattle.verilog_writer.proofs.Names.{name_again}
 use Rattle.verilog_writer.proofs.KeptNets.{IsKnown}
 use Rattle.verilog_writer.proofs.KeptBits.{IsKnownBit}
-use Rattle.verilog_writer.proofs.KeptFrames.{IsAlike, AreAlike, items_bare, widths_bare}
+use Rattle.verilog_writer.proofs.KeptFrames.{AreAlike, items_bare, widths_bare}
 
 -- an item with small numbers, within its declaration, and of a known name
 record IsFine (ps : List Placed) (x : Item) : Type 0 where
@@ -65,9 +65,10 @@ all_fine ps [] number select known = tt
 all_fine ps (x ∷ xs) number select known =
     let numbers = or_parts (is_bad_number x) (list_any is_bad_number xs) number in
     let selected = or_parts (is_bad_select (bounds_in (declarations ps)) x) (list_any (is_bad_select (bounds_in (declarations ps))) xs) select in
-    let P = λ (q : List ℕ). named (entries ps) q ≡ true in
-    (record { number = numbers.0; select = selected.0; mentions = each_left P (mentions_of x) (flat_map mentions_of xs) known },
-    all_fine ps xs numbers.1 selected.1 (each_right P (mentions_of x) (flat_map mentions_of xs) known))
+    let P = λ (q : List ℕ). named (entries ps) q ≡ true in (
+      record { number = numbers.0; select = selected.0; mentions = each_left P (mentions_of x) (flat_map mentions_of xs) known },
+      all_fine ps xs numbers.1 selected.1 (each_right P (mentions_of x) (flat_map mentions_of xs) known),
+    )
 
 or_false : (a b : Bool) → a ≡ false → b ≡ false → (a || b) ≡ false
 or_false true b x y = x
@@ -124,10 +125,15 @@ module _ (ps : List Placed) (bits : List BitEdit) (known : Each (λ (e : BitEdit
       let fine : Each (IsFine ps) (items_in q.statement)
       = subst (Each (IsFine ps)) (sym items) (statement_fine p.statement (all_fine ps (items_in p.statement) sound.0.number sound.0.select (each_left P (mentions_in p.statement) (mentions olds) names))) in
       let more = changed_sound olds news others are.1 sound.1 (each_right P (mentions_in p.statement) (mentions olds) names) widths.1 in
-      let bounds = bounds_in (declarations ps) in
-      ((record {
-        range = ap is_bad_range are.0.range ∙ sound.0.range;
-        number = numbers_fine ps (items_in q.statement) fine;
-        select = selects_fine ps (items_in q.statement) fine;
-        widths = sym (widths_bare bounds q.statement) ∙ ap (differ_in_width bounds) first ∙ widths_bare bounds (changed_statement bits p.statement) ∙ widths.0;
-      }, more.0), each_append P (mentions_in q.statement) (mentions news) (mentions_fine ps (items_in q.statement) fine) more.1)
+      let bounds = bounds_in (declarations ps) in (
+        (
+          record {
+            range = ap is_bad_range are.0.range ∙ sound.0.range;
+            number = numbers_fine ps (items_in q.statement) fine;
+            select = selects_fine ps (items_in q.statement) fine;
+            widths = sym (widths_bare bounds q.statement) ∙ ap (differ_in_width bounds) first ∙ widths_bare bounds (changed_statement bits p.statement) ∙ widths.0;
+          },
+          more.0,
+        ),
+        each_append P (mentions_in q.statement) (mentions news) (mentions_fine ps (items_in q.statement) fine) more.1,
+      )

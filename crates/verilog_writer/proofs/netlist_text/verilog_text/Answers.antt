@@ -1,4 +1,4 @@
-use Rattle.std.proofs.Common.{rules, ◌≡◌, ◌∙◌, ℕ, List, length, sym, ap, subst}
+use Rattle.std.proofs.Common.{rules, ◌∙◌, ℕ, List, length, sym, ap, subst}
 use Rattle.std.specs.Prelude.{IsPermutation}
 use Rattle.std.proofs.lemmas.Result.{IfOk-weaker}
 use Rattle.std.proofs.lemmas.List.Sorted.{IsNonDecreasingBy-from_sort_by_key}
@@ -6,8 +6,6 @@ use Rattle.splice.specs.declared.Edit.{Edit}
 use Rattle.net_edit.specs.Edited.{edited}
 use Rattle.verilog_writer.specs.Written.{DenotesAlike}
 use Rattle.splice.specs.Spliced.{AreRising, spliced}
-use Rattle.verilog_writer.proofs.KeptChecks.{twice_good}
-use Rattle.verilog_writer.proofs.KeptNames.{assigns_come}
 use Rattle.verilog_writer.proofs.KeptDenoted.{written_denotes}
 use Rattle.verilog_writer.proofs.KeptText.{edits_rise}
 use Rattle.verilog_writer.proofs.netlist_text.verilog_text.Goals as goal
@@ -19,7 +17,7 @@ spliced-requires c =
     let order = IsNonDecreasingBy-from_sort_by_key (λ (e : Edit). e.span.start) sorted c.sort_unstable_by_key.ensures.sorted (λ a r q k. search rules) in
     record {
       rising = subst (λ (l : List Edit). AreRising 0 (length c.args.text.now) l) (sym c.deref.ensures.value)
-      (edits_rise c.args.text.now c.args.netlist.now c.args.table.now c.args.edits.now sorted c.requires.read c.requires.edits same order);
+          (edits_rise c.args.text.now c.args.netlist.now c.args.table.now c.args.edits.now sorted c.requires.read c.requires.edits same order);
     }
 
 pub returns-clause-value : goal.returns-clause-value
