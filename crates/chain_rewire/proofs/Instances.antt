@@ -1,6 +1,6 @@
 -- The test that words are the names of instances, each once, and the last of some names.
-use Rattle.std.proofs.Common.{◌≡◌, ℕ, zero, suc, ◌+◌, ◌-◌, Bool, true, false, ◌&&◌, ◌||◌, List, [], ◌∷◌, length, Bor, Some, refl, sym, ap, ◌∙◌, subst, inl, inr, arith}
-use Rattle.std.specs.List.{list_any, list_all, slice_get, IsDistinct}
+use Rattle.std.proofs.Common.{◌≡◌, ℕ, zero, suc, ◌+◌, ◌-◌, Bool, true, false, ◌&&◌, ◌||◌, List, [], ◌∷◌, length, Bor, Some, refl, sym, ap, ◌∙◌, inl, arith}
+use Rattle.std.specs.List.{list_all, slice_get}
 use Rattle.std.specs.Str.{bytes_eq}
 use Rattle.chain_rewire.specs.Faults.{has, last_from, last_name, AreInstances}
 use Rattle.chain_rewire.specs.Names.{now_of, have_all, are_distinct, are_instances}

@@ -1,10 +1,9 @@
 -- Lists of names, member by member, as loops go over them.
-use Rattle.std.proofs.Common.{◌≡◌, ℕ, ◌+◌, ◌<◌, ◌≤◌, Bool, true, false, cond, not, ◌&&◌, ◌||◌, List, [], ◌∷◌, ◌++◌, length, map, get_or, take, drop, Bor, refl, sym, ap, ◌∙◌, append_assoc}
-use Rattle.std.specs.List.{list_any, list_all}
+use Rattle.std.proofs.Common.{◌≡◌, ℕ, ◌+◌, ◌<◌, ◌≤◌, Bool, true, false, cond, not, ◌&&◌, ◌||◌, List, [], ◌∷◌, ◌++◌, length, get_or, take, drop, Bor, refl, sym, ap, ◌∙◌}
 use Rattle.std.specs.Str.{bytes_eq}
-use Rattle.std.proofs.lemmas.List.{drop_more, drop_all, take_more, map-append, append-nil}
+use Rattle.std.proofs.lemmas.List.{drop_more, drop_all, take_more, map-append}
 use Rattle.chain_rewire.specs.Faults.{has}
-use Rattle.chain_rewire.specs.Names.{now_of, have_all, are_new, are_distinct}
+use Rattle.chain_rewire.specs.Names.{now_of, have_all, are_new}
 
 pub pushed : (xs : List (Bor (List ℕ))) (x : Bor (List ℕ)) → now_of (xs ++ x ∷ []) ≡ now_of xs ++ x.now ∷ []
 pushed xs x = map-append (λ (q : Bor (List ℕ)). q.now) xs (x ∷ [])

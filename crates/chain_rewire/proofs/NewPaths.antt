@@ -14,11 +14,10 @@ use Rattle.net_edit.specs.declared.edits.PinEdit.{PinEdit}
 use Rattle.net_edit.specs.declared.edits.Edits.{Edits}
 use Rattle.net_edit.specs.Edited.{edited, edited_instance, map_from}
 use Rattle.net_edit.specs.Erasure.{erased_netlist}
-use Rattle.net_edit.specs.Reordered.{sinks_of, IsReordered}
+use Rattle.net_edit.specs.Reordered.{sinks_of}
 use Rattle.verilog_writer.specs.Written.{DenotesAlike}
 use Rattle.chain_rewire.specs.declared.rewire.Rewire.{Rewire}
 use Rattle.chain_rewire.specs.Rewiring.{cells_of, name_of, instance_name, instance_names, ordered, IsTraced, AreErasedAlike, HasPath}
-use Rattle.chain_rewire.specs.Faults.{AreInstances}
 use Rattle.chain_rewire.proofs.Exclusions.{output_is_driven}
 
 -- the names of a netlist's instances, in order

@@ -1,5 +1,5 @@
 -- The path in the order of the words is the read one, its steps put into another order.
-use Rattle.std.proofs.Common.{◌≡◌, ◌≢◌, ℕ, zero, suc, ◌+◌, ◌<◌, Bool, true, false, cond, List, [], ◌∷◌, length, map, get_or, slice_get, Option, Some, None, find, filter_map, Contains, refl, sym, ap, ◌∙◌, subst, inl, inr, ◌⊎◌, arith}
+use Rattle.std.proofs.Common.{◌≡◌, ◌≢◌, ℕ, zero, suc, ◌<◌, Bool, false, cond, List, [], ◌∷◌, length, map, get_or, slice_get, Option, Some, find, filter_map, Contains, refl, sym, ap, ◌∙◌, subst, inl, inr, arith}
 use Rattle.std.specs.List.{cons_option}
 use Rattle.std.specs.Str.{bytes_eq}
 use Rattle.std.proofs.lemmas.Bool.{cases_Bool}
@@ -14,13 +14,13 @@ use Rattle.chain_trace.specs.declared.path.Path.{Path}
 use Rattle.chain_trace.specs.declared.path.Source.{Source}
 use Rattle.chain_trace.specs.declared.path.Source.TheVariants as sources
 use Rattle.chain_trace.specs.declared.path.Sink.TheVariants as sinks
-use Rattle.chain_trace.specs.Paths.{scan_path_at, out_pin_at, StandOnce}
+use Rattle.chain_trace.specs.Paths.{StandOnce}
 use Rattle.net_edit.specs.Free.{is_free}
-use Rattle.net_edit.specs.Reordered.{last_source, last_of, ArePinsApart, IsReordered}
+use Rattle.net_edit.specs.Reordered.{last_source, ArePinsApart, IsReordered}
 use Rattle.chain_rewire.specs.declared.rewire.Rewire.{Rewire}
 use Rattle.chain_rewire.specs.Rewiring.{cells_of, name_of, instance_name, instance_names, step_named, ordered, IsTraced}
-use Rattle.chain_rewire.specs.Faults.{has, last_from, last_name, AreInstances}
-use Rattle.chain_rewire.proofs.Members.{IsIn, Names, Same, Other, names, name_same, has_in, in_has, in_map, AreApart, IsDistinct_apart}
+use Rattle.chain_rewire.specs.Faults.{last_from, last_name, AreInstances}
+use Rattle.chain_rewire.proofs.Members.{IsIn, Same, Other, names, name_same, has_in, in_has, in_map, AreApart, IsDistinct_apart}
 use Rattle.chain_rewire.proofs.Units.{IsUnit, lead_units, same_unit, entered, left}
 
 -- members by their places

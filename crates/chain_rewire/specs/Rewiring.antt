@@ -1,6 +1,6 @@
 -- The path of a scan output put into the order of given names: what is written, and what it means.
-use Rattle.std.specs.Prelude.{◌≡◌, ℕ, ◌+◌, Bool, List, [], ◌∷◌, length, map, find, filter_map, Option, Some, None}
-use Rattle.std.specs.List.{IsDistinct, list_any, slice_get}
+use Rattle.std.specs.Prelude.{◌≡◌, ℕ, ◌+◌, List, [], ◌∷◌, length, map, find, filter_map, Option, Some, None}
+use Rattle.std.specs.List.{slice_get}
 use Rattle.std.specs.Str.{bytes_eq}
 use Rattle.netlist_core.specs.declared.netlist.Instance.{Instance}
 use Rattle.netlist_core.specs.declared.netlist.Netlist.{Netlist}

@@ -85,13 +85,13 @@ fn ordered_steps<'a>(
 ) -> Result<Rows<Step>, NoMemory>
     ensures value { (find : List ℕ → Option Step) → ((q : Bor (List ℕ)) → get (λ x y. bytes_eq x.now y.now) steps.now q ≡ find q.now) → IfOk result (λ ordered. ordered ≡ filter_map find names.now) }
 {
-    let mut ordered = Rows::new(alloc);
+    let mut ordered = Vec::new(alloc);
     for name in names {
         if let Some(step) = steps.get(&name.bytes()) {
             ordered.push(*step)?;
         }
     }
-    Ok(ordered)
+    Ok(Rows::of(ordered))
 }
 
 /// Refuses names other than those of the path's instances, and another last one where the path's output isn't free.

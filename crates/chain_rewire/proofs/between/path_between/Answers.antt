@@ -1,7 +1,6 @@
 use Rattle.std.proofs.Common.{rules, Err}
 use Rattle.std.proofs.lemmas.Result.{err_from_is_err_and}
 use Rattle.chain_trace.specs.declared.path.Path.{Path}
-use Rattle.chain_rewire.specs.Faults.{HasPorts}
 use Rattle.chain_rewire.proofs.PathRefusals.{no_output, no_input, has_ports, no_path, wrong_port}
 use Rattle.chain_rewire.proofs.between.path_between.Goals as goal
 

@@ -1,5 +1,4 @@
-use Rattle.std.proofs.Common.{sym, ap, ◌∙◌, cond, true, Bool, Bor, List, ℕ, get_or}
-use Rattle.std.specs.Str.{bytes_eq}
+use Rattle.std.proofs.Common.{sym, ◌∙◌, get_or}
 use Rattle.chain_rewire.proofs.NameLists.{added_name, new_passes, new_fails, new_passed, was_there, was_new}
 use Rattle.chain_rewire.proofs.names.are_distinct.Goals as goal
 

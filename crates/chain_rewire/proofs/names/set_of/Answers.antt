@@ -1,5 +1,4 @@
-use Rattle.std.proofs.Common.{sym, ap, ◌∙◌, cond, true, Bool, Bor, List, ℕ, get_or}
-use Rattle.std.specs.Str.{bytes_eq}
+use Rattle.std.proofs.Common.{ap, ◌∙◌, Bor, List, ℕ}
 use Rattle.std.proofs.lemmas.List.{take_all}
 use Rattle.chain_rewire.specs.Names.{now_of}
 use Rattle.chain_rewire.specs.Faults.{has}

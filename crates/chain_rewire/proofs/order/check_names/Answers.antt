@@ -1,4 +1,4 @@
-use Rattle.std.proofs.Common.{rules, sym, ◌∙◌}
+use Rattle.std.proofs.Common.{rules}
 use Rattle.chain_rewire.proofs.NameRefusals.{passed, not_permutation, pinned_last}
 use Rattle.chain_rewire.proofs.order.check_names.Goals as goal
 

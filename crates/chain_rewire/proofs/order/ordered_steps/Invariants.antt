@@ -7,4 +7,4 @@ use Rattle.chain_rewire.proofs.order.ordered_steps.Given as goal
 
 abbrev pub invariant-loop-name : goal.invariant-loop-name
 invariant-loop-name l =
-    (find : List ℕ → Option Step) → ((q : Bor (List ℕ)) → get (λ x y. bytes_eq x.now y.now) l.steps q ≡ find q.now) → l.ordered ≡ filter_map find (take l.name-index l.names)
+    (find : List ℕ → Option Step) → ((q : Bor (List ℕ)) → get (λ x y. bytes_eq x.now y.now) l.steps q ≡ find q.now) → l.ordered.items ≡ filter_map find (take l.name-index l.names)

@@ -1,6 +1,5 @@
 use Rattle.std.proofs.Common.{refl, Err}
 use Rattle.std.proofs.lemmas.Result.{err_from_is_err_and}
-use Rattle.text_scan.specs.declared.fault.Fault.{Fault}
 use Rattle.verilog_reader.specs.Denoted.{DenotesNetlist}
 use Rattle.chain_trace.specs.declared.path.Path.{Path}
 use Rattle.chain_rewire.specs.Rewiring.{IsTraced}

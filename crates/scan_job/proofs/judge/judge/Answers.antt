@@ -1,4 +1,7 @@
 use Rattle.scan_job.proofs.judge.judge.Goals as goal
 
+pub returns-in-Rewire-clause-no_fault : goal.returns-in-Rewire-clause-no_fault
+returns-in-Rewire-clause-no_fault c = rw c.in-Rewire.is c.judge_rewire.ensures.no_fault
+
 pub returns-in-Trace-clause-no_fault : goal.returns-in-Trace-clause-no_fault
 returns-in-Trace-clause-no_fault c = rw c.in-Trace.is c.judge_trace.ensures.no_fault
