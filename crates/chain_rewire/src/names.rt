@@ -1,4 +1,4 @@
-//! Names that are compared with one another in time that grows with their number alone.
+//! Lists of names, which are compared by sets in near-linear time.
 ghost use Rattle.std.specs.Prelude.{◌≡◌, ◌∷◌, ◌++◌, [], List, ℕ, OnOk, IfOk};
 ghost use Rattle.std.specs.Borrow.{Bor};
 ghost use Rattle.std.specs.Str.{bytes_eq};
