@@ -12,6 +12,7 @@ mod constant;
 mod declared;
 mod entry;
 mod faults;
+mod few;
 mod fill;
 mod fold;
 mod laws;

@@ -5,6 +5,7 @@ ghost use Rattle.verilog_reader.specs.Declarations.{ports_in};
 ghost use Rattle.verilog_reader.specs.Faults.{has_twice, pins_in};
 ghost use Rattle.verilog_reader.specs.NameSets.{HasNames};
 
+use crate::few;
 use crate::values::plain_of;
 use std::alloc::Global;
 use std::collections::HashSet;
@@ -56,15 +57,22 @@ pub(crate) fn pins_in<'a>(
 {
     let mut names = Vec::new(alloc);
     if let Statement::Instance { connections, .. } = statement {
+        names.reserve_exact(connections.as_slice().len())?;
         push_pins(&mut names, connections.as_slice())?;
     }
     Ok(names)
 }
 
+/// As many names are compared each two of them, which is faster than a set.
+const FEW: usize = 16;
+
 /// Whether a name stands twice.
 pub(crate) fn has_twice(alloc: Global, names: &[&[u8]]) -> Result<bool, NoMemory>
     ensures value { IfOk result (λ twice. twice ≡ has_twice (map (λ name. name.now) names.now)) }
 {
+    if names.len() <= FEW {
+        return Ok(few::has_twice(names));
+    }
     let mut seen = HashSet::new(alloc);
     for name in names {
         if !seen.insert(*name)? {
