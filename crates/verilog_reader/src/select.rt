@@ -5,10 +5,11 @@ ghost use Rattle.verilog_syntax.specs.Reading.{Answers};
 ghost use Rattle.verilog_reader.specs.Values.{is_big_index, plain_of};
 ghost use Rattle.verilog_reader.specs.Declarations.{declarations, is_port_kind, header_ports, has, connection_items, items_in};
 ghost use Rattle.verilog_reader.specs.Faults.{is_bad_number, selects, selects_part, part_of, is_bad_select, width_or_one, item_width, expression_width, differ_in_width, has_direction, check_select};
+ghost use Rattle.verilog_reader.specs.Seen.{Keeps};
 ghost use Rattle.verilog_reader.specs.Steps.{has_bad_number, are_small, known_bounds, has_key, listed_in, directed_in, AreKnown, is_bad_beside};
 
 use crate::bounds::Bounds;
-use crate::declared::{DeclaredNames, declared_names, small_value};
+use crate::declared::{DeclaredNames, small_value};
 use crate::faults::fault_at;
 use crate::number::constant_size;
 use crate::values::plain_of;
@@ -234,11 +235,14 @@ struct Known<'a> {
     directed: HashSet<&'a [u8]>,
 }
 
-fn gathered<'a>(alloc: Global, statements: &[Placed<'a>]) -> Result<Known<'a>, NoMemory>
-    requires small { are_small statements.now ≡ true }
+fn gathered<'a>(
+    alloc: Global,
+    names: DeclaredNames<'a>,
+    statements: &[Placed<'a>],
+) -> Result<Known<'a>, NoMemory>
+    requires names { Keeps names (declarations statements.now) }
     ensures value { IfOk result (λ known. AreKnown known statements.now) }
 {
-    let names = declared_names(alloc, statements)?;
     let ports = header_ports(alloc, statements)?;
     let directed = directed_names(alloc, statements)?;
     Ok(Known {
@@ -260,11 +264,16 @@ fn is_bad<'a>(known: &Known<'a>, statement: &Statement<'a>) -> bool
 
 /// Each select lies within its declaration, the sides of each assign have one width, and the ports of the header are the
 /// names with a direction.
-pub(crate) fn check_select(alloc: Global, statements: &[Placed]) -> Result<(), ReadFault>
+pub(crate) fn check_select<'a>(
+    alloc: Global,
+    names: DeclaredNames<'a>,
+    statements: &[Placed<'a>],
+) -> Result<(), ReadFault>
     requires small { are_small statements.now ≡ true }
+    requires names { Keeps names (declarations statements.now) }
     ensures value { Answers result (check_select statements.now) }
 {
-    let known = gathered(alloc, statements)?;
+    let known = gathered(alloc, names, statements)?;
     for placed in statements {
         if is_bad(&known, &placed.statement) {
             return Err(fault_at(Kind::BadSelect, placed.line));

@@ -15,7 +15,7 @@ ghost use Rattle.verilog_reader.specs.Seen.{AreNets, AreKnown, AddsOne, Adds, Is
 
 use crate::bit_names::split_bit;
 use crate::bounds::Bounds;
-use crate::declared::{DeclaredNames, First, declared_names, range_bounds};
+use crate::declared::{DeclaredNames, First, range_bounds};
 use crate::faults::fault_at;
 use crate::name_lists::{add_names, has_twice, pins_in, ports_in};
 use crate::scalars::scalars_in;
@@ -287,14 +287,18 @@ impl<'a> Seen<'a> {
 }
 
 /// Answers the first statement that gives a name to something else than a statement before it, or twice.
-pub(crate) fn check_twice(alloc: Global, statements: &[Placed]) -> Result<(), ReadFault>
+pub(crate) fn check_twice<'a>(
+    alloc: Global,
+    all: &DeclaredNames<'a>,
+    statements: &[Placed<'a>],
+) -> Result<(), ReadFault>
     requires small { are_small statements.now ≡ true }
+    requires all { Keeps all.now (declarations statements.now) }
     ensures value { Answers result (check_twice statements.now) }
 {
-    let all = declared_names(alloc, statements)?;
     let mut seen = Seen::new(alloc);
     for placed in statements {
-        if seen.is_bad(alloc, &all, &placed.statement)? {
+        if seen.is_bad(alloc, all, &placed.statement)? {
             return Err(fault_at(Kind::VerilogTwice, placed.line));
         }
     }
