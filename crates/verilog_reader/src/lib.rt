@@ -16,6 +16,7 @@ mod few;
 mod fill;
 mod fold;
 mod laws;
+mod name_hash;
 mod name_lists;
 mod net_names;
 mod netlist;

@@ -6,9 +6,9 @@ ghost use Rattle.verilog_reader.specs.Faults.{has_twice, pins_in};
 ghost use Rattle.verilog_reader.specs.NameSets.{HasNames};
 
 use crate::few;
+use crate::name_hash::{NameSet, NameState};
 use crate::values::plain_of;
 use std::alloc::Global;
-use std::collections::HashSet;
 use text_scan::NoMemory;
 use verilog_syntax::{Connection, Statement, Written};
 
@@ -73,7 +73,7 @@ pub(crate) fn has_twice(alloc: Global, names: &[&[u8]]) -> Result<bool, NoMemory
     if names.len() <= FEW {
         return Ok(few::has_twice(names));
     }
-    let mut seen = HashSet::new(alloc);
+    let mut seen = NameSet::with_hasher(alloc, NameState::new());
     for name in names {
         if !seen.insert(*name)? {
             return Ok(true);
@@ -83,7 +83,7 @@ pub(crate) fn has_twice(alloc: Global, names: &[&[u8]]) -> Result<bool, NoMemory
 }
 
 /// Adds names to a set.
-pub(crate) fn add_names<'a>(set: &mut HashSet<&'a [u8]>, names: &[&'a [u8]]) -> Result<(), NoMemory>
+pub(crate) fn add_names<'a>(set: &mut NameSet<'a>, names: &[&'a [u8]]) -> Result<(), NoMemory>
     ensures value { OnOk result ((before : List (List ℕ)) → HasNames set.old before → HasNames set.new (before ++ map (λ name. name.now) names.now)) }
 {
     for name in names {

@@ -11,11 +11,11 @@ ghost use Rattle.verilog_reader.specs.Steps.{has_bad_number, are_small, known_bo
 use crate::bounds::Bounds;
 use crate::declared::{DeclaredNames, small_value};
 use crate::faults::fault_at;
+use crate::name_hash::{NameSet, NameState};
 use crate::number::constant_size;
 use crate::values::plain_of;
 use crate::vector::{has_index, has_part, width};
 use std::alloc::Global;
-use std::collections::HashSet;
 use text_scan::{Kind, NoMemory, ReadFault};
 use verilog_syntax::{Connection, Declared, Expression, Item, Placed, Statement, Written};
 
@@ -181,7 +181,7 @@ fn directed_in<'s, 'a>(statement: &'s Statement<'a>) -> &'s [Written<'a>]
     }
 }
 
-fn add_names<'a>(set: &mut HashSet<&'a [u8]>, names: &[Written<'a>]) -> Result<(), NoMemory>
+fn add_names<'a>(set: &mut NameSet<'a>, names: &[Written<'a>]) -> Result<(), NoMemory>
     ensures ok { OnOk result ((q : List ℕ) → has_key set.new q ≡ (has_key set.old q || has (map plain_of names.now) q)) }
 {
     for name in names {
@@ -190,23 +190,20 @@ fn add_names<'a>(set: &mut HashSet<&'a [u8]>, names: &[Written<'a>]) -> Result<(
     Ok(())
 }
 
-fn header_ports<'a>(alloc: Global, statements: &[Placed<'a>]) -> Result<HashSet<&'a [u8]>, NoMemory>
+fn header_ports<'a>(alloc: Global, statements: &[Placed<'a>]) -> Result<NameSet<'a>, NoMemory>
     ensures value { IfOk result (λ set. (q : List ℕ) → has_key set q ≡ has (header_ports statements.now) q) }
 {
-    let mut set = HashSet::new(alloc);
+    let mut set = NameSet::with_hasher(alloc, NameState::new());
     for placed in statements {
         add_names(&mut set, listed_in(&placed.statement))?;
     }
     Ok(set)
 }
 
-fn directed_names<'a>(
-    alloc: Global,
-    statements: &[Placed<'a>],
-) -> Result<HashSet<&'a [u8]>, NoMemory>
+fn directed_names<'a>(alloc: Global, statements: &[Placed<'a>]) -> Result<NameSet<'a>, NoMemory>
     ensures value { IfOk result (λ set. (q : List ℕ) → has_key set q ≡ has_direction (declarations statements.now) q) }
 {
-    let mut set = HashSet::new(alloc);
+    let mut set = NameSet::with_hasher(alloc, NameState::new());
     for placed in statements {
         add_names(&mut set, directed_in(&placed.statement))?;
     }
@@ -214,7 +211,7 @@ fn directed_names<'a>(
 }
 
 /// Whether the set lacks one of the names.
-fn lacks_one<'a>(set: &HashSet<&'a [u8]>, names: &[Written<'a>]) -> bool
+fn lacks_one<'a>(set: &NameSet<'a>, names: &[Written<'a>]) -> bool
     ensures value { result ≡ list_any (λ name. not (has_key set.now (plain_of name))) names.now }
 {
     for name in names {
@@ -230,9 +227,9 @@ fn lacks_one<'a>(set: &HashSet<&'a [u8]>, names: &[Written<'a>]) -> bool
 struct Known<'a> {
     names: DeclaredNames<'a>,
     /// Those that the header lists.
-    ports: HashSet<&'a [u8]>,
+    ports: NameSet<'a>,
     /// Those that are declared with a direction.
-    directed: HashSet<&'a [u8]>,
+    directed: NameSet<'a>,
 }
 
 fn gathered<'a>(

@@ -17,13 +17,13 @@ use crate::bit_names::split_bit;
 use crate::bounds::Bounds;
 use crate::declared::{DeclaredNames, First, range_bounds};
 use crate::faults::fault_at;
+use crate::name_hash::{NameSet, NameState};
 use crate::name_lists::{add_names, has_twice, pins_in, ports_in};
 use crate::scalars::scalars_in;
 use crate::select::{is_port_kind, selects};
 use crate::values::{plain_of, push_bit_name};
 use crate::vector::{index_at, width};
 use std::alloc::Global;
-use std::collections::HashSet;
 use text_scan::{Kind, NoMemory, ReadFault};
 use verilog_syntax::{Declared, Placed, Statement, Written};
 
@@ -98,19 +98,14 @@ fn any_closed(names: &[&[u8]]) -> bool
     false
 }
 
-fn has_name(names: &HashSet<&[u8]>, name: &[u8]) -> bool
+fn has_name(names: &NameSet, name: &[u8]) -> bool
     ensures value { (all : List (List ℕ)) → HasNames names.now all → result ≡ has all name.now }
 {
     names.contains(&name)
 }
 
 /// Whether one of some names is that of a bit of the vector.
-fn has_bit(
-    alloc: Global,
-    names: &HashSet<&[u8]>,
-    vector: &[u8],
-    bounds: Bounds,
-) -> Result<bool, NoMemory>
+fn has_bit(alloc: Global, names: &NameSet, vector: &[u8], bounds: Bounds) -> Result<bool, NoMemory>
     ensures value { IfOk result (λ found. (all : List (List ℕ)) → HasNames names.now all → found ≡ list_any (has_bit_in vector.now (Some bounds)) all) }
 {
     let mut name = Vec::new(alloc);
@@ -127,7 +122,7 @@ fn has_bit(
 /// The scalar nets so far.
 #[derive(Drop)]
 struct Nets<'a> {
-    names: HashSet<&'a [u8]>,
+    names: NameSet<'a>,
     /// One of the names ends as those of bits do; else no bit has one of them.
     closed: bool,
 }
@@ -221,7 +216,7 @@ fn add_declarations<'a>(
 
 /// Adds the name of an instance, and says whether it stood before.
 fn add_instance<'a>(
-    instances: &mut HashSet<&'a [u8]>,
+    instances: &mut NameSet<'a>,
     statement: &Statement<'a>,
 ) -> Result<bool, NoMemory>
     ensures value { IfOk result (λ again. (before : List (List ℕ)) → HasNames instances.old before → (again ≡ list_any (has before) (instances_named statement.now)) × HasNames instances.new (before ++ instances_named statement.now)) }
@@ -247,7 +242,7 @@ fn repeats_itself(alloc: Global, statement: &Statement) -> Result<bool, NoMemory
 #[derive(Drop)]
 struct Seen<'a> {
     declared: DeclaredNames<'a>,
-    instances: HashSet<&'a [u8]>,
+    instances: NameSet<'a>,
     nets: Nets<'a>,
 }
 
@@ -257,9 +252,9 @@ impl<'a> Seen<'a> {
     {
         Seen {
             declared: DeclaredNames::new(alloc),
-            instances: HashSet::new(alloc),
+            instances: NameSet::with_hasher(alloc, NameState::new()),
             nets: Nets {
-                names: HashSet::new(alloc),
+                names: NameSet::with_hasher(alloc, NameState::new()),
                 closed: false,
             },
         }
