@@ -1,7 +1,11 @@
-//! Names that stand twice among few.
+//! What stands twice among few: each two are compared, which is faster than a set.
 ghost use Rattle.std.specs.Prelude.{◌≡◌, map};
+ghost use Rattle.verilog_reader.specs.Values.{plain_of};
 ghost use Rattle.verilog_reader.specs.Declarations.{has};
 ghost use Rattle.verilog_reader.specs.Faults.{has_twice};
+
+use crate::values::plain_of;
+use verilog_syntax::Connection;
 
 fn stands_among(names: &[&[u8]], name: &[u8]) -> bool
     ensures value { result ≡ has (map (λ name. name.now) names.now) name.now }
@@ -12,12 +16,31 @@ fn stands_among(names: &[&[u8]], name: &[u8]) -> bool
     }
 }
 
-/// Whether a name stands twice. It compares each two of them.
+/// Whether a name stands twice.
 pub(crate) fn has_twice(names: &[&[u8]]) -> bool
     ensures value { result ≡ has_twice (map (λ name. name.now) names.now) }
 {
     match names {
         [first, rest @ ..] => stands_among(rest, *first) || has_twice(rest),
+        [] => false,
+    }
+}
+
+fn has_pin(connections: &[Connection], pin: &[u8]) -> bool
+    ensures value { result ≡ has (map (λ c. plain_of c.pin) connections.now) pin.now }
+{
+    match connections {
+        [first, rest @ ..] => plain_of(&first.pin) == pin || has_pin(rest, pin),
+        [] => false,
+    }
+}
+
+/// Whether a pin stands twice.
+pub(crate) fn has_pin_twice(connections: &[Connection]) -> bool
+    ensures value { result ≡ has_twice (map (λ c. plain_of c.pin) connections.now) }
+{
+    match connections {
+        [first, rest @ ..] => has_pin(rest, plain_of(&first.pin)) || has_pin_twice(rest),
         [] => false,
     }
 }

@@ -39,6 +39,24 @@ pub(crate) fn ports_in<'a>(
     Ok(names)
 }
 
+/// Whether an instance connects a pin twice.
+pub(crate) fn repeats_pin(alloc: Global, statement: &Statement) -> Result<bool, NoMemory>
+    ensures value { IfOk result (λ twice. twice ≡ has_twice (pins_in statement.now)) }
+{
+    match statement {
+        Statement::Instance { connections, .. } => {
+            if connections.as_slice().len() <= FEW {
+                Ok(few::has_pin_twice(connections.as_slice()))
+            } else {
+                has_twice(alloc, pins_in(alloc, statement)?.as_slice())
+            }
+        }
+        Statement::Module { .. } | Statement::Declare { .. } | Statement::Assign { .. } => {
+            Ok(false)
+        }
+    }
+}
+
 fn push_pins<'a>(names: &mut Vec<&'a [u8]>, connections: &[Connection<'a>]) -> Result<(), NoMemory>
     ensures value { OnOk result (map (λ name. name.now) names.new.items ≡ map (λ name. name.now) names.old.items ++ map (λ c. plain_of c.pin) connections.now) }
 {
@@ -49,10 +67,7 @@ fn push_pins<'a>(names: &mut Vec<&'a [u8]>, connections: &[Connection<'a>]) -> R
 }
 
 /// The pins that an instance connects.
-pub(crate) fn pins_in<'a>(
-    alloc: Global,
-    statement: &Statement<'a>,
-) -> Result<Vec<&'a [u8]>, NoMemory>
+fn pins_in<'a>(alloc: Global, statement: &Statement<'a>) -> Result<Vec<&'a [u8]>, NoMemory>
     ensures value { IfOk result (λ names. map (λ name. name.now) names.items ≡ pins_in statement.now) }
 {
     let mut names = Vec::new(alloc);
@@ -63,7 +78,6 @@ pub(crate) fn pins_in<'a>(
     Ok(names)
 }
 
-/// As many names are compared each two of them, which is faster than a set.
 const FEW: usize = 16;
 
 /// Whether a name stands twice.

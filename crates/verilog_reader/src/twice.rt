@@ -18,7 +18,7 @@ use crate::bounds::Bounds;
 use crate::declared::{DeclaredNames, First, range_bounds};
 use crate::faults::fault_at;
 use crate::name_hash::{NameSet, NameState};
-use crate::name_lists::{add_names, has_twice, pins_in, ports_in};
+use crate::name_lists::{add_names, has_twice, ports_in, repeats_pin};
 use crate::scalars::scalars_in;
 use crate::select::{is_port_kind, selects};
 use crate::values::{plain_of, push_bit_name};
@@ -234,8 +234,7 @@ fn repeats_itself(alloc: Global, statement: &Statement) -> Result<bool, NoMemory
     ensures value { IfOk result (λ twice. twice ≡ (has_twice (ports_in statement.now) || has_twice (pins_in statement.now))) }
 {
     let ports = ports_in(alloc, statement)?;
-    let pins = pins_in(alloc, statement)?;
-    Ok(has_twice(alloc, ports.as_slice())? || has_twice(alloc, pins.as_slice())?)
+    Ok(has_twice(alloc, ports.as_slice())? || repeats_pin(alloc, statement)?)
 }
 
 /// The names of the statements so far.
