@@ -28,6 +28,7 @@ pub mod NetlistOf
 pub mod NumberedLists
 pub mod Distinct
 pub mod Within
+pub mod Spent
 pub mod PortNumbers
 pub mod NamesApart
 pub mod ScalarNames

@@ -8,3 +8,4 @@ pub mod LastBits
 pub mod NameSets
 pub mod Seen
 pub mod Numbering
+pub mod NameHashes

@@ -84,7 +84,7 @@ fn bits_of(alloc: Global, nets: &Nets, items: &[Item]) -> Result<Rows<Bit>, NoMe
     requires { All (IsFineItem nets.now) items.now }
     ensures value { IfOk result (λ bits. bits ≡ numbered_items nets.now items.now) }
 {
-    let mut bits = Rows::new(alloc);
+    let mut bits = Rows::of(Vec::with_capacity(alloc, items.len())?);
     for item in items {
         push_item(alloc, &mut bits, nets, item)?;
     }

@@ -14,9 +14,9 @@ ghost use Rattle.verilog_reader.specs.Faults.{is_bad_range, range_in};
 ghost use Rattle.verilog_reader.specs.Steps.{are_small, first_in, first_kept, first_named, only_at, kept_bounds};
 
 use crate::bounds::Bounds;
+use crate::name_hash::{NameMap, NameState};
 use crate::values::{index_value, plain_of};
 use std::alloc::Global;
-use std::collections::HashMap;
 use text_scan::NoMemory;
 use verilog_syntax::{Declared, Placed, Range, Statement, Written};
 
@@ -30,7 +30,7 @@ pub(crate) struct First {
 /// Names with their first declarations, which contracts read by `first_in`.
 #[derive(Drop)]
 pub(crate) struct DeclaredNames<'a> {
-    firsts: HashMap<&'a [u8], First>,
+    firsts: NameMap<'a, First>,
 }
 
 impl<'a> DeclaredNames<'a> {
@@ -38,7 +38,7 @@ impl<'a> DeclaredNames<'a> {
         ensures value { (name : List ℕ) → first_in result name ≡ None }
     {
         DeclaredNames {
-            firsts: HashMap::new(alloc),
+            firsts: NameMap::with_hasher(alloc, NameState::new()),
         }
     }
 

@@ -140,7 +140,7 @@ fn pins_of(alloc: Global, nets: &Nets, connections: &[Connection]) -> Result<Row
     requires { All (λ c. IsFineExpression nets.now c.expression) connections.now }
     ensures value { IfOk result (λ pins. pins ≡ map (numbered_connection nets.now) connections.now) }
 {
-    let mut pins = Rows::new(alloc);
+    let mut pins = Rows::of(Vec::with_capacity(alloc, connections.len())?);
     for connection in connections {
         pins.push(pin_of(alloc, nets, connection)?)?;
     }
@@ -173,19 +173,32 @@ fn push_instance(
     Ok(())
 }
 
-/// The instances. Their numbers have 32 bits: more would not fit in memory.
+/// The same, and the statement is freed.
+fn push_spent(
+    alloc: Global,
+    instances: &mut Rows<Instance>,
+    nets: &Nets,
+    placed: Placed<'_>,
+) -> Result<(), NoMemory>
+    requires { IsFineStatement nets.now placed.statement }
+    ensures ok { OnOk result (instances.new ≡ instances.old ++ numbered_instances_in nets.now placed.entry.line placed.entry.statement) }
+{
+    push_instance(alloc, instances, nets, placed.line, &placed.statement)
+}
+
+/// The instances. Their numbers have 32 bits: more would not fit in memory. Each statement is freed once it is read.
 fn instances_of(
     alloc: Global,
     nets: &Nets,
-    statements: &[Placed],
+    statements: Rows<Placed<'_>>,
 ) -> Result<Rows<Instance>, NoMemory>
-    requires { All (λ p. IsFineStatement nets.now p.statement) statements.now }
-    ensures value { IfOk result (λ instances. instances ≡ numbered_instances nets.now statements.now) }
+    requires { All (λ p. IsFineStatement nets.now p.statement) statements }
+    ensures value { IfOk result (λ instances. instances ≡ numbered_instances nets.now statements.entry) }
     ensures few { IfOk result (λ instances. length instances < 2 ^ 32) }
 {
     let mut instances = Rows::new(alloc);
-    for placed in statements {
-        push_instance(alloc, &mut instances, nets, placed.line, &placed.statement)?;
+    for placed in statements.into_vec() {
+        push_spent(alloc, &mut instances, nets, placed)?;
     }
     if instances.as_slice().len() > u32::MAX as usize {
         return Err(NoMemory);
@@ -221,21 +234,21 @@ fn header_line(statements: &[Placed]) -> u64
     }
 }
 
-fn folded(alloc: Global, statements: &[Placed]) -> Result<Netlist, NoMemory>
-    requires ranges { All (λ p. is_bad_range (range_in p.statement) ≡ false) statements.now }
-    requires fine { All (λ p. IsFineStatement (entries statements.now) p.statement) statements.now }
-    ensures value { IfOk result (λ n. n ≡ numbered (entries statements.now) statements.now) }
+fn folded(alloc: Global, statements: Rows<Placed<'_>>) -> Result<Netlist, NoMemory>
+    requires ranges { All (λ p. is_bad_range (range_in p.statement) ≡ false) statements }
+    requires fine { All (λ p. IsFineStatement (entries statements) p.statement) statements }
+    ensures value { IfOk result (λ n. n ≡ numbered (entries statements.entry) statements.entry) }
     ensures few_nets { IfOk result (λ n. length n.nets < 2 ^ 32) }
     ensures few_instances { IfOk result (λ n. length n.instances < 2 ^ 32) }
 {
-    let (nets, declared) = nets_of(alloc, statements)?;
+    let (nets, declared) = nets_of(alloc, statements.as_slice())?;
     Ok(Netlist {
-        module: Name::copy(alloc, header_name(statements))?,
-        line: header_line(statements),
+        module: Name::copy(alloc, header_name(statements.as_slice()))?,
+        line: header_line(statements.as_slice()),
         nets: nets.names(alloc)?,
         declared,
-        ports: ports_of(alloc, &nets, statements)?,
-        assigns: assigns_of(alloc, &nets, statements)?,
+        ports: ports_of(alloc, &nets, statements.as_slice())?,
+        assigns: assigns_of(alloc, &nets, statements.as_slice())?,
         instances: instances_of(alloc, &nets, statements)?,
     })
 }
@@ -248,5 +261,5 @@ pub(crate) fn netlist_of(alloc: Global, statements: Rows<Placed<'_>>) -> Result<
     ensures value { IfOk result (λ n. IsNetlistOf statements.entry n) }
     ensures netlist { IfOk result (λ n. IsNetlist n) }
 {
-    folded(alloc, statements.as_slice())
+    folded(alloc, statements)
 }

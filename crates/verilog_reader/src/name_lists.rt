@@ -5,9 +5,10 @@ ghost use Rattle.verilog_reader.specs.Declarations.{ports_in};
 ghost use Rattle.verilog_reader.specs.Faults.{has_twice, pins_in};
 ghost use Rattle.verilog_reader.specs.NameSets.{HasNames};
 
+use crate::few;
+use crate::name_hash::{NameSet, NameState};
 use crate::values::plain_of;
 use std::alloc::Global;
-use std::collections::HashSet;
 use text_scan::NoMemory;
 use verilog_syntax::{Connection, Statement, Written};
 
@@ -38,6 +39,24 @@ pub(crate) fn ports_in<'a>(
     Ok(names)
 }
 
+/// Whether an instance connects a pin twice.
+pub(crate) fn repeats_pin(alloc: Global, statement: &Statement) -> Result<bool, NoMemory>
+    ensures value { IfOk result (λ twice. twice ≡ has_twice (pins_in statement.now)) }
+{
+    match statement {
+        Statement::Instance { connections, .. } => {
+            if connections.as_slice().len() <= FEW {
+                Ok(few::has_pin_twice(connections.as_slice()))
+            } else {
+                has_twice(alloc, pins_in(alloc, statement)?.as_slice())
+            }
+        }
+        Statement::Module { .. } | Statement::Declare { .. } | Statement::Assign { .. } => {
+            Ok(false)
+        }
+    }
+}
+
 fn push_pins<'a>(names: &mut Vec<&'a [u8]>, connections: &[Connection<'a>]) -> Result<(), NoMemory>
     ensures value { OnOk result (map (λ name. name.now) names.new.items ≡ map (λ name. name.now) names.old.items ++ map (λ c. plain_of c.pin) connections.now) }
 {
@@ -48,24 +67,27 @@ fn push_pins<'a>(names: &mut Vec<&'a [u8]>, connections: &[Connection<'a>]) -> R
 }
 
 /// The pins that an instance connects.
-pub(crate) fn pins_in<'a>(
-    alloc: Global,
-    statement: &Statement<'a>,
-) -> Result<Vec<&'a [u8]>, NoMemory>
+fn pins_in<'a>(alloc: Global, statement: &Statement<'a>) -> Result<Vec<&'a [u8]>, NoMemory>
     ensures value { IfOk result (λ names. map (λ name. name.now) names.items ≡ pins_in statement.now) }
 {
     let mut names = Vec::new(alloc);
     if let Statement::Instance { connections, .. } = statement {
+        names.reserve_exact(connections.as_slice().len())?;
         push_pins(&mut names, connections.as_slice())?;
     }
     Ok(names)
 }
 
+const FEW: usize = 16;
+
 /// Whether a name stands twice.
 pub(crate) fn has_twice(alloc: Global, names: &[&[u8]]) -> Result<bool, NoMemory>
     ensures value { IfOk result (λ twice. twice ≡ has_twice (map (λ name. name.now) names.now)) }
 {
-    let mut seen = HashSet::new(alloc);
+    if names.len() <= FEW {
+        return Ok(few::has_twice(names));
+    }
+    let mut seen = NameSet::with_hasher(alloc, NameState::new());
     for name in names {
         if !seen.insert(*name)? {
             return Ok(true);
@@ -75,7 +97,7 @@ pub(crate) fn has_twice(alloc: Global, names: &[&[u8]]) -> Result<bool, NoMemory
 }
 
 /// Adds names to a set.
-pub(crate) fn add_names<'a>(set: &mut HashSet<&'a [u8]>, names: &[&'a [u8]]) -> Result<(), NoMemory>
+pub(crate) fn add_names<'a>(set: &mut NameSet<'a>, names: &[&'a [u8]]) -> Result<(), NoMemory>
     ensures value { OnOk result ((before : List (List ℕ)) → HasNames set.old before → HasNames set.new (before ++ map (λ name. name.now) names.now)) }
 {
     for name in names {

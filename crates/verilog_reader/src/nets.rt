@@ -7,6 +7,7 @@ ghost use Rattle.verilog_reader.specs.Numbering.{total, place, with_entry};
 
 use crate::bounds::Bounds;
 use crate::entry::Entry;
+use crate::name_hash::NameState;
 use crate::net_names::push_names;
 use crate::vectors::width_or_one;
 use indexmap::IndexMap;
@@ -18,7 +19,7 @@ use text_scan::{NoMemory, Rows};
 /// Names in the order of their nets, which contracts see as a list, each with the bounds of a vector.
 #[derive(Drop)]
 pub(crate) struct Nets<'a> {
-    entries: IndexMap<&'a [u8], Entry>,
+    entries: IndexMap<&'a [u8], Entry, NameState>,
     count: u32,
 }
 
@@ -39,7 +40,7 @@ impl<'a> Nets<'a> {
         ensures value { result ≡ [] }
     {
         Nets {
-            entries: IndexMap::new(alloc),
+            entries: IndexMap::with_hasher(alloc, NameState::new()),
             count: 0,
         }
     }

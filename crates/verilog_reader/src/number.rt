@@ -15,10 +15,10 @@ ghost use Rattle.verilog_reader.specs.Steps.{has_bad_number, are_small, AreCount
 use crate::bounds::Bounds;
 use crate::declared::{bounds_of, small_value};
 use crate::faults::fault_at;
+use crate::name_hash::{NameSet, NameState};
 use crate::values::{index_value, plain_of};
 use crate::vector::width;
 use std::alloc::Global;
-use std::collections::HashSet;
 use text_scan::{Kind, NoMemory, ReadFault};
 use verilog_syntax::{Connection, Item, Placed, Range, Statement, Written};
 
@@ -128,7 +128,7 @@ fn has_bad_number(statement: &Statement) -> bool
 /// The declared vectors so far, and how many bits they have together.
 #[derive(Drop)]
 struct Vectors<'a> {
-    names: HashSet<&'a [u8]>,
+    names: NameSet<'a>,
     bits: u64,
 }
 
@@ -138,7 +138,7 @@ impl<'a> Vectors<'a> {
         ensures small { result.bits ≤ 16777216 }
     {
         Vectors {
-            names: HashSet::new(alloc),
+            names: NameSet::with_hasher(alloc, NameState::new()),
             bits: 0,
         }
     }

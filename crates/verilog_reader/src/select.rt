@@ -5,16 +5,17 @@ ghost use Rattle.verilog_syntax.specs.Reading.{Answers};
 ghost use Rattle.verilog_reader.specs.Values.{is_big_index, plain_of};
 ghost use Rattle.verilog_reader.specs.Declarations.{declarations, is_port_kind, header_ports, has, connection_items, items_in};
 ghost use Rattle.verilog_reader.specs.Faults.{is_bad_number, selects, selects_part, part_of, is_bad_select, width_or_one, item_width, expression_width, differ_in_width, has_direction, check_select};
+ghost use Rattle.verilog_reader.specs.Seen.{Keeps};
 ghost use Rattle.verilog_reader.specs.Steps.{has_bad_number, are_small, known_bounds, has_key, listed_in, directed_in, AreKnown, is_bad_beside};
 
 use crate::bounds::Bounds;
-use crate::declared::{DeclaredNames, declared_names, small_value};
+use crate::declared::{DeclaredNames, small_value};
 use crate::faults::fault_at;
+use crate::name_hash::{NameSet, NameState};
 use crate::number::constant_size;
 use crate::values::plain_of;
 use crate::vector::{has_index, has_part, width};
 use std::alloc::Global;
-use std::collections::HashSet;
 use text_scan::{Kind, NoMemory, ReadFault};
 use verilog_syntax::{Connection, Declared, Expression, Item, Placed, Statement, Written};
 
@@ -180,7 +181,7 @@ fn directed_in<'s, 'a>(statement: &'s Statement<'a>) -> &'s [Written<'a>]
     }
 }
 
-fn add_names<'a>(set: &mut HashSet<&'a [u8]>, names: &[Written<'a>]) -> Result<(), NoMemory>
+fn add_names<'a>(set: &mut NameSet<'a>, names: &[Written<'a>]) -> Result<(), NoMemory>
     ensures ok { OnOk result ((q : List ℕ) → has_key set.new q ≡ (has_key set.old q || has (map plain_of names.now) q)) }
 {
     for name in names {
@@ -189,23 +190,20 @@ fn add_names<'a>(set: &mut HashSet<&'a [u8]>, names: &[Written<'a>]) -> Result<(
     Ok(())
 }
 
-fn header_ports<'a>(alloc: Global, statements: &[Placed<'a>]) -> Result<HashSet<&'a [u8]>, NoMemory>
+fn header_ports<'a>(alloc: Global, statements: &[Placed<'a>]) -> Result<NameSet<'a>, NoMemory>
     ensures value { IfOk result (λ set. (q : List ℕ) → has_key set q ≡ has (header_ports statements.now) q) }
 {
-    let mut set = HashSet::new(alloc);
+    let mut set = NameSet::with_hasher(alloc, NameState::new());
     for placed in statements {
         add_names(&mut set, listed_in(&placed.statement))?;
     }
     Ok(set)
 }
 
-fn directed_names<'a>(
-    alloc: Global,
-    statements: &[Placed<'a>],
-) -> Result<HashSet<&'a [u8]>, NoMemory>
+fn directed_names<'a>(alloc: Global, statements: &[Placed<'a>]) -> Result<NameSet<'a>, NoMemory>
     ensures value { IfOk result (λ set. (q : List ℕ) → has_key set q ≡ has_direction (declarations statements.now) q) }
 {
-    let mut set = HashSet::new(alloc);
+    let mut set = NameSet::with_hasher(alloc, NameState::new());
     for placed in statements {
         add_names(&mut set, directed_in(&placed.statement))?;
     }
@@ -213,7 +211,7 @@ fn directed_names<'a>(
 }
 
 /// Whether the set lacks one of the names.
-fn lacks_one<'a>(set: &HashSet<&'a [u8]>, names: &[Written<'a>]) -> bool
+fn lacks_one<'a>(set: &NameSet<'a>, names: &[Written<'a>]) -> bool
     ensures value { result ≡ list_any (λ name. not (has_key set.now (plain_of name))) names.now }
 {
     for name in names {
@@ -229,16 +227,19 @@ fn lacks_one<'a>(set: &HashSet<&'a [u8]>, names: &[Written<'a>]) -> bool
 struct Known<'a> {
     names: DeclaredNames<'a>,
     /// Those that the header lists.
-    ports: HashSet<&'a [u8]>,
+    ports: NameSet<'a>,
     /// Those that are declared with a direction.
-    directed: HashSet<&'a [u8]>,
+    directed: NameSet<'a>,
 }
 
-fn gathered<'a>(alloc: Global, statements: &[Placed<'a>]) -> Result<Known<'a>, NoMemory>
-    requires small { are_small statements.now ≡ true }
+fn gathered<'a>(
+    alloc: Global,
+    names: DeclaredNames<'a>,
+    statements: &[Placed<'a>],
+) -> Result<Known<'a>, NoMemory>
+    requires names { Keeps names (declarations statements.now) }
     ensures value { IfOk result (λ known. AreKnown known statements.now) }
 {
-    let names = declared_names(alloc, statements)?;
     let ports = header_ports(alloc, statements)?;
     let directed = directed_names(alloc, statements)?;
     Ok(Known {
@@ -260,11 +261,16 @@ fn is_bad<'a>(known: &Known<'a>, statement: &Statement<'a>) -> bool
 
 /// Each select lies within its declaration, the sides of each assign have one width, and the ports of the header are the
 /// names with a direction.
-pub(crate) fn check_select(alloc: Global, statements: &[Placed]) -> Result<(), ReadFault>
+pub(crate) fn check_select<'a>(
+    alloc: Global,
+    names: DeclaredNames<'a>,
+    statements: &[Placed<'a>],
+) -> Result<(), ReadFault>
     requires small { are_small statements.now ≡ true }
+    requires names { Keeps names (declarations statements.now) }
     ensures value { Answers result (check_select statements.now) }
 {
-    let known = gathered(alloc, statements)?;
+    let known = gathered(alloc, names, statements)?;
     for placed in statements {
         if is_bad(&known, &placed.statement) {
             return Err(fault_at(Kind::BadSelect, placed.line));

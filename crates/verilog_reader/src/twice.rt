@@ -15,15 +15,15 @@ ghost use Rattle.verilog_reader.specs.Seen.{AreNets, AreKnown, AddsOne, Adds, Is
 
 use crate::bit_names::split_bit;
 use crate::bounds::Bounds;
-use crate::declared::{DeclaredNames, First, declared_names, range_bounds};
+use crate::declared::{DeclaredNames, First, range_bounds};
 use crate::faults::fault_at;
-use crate::name_lists::{add_names, has_twice, pins_in, ports_in};
+use crate::name_hash::{NameSet, NameState};
+use crate::name_lists::{add_names, has_twice, ports_in, repeats_pin};
 use crate::scalars::scalars_in;
 use crate::select::{is_port_kind, selects};
 use crate::values::{plain_of, push_bit_name};
 use crate::vector::{index_at, width};
 use std::alloc::Global;
-use std::collections::HashSet;
 use text_scan::{Kind, NoMemory, ReadFault};
 use verilog_syntax::{Declared, Placed, Statement, Written};
 
@@ -98,19 +98,14 @@ fn any_closed(names: &[&[u8]]) -> bool
     false
 }
 
-fn has_name(names: &HashSet<&[u8]>, name: &[u8]) -> bool
+fn has_name(names: &NameSet, name: &[u8]) -> bool
     ensures value { (all : List (List ℕ)) → HasNames names.now all → result ≡ has all name.now }
 {
     names.contains(&name)
 }
 
 /// Whether one of some names is that of a bit of the vector.
-fn has_bit(
-    alloc: Global,
-    names: &HashSet<&[u8]>,
-    vector: &[u8],
-    bounds: Bounds,
-) -> Result<bool, NoMemory>
+fn has_bit(alloc: Global, names: &NameSet, vector: &[u8], bounds: Bounds) -> Result<bool, NoMemory>
     ensures value { IfOk result (λ found. (all : List (List ℕ)) → HasNames names.now all → found ≡ list_any (has_bit_in vector.now (Some bounds)) all) }
 {
     let mut name = Vec::new(alloc);
@@ -127,7 +122,7 @@ fn has_bit(
 /// The scalar nets so far.
 #[derive(Drop)]
 struct Nets<'a> {
-    names: HashSet<&'a [u8]>,
+    names: NameSet<'a>,
     /// One of the names ends as those of bits do; else no bit has one of them.
     closed: bool,
 }
@@ -221,7 +216,7 @@ fn add_declarations<'a>(
 
 /// Adds the name of an instance, and says whether it stood before.
 fn add_instance<'a>(
-    instances: &mut HashSet<&'a [u8]>,
+    instances: &mut NameSet<'a>,
     statement: &Statement<'a>,
 ) -> Result<bool, NoMemory>
     ensures value { IfOk result (λ again. (before : List (List ℕ)) → HasNames instances.old before → (again ≡ list_any (has before) (instances_named statement.now)) × HasNames instances.new (before ++ instances_named statement.now)) }
@@ -239,15 +234,14 @@ fn repeats_itself(alloc: Global, statement: &Statement) -> Result<bool, NoMemory
     ensures value { IfOk result (λ twice. twice ≡ (has_twice (ports_in statement.now) || has_twice (pins_in statement.now))) }
 {
     let ports = ports_in(alloc, statement)?;
-    let pins = pins_in(alloc, statement)?;
-    Ok(has_twice(alloc, ports.as_slice())? || has_twice(alloc, pins.as_slice())?)
+    Ok(has_twice(alloc, ports.as_slice())? || repeats_pin(alloc, statement)?)
 }
 
 /// The names of the statements so far.
 #[derive(Drop)]
 struct Seen<'a> {
     declared: DeclaredNames<'a>,
-    instances: HashSet<&'a [u8]>,
+    instances: NameSet<'a>,
     nets: Nets<'a>,
 }
 
@@ -257,9 +251,9 @@ impl<'a> Seen<'a> {
     {
         Seen {
             declared: DeclaredNames::new(alloc),
-            instances: HashSet::new(alloc),
+            instances: NameSet::with_hasher(alloc, NameState::new()),
             nets: Nets {
-                names: HashSet::new(alloc),
+                names: NameSet::with_hasher(alloc, NameState::new()),
                 closed: false,
             },
         }
@@ -287,14 +281,18 @@ impl<'a> Seen<'a> {
 }
 
 /// Answers the first statement that gives a name to something else than a statement before it, or twice.
-pub(crate) fn check_twice(alloc: Global, statements: &[Placed]) -> Result<(), ReadFault>
+pub(crate) fn check_twice<'a>(
+    alloc: Global,
+    all: &DeclaredNames<'a>,
+    statements: &[Placed<'a>],
+) -> Result<(), ReadFault>
     requires small { are_small statements.now ≡ true }
+    requires all { Keeps all.now (declarations statements.now) }
     ensures value { Answers result (check_twice statements.now) }
 {
-    let all = declared_names(alloc, statements)?;
     let mut seen = Seen::new(alloc);
     for placed in statements {
-        if seen.is_bad(alloc, &all, &placed.statement)? {
+        if seen.is_bad(alloc, all, &placed.statement)? {
             return Err(fault_at(Kind::VerilogTwice, placed.line));
         }
     }

@@ -16,6 +16,7 @@ mod cursor;
 mod laws;
 mod parser;
 mod reading;
+mod room;
 mod statement;
 mod words;
 mod written;

@@ -4,6 +4,7 @@ ghost use Rattle.text_scan.specs.Parsing.{Gives, GivesAll, list_at};
 ghost use Rattle.verilog_syntax.specs.Reading.{text_at, name_at, decimal_at, begins_at, bracket_at, part_at, bit_at, select_at, named_at, first_at, later_at, item_at, depth_behind, ends_one, items_at, start_of, expression_at, any_expression_at, connection_at, any_at, bounds_at, range_at, declare_at, is_a_constant, target_at, assign_at, instance_at, kind_of, statement_at, ports_at, header_at, statement_of, header_of};
 
 use crate::cursor::Cursor;
+use crate::room::{fitted, with_room};
 use crate::statement::{Connection, Declared, Expression, Item, Range, Statement};
 use crate::words::{is_constant, is_decimal, is_name};
 use crate::written::Written;
@@ -227,7 +228,7 @@ impl<'a, 's> Parser<'a, 's> {
         ensures value { Gives result self.new.tokens (items_at self.old.tokens) }
         ensures shorter { OnOk result (length self.new.tokens < length self.old.tokens) }
     {
-        let mut items = Rows::new(self.alloc);
+        let mut items = with_room(self.alloc, 1)?;
         let mut depth = 0;
         let mut ended = false;
         for _turn in 0..self.tokens.len() {
@@ -288,12 +289,13 @@ impl<'a, 's> Parser<'a, 's> {
         ensures value { Gives result self.new.tokens (list_at name_at closing self.old.tokens) }
         ensures shorter { OnOk result (length self.new.tokens < length self.old.tokens) }
     {
-        let mut names = Rows::new(self.alloc);
+        // a name and a mark each
+        let mut names = with_room(self.alloc, self.tokens.len() / 2)?;
         loop {
             let name = self.name()?;
             names.push(name)?;
             if !self.tokens.goes_on(closing)? {
-                return Ok(names);
+                return Ok(fitted(names));
             }
         }
     }
@@ -302,12 +304,14 @@ impl<'a, 's> Parser<'a, 's> {
         ensures value { Gives result self.new.tokens (list_at connection_at 41 self.old.tokens) }
         ensures shorter { OnOk result (length self.new.tokens < length self.old.tokens) }
     {
-        let mut connections = Rows::new(self.alloc);
+        // mostly six tokens each, and the semicolon
+        let count = self.tokens.len().saturating_sub(2) / 6 + 1;
+        let mut connections = with_room(self.alloc, count)?;
         loop {
             let connection = self.connection()?;
             connections.push(connection)?;
             if !self.tokens.goes_on(b')')? {
-                return Ok(connections);
+                return Ok(fitted(connections));
             }
         }
     }

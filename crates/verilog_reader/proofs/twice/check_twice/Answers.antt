@@ -16,7 +16,7 @@ returns-then-branch c =
     let ps = c.args.statements.now in
     let i = c.loop-placed.placed-index in
     let p = c.placed-item.result in
-    let tells = c.in_ok-is_bad.ensures.value ps (take i ps) p refl c.in_ok-all.ensures.value (small_front i ps c.requires.small) c.loop-placed.invariant.seen in
+    let tells = c.in_ok-is_bad.ensures.value ps (take i ps) p refl c.requires.all (small_front i ps c.requires.small) c.loop-placed.invariant.seen in
     record { value = rw c.fault_at.ensures.value (fails (bad_twice ps) VerilogTwice ps i p c.loop-placed-test.true c.placed-item.is (sym tells.is ∙ c.if-branch.true) c.loop-placed.invariant.same) }
 
 pub loop-placed-preserved : goal.loop-placed-preserved
@@ -24,7 +24,7 @@ loop-placed-preserved c =
     let ps = c.args.statements.now in
     let i = c.loop-placed.placed-index in
     let p = c.placed-item.result in
-    let tells = c.in_ok-is_bad.ensures.value ps (take i ps) p refl c.in_ok-all.ensures.value (small_front i ps c.requires.small) c.loop-placed.invariant.seen in
+    let tells = c.in_ok-is_bad.ensures.value ps (take i ps) p refl c.requires.all (small_front i ps c.requires.small) c.loop-placed.invariant.seen in
     record {
       same = passes (bad_twice ps) VerilogTwice ps i p c.loop-placed-test.true c.placed-item.is (sym tells.is ∙ c.if-branch.false) c.loop-placed.invariant.same;
       seen = subst (λ (front : List Placed). IsSeen ps front c.is_bad.new.self) (ap (λ (x : Placed). take i ps ++ x ∷ []) c.placed-item.is ∙ sym (take_more ps i p c.loop-placed-test.true)) (tells.kept c.if-branch.false);

@@ -6,4 +6,4 @@ use Rattle.verilog_reader.proofs.number.Vectors.new.Goals as goal
 
 pub returns-clause-counted : goal.returns-clause-counted
 unfolding vector_bits_from
-returns-clause-counted c = record { names = λ q. ap (list_any (λ k. bytes_eq q k.now)) c.new.ensures.empty; bits = refl }
+returns-clause-counted c = record { names = λ q. ap (list_any (λ k. bytes_eq q k.now)) c.with_hasher.ensures.empty; bits = refl }

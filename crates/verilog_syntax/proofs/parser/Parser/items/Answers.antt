@@ -6,14 +6,14 @@ use Rattle.verilog_syntax.proofs.parser.Parser.items.Goals.{else-ended-via-then-
 
 pub loop-turn-init : goal.loop-turn-init
 loop-turn-init c = record {
-  read = rw c.new-items.ensures.value (begins (c.len-turn-end.result - 0) c.args.self.now.tokens (omega (arith, c.len-turn-end.ensures.value)));
+  read = rw c.in_ok-items.ensures.value (begins (c.len-turn-end.result - 0) c.args.self.now.tokens (omega (arith, c.len-turn-end.ensures.value)));
   deep = omega arith;
   shorter = omega arith;
 }
 
 pub returns-in_err-item-clause-value : goal.returns-in_err-item-clause-value
 returns-in_err-item-clause-value c =
-    let p = err_from_is_err_and c.from_residual.result c.from_residual.ensures.1 in
+    let p = err_from_is_err_and c.from_residual-in_err-item.result c.from_residual-in_err-item.ensures.1 in
     rw (p.1, p.2) (item_stops _ c.loop-turn.items c.loop-turn.depth c.loop-turn.ended c.loop-turn.self.tokens _ c.in_err-item.field-0.0 _ _ c.in_err-item.ensures.value c.loop-turn.invariant.read)
 
 pub returns-then-depth-eq0-clause-value : goal.returns-then-depth-eq0-clause-value

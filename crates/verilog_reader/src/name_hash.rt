@@ -1,0 +1,47 @@
+//! Hashes of names.
+ghost use Rattle.std.specs.Prelude.{◌≡◌};
+ghost use Rattle.verilog_reader.specs.NameHashes.{initial, written};
+
+use std::collections::{HashMap, HashSet};
+use std::hash::{BuildHasherDefault, Hasher};
+
+/// Multiplies byte by byte. What is written as more than one byte, as a length, leaves it as it was: the bytes of a name tell
+/// its length too.
+#[derive(Clone, Copy)]
+pub(crate) struct NameHasher {
+    state: u64,
+}
+
+impl Default for NameHasher {
+    ghost is_default = { λ h. h ≡ initial };
+
+    fn default() -> NameHasher {
+        NameHasher { state: 0 }
+    }
+}
+
+impl Hasher for NameHasher {
+    ghost write = { written };
+
+    ghost finish = { λ h. h.state };
+
+    #[inline(always)]
+    fn finish(&self) -> u64 {
+        self.state
+    }
+
+    #[inline(always)]
+    fn write(&mut self, bytes: &[u8]) {
+        if let [byte] = bytes {
+            self.state = (self.state ^ u64::from(*byte)).wrapping_mul(0x9e37_79b9_7f4a_7c15);
+        }
+    }
+}
+
+pub(crate) type NameState = BuildHasherDefault<NameHasher>;
+
+/// Names, each once.
+pub(crate) type NameSet<'a> = HashSet<&'a [u8], NameState>;
+
+/// What belongs to each of some names.
+pub(crate) type NameMap<'a, V> = HashMap<&'a [u8], V, NameState>;
