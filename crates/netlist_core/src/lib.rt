@@ -5,12 +5,14 @@
 //! `netlist.rt`.
 #![tactic(auto)]
 
+mod bit_list;
 mod classes;
 mod form;
 mod netlist;
 mod pins;
 pub mod plain;
 
+pub use bit_list::Bits;
 pub use classes::{Classes, classes_of};
 pub use form::is_netlist;
 pub use netlist::{

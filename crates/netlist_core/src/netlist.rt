@@ -1,3 +1,4 @@
+use crate::bit_list::Bits;
 use text_scan::{Name, Rows, Span};
 
 /// The number of a net bit: its place in the netlist's list of nets.
@@ -5,7 +6,7 @@ use text_scan::{Name, Rows, Span};
 pub struct NetId(pub u32);
 
 /// One bit of an expression.
-#[derive(Clone, Copy, Debug, PartialEq, Eq)]
+#[derive(Clone, Copy, Debug, Default, PartialEq, Eq)]
 pub enum Bit {
     /// A net bit.
     Net(NetId),
@@ -14,13 +15,14 @@ pub enum Bit {
     /// A bit 1 of a constant.
     One,
     /// A bit `x` or `z` of a constant.
+    #[default]
     Unknown,
 }
 
 /// An expression: its bits from the left, and where it stands.
 #[derive(Debug, Drop)]
 pub struct Expr {
-    pub bits: Rows<Bit>,
+    pub bits: Bits,
     /// From the first token to the last; in `.pin()` empty, at the closing parenthesis.
     pub span: Span,
 }

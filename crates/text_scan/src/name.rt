@@ -1,13 +1,14 @@
 ghost use Rattle.std.specs.Prelude.{◌≡◌, IfOk};
 
 use crate::memory::NoMemory;
+use smallvec::SmallVec;
 use std::alloc::Global;
 use std::marker::Model;
 
-/// A name, which contracts see as its bytes.
+/// A name, which contracts see as its bytes. Up to 16 bytes lie in the name itself.
 #[derive(Debug, Drop)]
 pub struct Name {
-    bytes: Vec<u8>,
+    bytes: SmallVec<u8, 16>,
 }
 
 impl Model for Name {
@@ -23,7 +24,9 @@ impl Name {
     pub fn of(bytes: Vec<u8>) -> Name
         ensures value { result ≡ bytes.items }
     {
-        Name { bytes }
+        Name {
+            bytes: SmallVec::from_vec(bytes),
+        }
     }
 
     /// A copy of these bytes, or want of memory.
@@ -31,7 +34,7 @@ impl Name {
         ensures value { IfOk result (λ name. name ≡ bytes.now) }
     {
         Ok(Name {
-            bytes: Vec::from_slice(alloc, bytes)?,
+            bytes: SmallVec::from_slice(alloc, bytes)?,
         })
     }
 
