@@ -1,0 +1,65 @@
+ghost use Rattle.std.specs.Prelude.{◌≡◌, [], ◌∷◌, ◌++◌, IfOk, OnOk};
+
+use crate::netlist::Bit;
+use smallvec::SmallVec;
+use std::alloc::Global;
+use std::marker::Model;
+use text_scan::NoMemory;
+
+/// The bits of an expression from the left, which contracts see as their list. Up to two lie in the value itself.
+#[derive(Debug, Drop)]
+pub struct Bits {
+    bits: SmallVec<Bit, 2>,
+}
+
+impl Model for Bits {
+    ghost use Rattle.std.specs.Prelude.{List};
+    ghost use Rattle.netlist_core.specs.declared.netlist.Bit.{Bit as ghost_bit};
+
+    ghost Value = { List ghost_bit };
+
+    ghost view = { λ b. b.bits.items };
+}
+
+impl Bits {
+    /// No bits; takes no memory.
+    pub fn new(alloc: Global) -> Bits
+        ensures value { result ≡ [] }
+    {
+        Bits {
+            bits: SmallVec::new(alloc),
+        }
+    }
+
+    /// No bits, and room for so many.
+    pub fn with_room(alloc: Global, count: usize) -> Result<Bits, NoMemory>
+        ensures value { IfOk result (λ bits. bits ≡ []) }
+    {
+        Ok(Bits {
+            bits: SmallVec::with_capacity(alloc, count)?,
+        })
+    }
+
+    /// A copy of these bits, or want of memory.
+    pub fn copy(alloc: Global, bits: &[Bit]) -> Result<Bits, NoMemory>
+        ensures value { IfOk result (λ copy. copy ≡ bits.now) }
+    {
+        Ok(Bits {
+            bits: SmallVec::from_slice(alloc, bits)?,
+        })
+    }
+
+    pub fn as_slice(&self) -> &[Bit]
+        ensures value { result.now ≡ self.now }
+    {
+        self.bits.as_slice()
+    }
+
+    /// Puts a bit behind the last one.
+    pub fn push(&mut self, bit: Bit) -> Result<(), NoMemory>
+        ensures ok { OnOk result (self.new ≡ self.old ++ bit ∷ []) }
+    {
+        self.bits.push(bit)?;
+        Ok(())
+    }
+}
