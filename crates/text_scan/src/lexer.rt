@@ -1,7 +1,7 @@
 //! The tokens of a Verilog text, one by one.
 ghost use Rattle.std.specs.Prelude.{◌≡◌, ◌≤◌, ◌<◌, ◌^◌, ◌∷◌, [], length, drop, MatchOption};
 ghost use Rattle.text_scan.specs.Pieces.{tokens_from};
-ghost use Rattle.text_scan.specs.Tokens.{tokens_of, IsSpanOf};
+ghost use Rattle.text_scan.specs.Tokens.{token_of, IsSpanOf};
 ghost use Rattle.text_scan.specs.VerilogTokens.{piece_at, verilog_tokens};
 
 use crate::piece::Piece;
@@ -33,8 +33,8 @@ fn token_from(text: &[u8], from: usize) -> Option<Span>
     None
 }
 
-/// Takes the tokens of a Verilog text of less than 4 GiB one by one, which contracts see as the list of those that are
-/// still to come. They are those of `verilog_tokens`; no memory is taken.
+/// Takes the tokens of a Verilog text of less than 4 GiB one by one, which contracts see as the text and the spans of the
+/// tokens that are still to come. They are those of `verilog_tokens`; no memory is taken.
 #[derive(Debug, Drop)]
 pub struct VerilogLexer<'a> {
     text: &'a [u8],
@@ -42,14 +42,14 @@ pub struct VerilogLexer<'a> {
 }
 
 impl<'a> Model for VerilogLexer<'a> {
-    ghost use Rattle.std.specs.Prelude.{◌≤◌, ◌<◌, ◌^◌, List, length, drop};
+    ghost use Rattle.std.specs.Prelude.{◌≤◌, ◌<◌, ◌^◌, length, drop};
     ghost use Rattle.text_scan.specs.Pieces.{tokens_from};
-    ghost use Rattle.text_scan.specs.Tokens.{Token, tokens_of};
+    ghost use Rattle.text_scan.specs.Tokens.{Tokenized};
     ghost use Rattle.text_scan.specs.VerilogTokens.{piece_at};
 
-    ghost Value = { List Token };
+    ghost Value = { Tokenized };
 
-    ghost view = { λ l. tokens_of l.text.now (tokens_from piece_at l.at 0 (drop l.at l.text.now)) };
+    ghost view = { λ l. record { source = l.text.now; spans = tokens_from piece_at l.at 0 (drop l.at l.text.now) } };
 
     ghost invariant = { λ l. (l.at ≤ length l.text.now) × (length l.text.now < 2 ^ 32) };
 }
@@ -58,15 +58,17 @@ impl<'a> VerilogLexer<'a> {
     /// The tokens of a text.
     pub fn of(text: &'a [u8]) -> VerilogLexer<'a>
         requires small { length text.now < 2 ^ 32 }
-        ensures value { result ≡ tokens_of text.now (verilog_tokens text.now) }
+        ensures value { result ≡ record { source = text.now; spans = verilog_tokens text.now } }
     {
         VerilogLexer { text, at: 0 }
     }
 
     /// Takes the next token.
     pub fn next(&mut self) -> Option<Lexeme<'a>>
-        ensures value { MatchOption result ((self.old ≡ []) × (self.new ≡ []))
-            (λ t. self.old ≡ record { text = t.text.now; start = t.span.start; end = t.span.end } ∷ self.new) }
+        ensures value { MatchOption result ((self.old.spans ≡ []) × (self.new.spans ≡ [])) (λ t. self.old.spans ≡ t.span ∷ self.new.spans) }
+        ensures source { self.new.source ≡ self.old.source }
+        ensures text { MatchOption result (self.old.spans ≡ []) (λ t. t.text.now ≡ (token_of self.old.source t.span).text) }
+        ensures within { MatchOption result (self.old.spans ≡ []) (λ t. IsSpanOf self.old.source t.span) }
     {
         let Some(span) = token_from(self.text, self.at) else {
             return None;
