@@ -7,8 +7,8 @@ ghost use Rattle.chain_trace.specs.Paths.{is_driven, has_port};
 use crate::{BitId, Step, bits_of, input_named, output_named, plain_of, trace};
 use cell_table::{CellTable, read_table, small_table};
 use netlist_core::{
-    Assign, Bit, Classes, Connection, Direction, Expr, Instance, NetId, NetName, Netlist, Port,
-    classes_of, is_netlist,
+    Assign, Bit, Bits, Classes, Connection, Direction, Expr, Instance, NetId, NetName, Netlist,
+    Port, classes_of, is_netlist,
 };
 use std::alloc::{Alloc, Global};
 use std::process::Abort;
@@ -63,7 +63,7 @@ fn of_nets(alloc: Global, count: u32) -> Result<Netlist, NoMemory> {
 }
 
 fn one_net(alloc: Global, net: u32) -> Result<Expr, NoMemory> {
-    let mut bits = Rows::new(alloc);
+    let mut bits = Bits::new(alloc);
     bits.push(Bit::Net(NetId(net)))?;
     Ok(Expr {
         bits,

@@ -6,7 +6,7 @@ ghost use Rattle.net_edit.specs.Erasure.{is_sink_bit, is_sink_assign, erased_ass
 
 use crate::instances::copy_expr;
 use crate::sinks::Sinks;
-use netlist_core::{Assign, Bit, Expr, NetId, NetName};
+use netlist_core::{Assign, Bit, Bits, Expr, NetId, NetName};
 use std::alloc::Global;
 use text_scan::{NoMemory, Rows};
 
@@ -44,7 +44,7 @@ fn is_sink_assign(nets: &[NetName], sinks: &Sinks, left: &[Bit], right: &[Bit]) 
 fn blank_expr(alloc: Global, expr: &Expr) -> Result<Expr, NoMemory>
     ensures value { IfOk result (λ blank. blank.bits ≡ Unknown ∷ []) }
 {
-    let mut bits = Rows::new(alloc);
+    let mut bits = Bits::new(alloc);
     bits.push(Bit::Unknown)?;
     Ok(Expr {
         bits,

@@ -5,7 +5,7 @@ ghost use Rattle.netlist_core.specs.Netlists.{named_pin, named_instance};
 ghost use Rattle.net_edit.specs.Erasure.{erased_pin, erased_instance};
 
 use crate::sinks::Sinks;
-use netlist_core::{Connection, Expr, Instance};
+use netlist_core::{Bits, Connection, Expr, Instance};
 use std::alloc::Global;
 use text_scan::{Name, NoMemory, Rows};
 
@@ -13,7 +13,7 @@ pub(crate) fn copy_expr(alloc: Global, expr: &Expr) -> Result<Expr, NoMemory>
     ensures value { IfOk result (λ copy. copy ≡ expr.now) }
 {
     Ok(Expr {
-        bits: Rows::of(Vec::from_slice(alloc, expr.bits.as_slice())?),
+        bits: Bits::copy(alloc, expr.bits.as_slice())?,
         span: expr.span,
     })
 }
@@ -23,7 +23,7 @@ fn erased_expr(alloc: Global, is_sink: bool, expr: &Expr) -> Result<Expr, NoMemo
 {
     if is_sink {
         Ok(Expr {
-            bits: Rows::new(alloc),
+            bits: Bits::new(alloc),
             span: expr.span,
         })
     } else {

@@ -3,7 +3,8 @@ use crate::{Edits, PinEdit, PortEdit, SinkPin, Sinks, edits_for, erased, is_free
 use cell_table::CellTable;
 use chain_trace::{Path, Step};
 use netlist_core::{
-    Assign, Bit, Connection, Direction, Expr, Instance, NetId, NetName, Netlist, Port, is_netlist,
+    Assign, Bit, Bits, Connection, Direction, Expr, Instance, NetId, NetName, Netlist, Port,
+    is_netlist,
 };
 use std::alloc::Global;
 use std::test::Fail;
@@ -14,7 +15,7 @@ fn name(alloc: Global, text: &str) -> Result<Name, Fail> {
 }
 
 fn net(alloc: Global, number: u32) -> Result<Expr, Fail> {
-    let mut bits = Rows::new(alloc);
+    let mut bits = Bits::new(alloc);
     bits.push(Bit::Net(NetId(number)))?;
     let span = Span { start: 0, end: 0 };
     Ok(Expr { bits, span })

@@ -1,5 +1,5 @@
 use crate::{
-    Assign, Bit, Connection, Expr, Instance, NetId, NetName, Netlist, classes_of, is_netlist,
+    Assign, Bit, Bits, Connection, Expr, Instance, NetId, NetName, Netlist, classes_of, is_netlist,
     net_of, plain,
 };
 use std::alloc::{Alloc, Global};
@@ -33,7 +33,7 @@ fn net(number: u32) -> Bit {
 
 fn expression(alloc: Global, bits: &[Bit]) -> Result<Expr, NoMemory> {
     Ok(Expr {
-        bits: Rows::of(Vec::from_slice(alloc, bits)?),
+        bits: Bits::copy(alloc, bits)?,
         span: Span { start: 0, end: 0 },
     })
 }

@@ -10,12 +10,12 @@ use crate::entry::Entry;
 use crate::nets::Nets;
 use crate::values::plain_of;
 use crate::vectors::{number_of, offset_in, width, width_or_one};
-use netlist_core::{Bit, Expr, NetId};
+use netlist_core::{Bit, Bits, Expr, NetId};
 use std::alloc::Global;
-use text_scan::{NoMemory, Rows};
+use text_scan::NoMemory;
 use verilog_syntax::{Expression, Item};
 
-fn push_nets(bits: &mut Rows<Bit>, first: u32, end: u32) -> Result<(), NoMemory>
+fn push_nets(bits: &mut Bits, first: u32, end: u32) -> Result<(), NoMemory>
     ensures ok { OnOk result (bits.new ≡ bits.old ++ net_bits first (end - first)) }
 {
     for number in first..end {
@@ -24,7 +24,7 @@ fn push_nets(bits: &mut Rows<Bit>, first: u32, end: u32) -> Result<(), NoMemory>
     Ok(())
 }
 
-fn push_all(bits: &mut Rows<Bit>, entry: Entry) -> Result<(), NoMemory>
+fn push_all(bits: &mut Bits, entry: Entry) -> Result<(), NoMemory>
     requires { entry.first + width_or_one entry.bounds < 2 ^ 32 }
     ensures ok { OnOk result (bits.new ≡ bits.old ++ all_bits (Some entry)) }
 {
@@ -32,7 +32,7 @@ fn push_all(bits: &mut Rows<Bit>, entry: Entry) -> Result<(), NoMemory>
     push_nets(bits, entry.first, end)
 }
 
-fn push_one(bits: &mut Rows<Bit>, entry: Entry, index: u32) -> Result<(), NoMemory>
+fn push_one(bits: &mut Bits, entry: Entry, index: u32) -> Result<(), NoMemory>
     requires within { entry.first + width_or_one entry.bounds < 2 ^ 32 }
     requires selects { selects entry.bounds index ≡ true }
     ensures ok { OnOk result (bits.new ≡ bits.old ++ one_bit (Some entry) index) }
@@ -40,7 +40,7 @@ fn push_one(bits: &mut Rows<Bit>, entry: Entry, index: u32) -> Result<(), NoMemo
     bits.push(Bit::Net(NetId(entry.first + offset_in(entry.bounds, index))))
 }
 
-fn push_part(bits: &mut Rows<Bit>, entry: Entry, part: Bounds) -> Result<(), NoMemory>
+fn push_part(bits: &mut Bits, entry: Entry, part: Bounds) -> Result<(), NoMemory>
     requires within { entry.first + width_or_one entry.bounds < 2 ^ 32 }
     requires selects { selects_part entry.bounds part ≡ true }
     ensures ok { OnOk result (bits.new ≡ bits.old ++ part_bits (Some entry) part) }
@@ -49,7 +49,7 @@ fn push_part(bits: &mut Rows<Bit>, entry: Entry, part: Bounds) -> Result<(), NoM
     push_nets(bits, first, first + width(part) as u32)
 }
 
-fn push_constant(alloc: Global, bits: &mut Rows<Bit>, text: &[u8]) -> Result<(), NoMemory>
+fn push_constant(alloc: Global, bits: &mut Bits, text: &[u8]) -> Result<(), NoMemory>
     requires { is_bad_size text.now ≡ false }
     ensures ok { OnOk result (bits.new ≡ bits.old ++ constant_bits text.now) }
 {
@@ -59,7 +59,7 @@ fn push_constant(alloc: Global, bits: &mut Rows<Bit>, text: &[u8]) -> Result<(),
     Ok(())
 }
 
-fn push_item(alloc: Global, bits: &mut Rows<Bit>, nets: &Nets, item: &Item) -> Result<(), NoMemory>
+fn push_item(alloc: Global, bits: &mut Bits, nets: &Nets, item: &Item) -> Result<(), NoMemory>
     requires { IsFineItem nets.now item.now }
     ensures ok { OnOk result (bits.new ≡ bits.old ++ numbered_item nets.now item.now) }
 {
@@ -80,11 +80,11 @@ fn push_item(alloc: Global, bits: &mut Rows<Bit>, nets: &Nets, item: &Item) -> R
     }
 }
 
-fn bits_of(alloc: Global, nets: &Nets, items: &[Item]) -> Result<Rows<Bit>, NoMemory>
+fn bits_of(alloc: Global, nets: &Nets, items: &[Item]) -> Result<Bits, NoMemory>
     requires { All (IsFineItem nets.now) items.now }
     ensures value { IfOk result (λ bits. bits ≡ numbered_items nets.now items.now) }
 {
-    let mut bits = Rows::of(Vec::with_capacity(alloc, items.len())?);
+    let mut bits = Bits::with_room(alloc, items.len())?;
     for item in items {
         push_item(alloc, &mut bits, nets, item)?;
     }
