@@ -19,6 +19,7 @@ mod span;
 mod stop;
 mod tokens;
 mod verilog;
+mod verilog_bytes;
 mod word;
 
 pub use escapes::plain_name;
@@ -35,6 +36,7 @@ pub use span::{Point, Span};
 pub use stop::Stop;
 pub use tokens::{Lexeme, Tokens};
 pub use verilog::verilog_tokens;
+pub use verilog_bytes::{is_blank, is_digit, is_word, is_word_start};
 pub use word::Word;
 
 #[cfg(test)]
