@@ -1,5 +1,5 @@
 -- How many places hold a byte.
-use Rattle.std.proofs.Common.{◌≡◌, ℕ, zero, suc, ◌+◌, ◌≤◌, Bool, true, false, cond, List, [], ◌∷◌, length, take, drop, get_or, refl, sym, ap, ◌∙◌, arith}
+use Rattle.std.proofs.Common.{◌≡◌, ℕ, zero, suc, ◌+◌, ◌-◌, ◌≤◌, Bool, true, false, cond, List, ◌∷◌, length, take, drop, get_or, refl, sym, ap, ◌∙◌, arith}
 use Rattle.std.specs.List.{count_by}
 use Rattle.std.proofs.lemmas.List.{drop_more, take_all}
 use Rattle.std.proofs.lemmas.List.Sums.{sum_by-cons}
@@ -19,4 +19,5 @@ places_from-count test hay i (suc n) h =
 
 pub places-count : (test : ℕ → Bool) (hay : List ℕ) → length (places test hay) ≡ count_by test hay
 places-count test hay =
-    places_from-count test hay 0 (length hay) (omega arith) ∙ ap (count_by test) (take_all (length hay) hay (omega arith))
+    let all : length hay - 0 ≡ length hay = omega arith in
+    rw all (places_from-count test hay 0 (length hay) (omega arith) ∙ ap (count_by test) (take_all (length hay) hay (omega arith)))

@@ -1,13 +1,12 @@
 -- What a reader takes is what its value is spelled by: marks, words and lists with commas, for any reader.
-use Rattle.std.proofs.Common.{◌≡◌, ℕ, zero, suc, ◌+◌, ◌<◌, Bool, true, false, cond, List, [], ◌∷◌, ◌++◌, map, length, Option, Some, None, refl, sym, ap, ◌∙◌, subst, arith, append_assoc}
+use Rattle.std.proofs.Common.{◌≡◌, ℕ, zero, suc, ◌<◌, Bool, true, false, cond, List, [], ◌∷◌, ◌++◌, length, Option, Some, refl, sym, ap, ◌∙◌, subst, arith, append_assoc}
 use Rattle.std.specs.Str.{bytes_eq}
 use Rattle.std.proofs.lemmas.Slice.Eq.{bytes_eq-Decides}
 use Rattle.std.proofs.lemmas.List.{map-append}
 use Rattle.std.proofs.lemmas.Option.{option_and_then_some, cond_some, same_Some}
 use Rattle.text_scan.specs.Tokens.{Token}
-use Rattle.text_scan.specs.Each.{Each}
-use Rattle.text_scan.specs.Parsing.{◌>>=◌, word_at, mark_at, goes_on_at, list_within, list_at}
-use Rattle.text_scan.specs.Parts.{Part, Fixed, Slot, list_parts, spelled, token_texts, FitsFixed, FitsSlot, Fits, Spells, SpellsList}
+use Rattle.text_scan.specs.Parsing.{word_at, mark_at, goes_on_at, list_within, list_at}
+use Rattle.text_scan.specs.Parts.{Part, Fixed, Slot, list_parts, spelled, token_texts, FitsFixed, Fits, Spells, SpellsList}
 
 pub same_bytes : (a b : List ℕ) → bytes_eq a b ≡ true → a ≡ b
 same_bytes a b e = (bytes_eq-Decides a b).0 e

@@ -1,11 +1,11 @@
 -- Tokens that spell a value are read as it: marks, words and lists with commas, for any reader.
-use Rattle.std.proofs.Common.{◌≡◌, ℕ, zero, suc, ◌+◌, ◌<◌, ◌≤◌, Bool, true, false, cond, eqb, List, [], ◌∷◌, ◌++◌, length, map, Option, Some, None, refl, sym, ap, ◌∙◌, subst, arith, append_assoc, length-append}
+use Rattle.std.proofs.Common.{◌≡◌, ℕ, zero, suc, ◌<◌, ◌≤◌, true, false, eqb, List, [], ◌∷◌, ◌++◌, length, map, Option, Some, refl, sym, ap, ◌∙◌, arith, append_assoc, length-append}
 use Rattle.std.specs.Str.{bytes_eq}
 use Rattle.std.proofs.lemmas.Slice.Eq.{bytes_eq-Decides}
 use Rattle.std.proofs.lemmas.List.{length-map}
 use Rattle.text_scan.specs.Tokens.{Token}
 use Rattle.text_scan.specs.Each.{Each}
-use Rattle.text_scan.specs.Parsing.{◌>>=◌, word_at, mark_at, goes_on_at, list_within, list_at}
+use Rattle.text_scan.specs.Parsing.{word_at, mark_at, goes_on_at, list_within, list_at}
 use Rattle.text_scan.specs.Parts.{Part, Fixed, Slot, list_parts, spelled, token_texts}
 
 pub spelled_append : (ps qs : List Part) → spelled (ps ++ qs) ≡ spelled ps ++ spelled qs

@@ -30,6 +30,7 @@ pub use lexer::VerilogLexer;
 pub use lines::{Lines, line_of};
 pub use memory::NoMemory;
 pub use name::{Name, Text};
+pub use number::is_digit_of;
 pub use piece::Piece;
 pub use rows::Rows;
 pub use span::{Point, Span};

@@ -2,8 +2,9 @@ ghost use Rattle.std.specs.Prelude.{◌≡◌, ◌≤◌, length};
 ghost use Rattle.std.specs.List.{prefix_len};
 ghost use Rattle.text_scan.specs.VerilogTokens.{is_digit, is_digit_of, digits_len, based_len, number_len};
 
+/// A digit of a constant with this base letter, `b`, `o`, `d` or `h` of either case.
 #[tactic(auto, unfolding(crate::specs::VerilogTokens::is_digit_of))]
-fn is_digit_of(base: u8, digit: u8) -> bool
+pub fn is_digit_of(base: u8, digit: u8) -> bool
     ensures { result ≡ is_digit_of base digit }
 {
     let unknown = matches!(digit, b'x' | b'z' | b'X' | b'Z' | b'?');

@@ -4,7 +4,7 @@ ghost use Rattle.text_scan.specs.Parsing.{Gives, begins_with, word_at, mark_at, 
 use crate::stop::Stop;
 use crate::tokens::Tokens;
 
-impl Tokens<'_> {
+impl Tokens<'_, '_> {
     /// Whether a token with this text stands first.
     pub fn begins_with(&self, text: &[u8]) -> bool
         ensures value { result ≡ begins_with text.now self.now }

@@ -1,4 +1,4 @@
-use Rattle.std.proofs.Common.{◌∙◌, ap, arith, length}
+use Rattle.std.proofs.Common.{arith}
 use Rattle.memchr.specs.Find.{is_byte}
 use Rattle.text_scan.proofs.CountedPlaces.{places-count}
 use Rattle.text_scan.proofs.lines.line_feeds.Goals as goal
