@@ -48,22 +48,15 @@ fn has_constant(items: &[Item<'_>]) -> bool
 fn kind_of(word: &[u8]) -> Option<Declared>
     ensures value { result ≡ kind_of word.now }
 {
-    if word == b"input".as_slice() {
-        Some(Declared::Input)
-    } else if word == b"output".as_slice() {
-        Some(Declared::Output)
-    } else if word == b"inout".as_slice() {
-        Some(Declared::Inout)
-    } else if word == b"wire".as_slice() {
-        Some(Declared::Wire)
-    } else if word == b"tri".as_slice() {
-        Some(Declared::Tri)
-    } else if word == b"supply0".as_slice() {
-        Some(Declared::Supply0)
-    } else if word == b"supply1".as_slice() {
-        Some(Declared::Supply1)
-    } else {
-        None
+    match word {
+        [b'i', ..] if word == b"input".as_slice() => Some(Declared::Input),
+        [b'i', ..] if word == b"inout".as_slice() => Some(Declared::Inout),
+        [b'o', ..] if word == b"output".as_slice() => Some(Declared::Output),
+        [b's', ..] if word == b"supply0".as_slice() => Some(Declared::Supply0),
+        [b's', ..] if word == b"supply1".as_slice() => Some(Declared::Supply1),
+        [b't', ..] if word == b"tri".as_slice() => Some(Declared::Tri),
+        [b'w', ..] if word == b"wire".as_slice() => Some(Declared::Wire),
+        _ => None,
     }
 }
 
