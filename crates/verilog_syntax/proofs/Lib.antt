@@ -4,7 +4,7 @@ pub mod BodyLengths
 pub mod Closing
 pub mod Digits
 pub mod Forms
-pub mod Items
+pub mod ItemLoops
 pub mod ItemsTaken
 pub mod Modules
 pub mod Places

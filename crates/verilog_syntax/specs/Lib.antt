@@ -1,3 +1,4 @@
+pub mod ItemLists
 pub mod Words
 pub mod Grammar
 pub mod Reading

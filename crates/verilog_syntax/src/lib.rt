@@ -13,6 +13,7 @@
 #![tactic(auto)]
 
 mod cursor;
+mod item_list;
 mod laws;
 mod parser;
 mod reading;
@@ -21,6 +22,7 @@ mod statement;
 mod words;
 mod written;
 
+pub use item_list::Items;
 pub use laws::grammar_law;
 pub use reading::{Placed, read_statements};
 pub use statement::{Connection, Declared, Expression, Item, Range, Statement};

@@ -4,6 +4,7 @@ ghost use Rattle.text_scan.specs.Parsing.{Gives, GivesAll, list_at};
 ghost use Rattle.verilog_syntax.specs.Reading.{text_at, name_at, decimal_at, begins_at, bracket_at, part_at, bit_at, select_at, named_at, first_at, later_at, item_at, depth_behind, ends_one, items_at, start_of, expression_at, any_expression_at, connection_at, any_at, bounds_at, range_at, declare_at, is_a_constant, target_at, assign_at, instance_at, kind_of, statement_at, ports_at, header_at, statement_of, header_of};
 
 use crate::cursor::Cursor;
+use crate::item_list::Items;
 use crate::room::{fitted, with_room};
 use crate::statement::{Connection, Declared, Expression, Item, Range, Statement};
 use crate::words::{is_constant, is_decimal, is_name};
@@ -47,22 +48,15 @@ fn has_constant(items: &[Item<'_>]) -> bool
 fn kind_of(word: &[u8]) -> Option<Declared>
     ensures value { result ≡ kind_of word.now }
 {
-    if word == b"input".as_slice() {
-        Some(Declared::Input)
-    } else if word == b"output".as_slice() {
-        Some(Declared::Output)
-    } else if word == b"inout".as_slice() {
-        Some(Declared::Inout)
-    } else if word == b"wire".as_slice() {
-        Some(Declared::Wire)
-    } else if word == b"tri".as_slice() {
-        Some(Declared::Tri)
-    } else if word == b"supply0".as_slice() {
-        Some(Declared::Supply0)
-    } else if word == b"supply1".as_slice() {
-        Some(Declared::Supply1)
-    } else {
-        None
+    match word {
+        [b'i', ..] if word == b"input".as_slice() => Some(Declared::Input),
+        [b'i', ..] if word == b"inout".as_slice() => Some(Declared::Inout),
+        [b'o', ..] if word == b"output".as_slice() => Some(Declared::Output),
+        [b's', ..] if word == b"supply0".as_slice() => Some(Declared::Supply0),
+        [b's', ..] if word == b"supply1".as_slice() => Some(Declared::Supply1),
+        [b't', ..] if word == b"tri".as_slice() => Some(Declared::Tri),
+        [b'w', ..] if word == b"wire".as_slice() => Some(Declared::Wire),
+        _ => None,
     }
 }
 
@@ -224,20 +218,27 @@ impl<'a, 's> Parser<'a, 's> {
 
     /// The pieces of an expression, and where the last one ends. Each takes a token at least, so there are no more turns
     /// than tokens; `depth` counts the braces that are open.
-    fn items(&mut self) -> Result<(Rows<Item<'a>>, u32), Stop>
+    fn items(&mut self) -> Result<(Items<'a>, u32), Stop>
         ensures value { Gives result self.new.tokens (items_at self.old.tokens) }
         ensures shorter { OnOk result (length self.new.tokens < length self.old.tokens) }
     {
-        let mut items = with_room(self.alloc, 1)?;
-        let mut depth = 0;
+        let most = self.tokens.len();
+        let (first, end) = self.item(false)?;
+        if ends_one(&first) {
+            return Ok((Items::one(first), end));
+        }
+        let mut depth = depth_behind(0, &first);
         let mut ended = false;
-        for _turn in 0..self.tokens.len() {
+        let mut items = Vec::new(self.alloc);
+        items.push(first)?;
+        for _turn in 1..most {
             let (item, end) = self.item(ended)?;
             depth = depth_behind(depth, &item);
             ended = ends_one(&item);
             items.push(item)?;
             if ended && depth == 0 {
-                return Ok((items, end));
+                items.shrink_to_fit();
+                return Ok((Items::of(items), end));
             }
         }
         Err(Stop::NoForm)
@@ -264,7 +265,7 @@ impl<'a, 's> Parser<'a, 's> {
         if token.text == b")".as_slice() {
             let start = token.span.start;
             let span = Span { start, end: start };
-            let items = Rows::new(self.alloc);
+            let items = Items::new();
             return Ok(Expression { items, span });
         }
         self.expression()

@@ -1,3 +1,4 @@
+use crate::item_list::Items;
 use crate::written::Written;
 use text_scan::{Rows, Span};
 
@@ -48,7 +49,7 @@ pub enum Item<'a> {
 /// An expression: its pieces in the order of the text, none in `.pin()`, and where it stands.
 #[derive(Debug, Drop)]
 pub struct Expression<'a> {
-    pub items: Rows<Item<'a>>,
+    pub items: Items<'a>,
     /// From the first token to the last; in `.pin()` empty, at the closing parenthesis.
     pub span: Span,
 }

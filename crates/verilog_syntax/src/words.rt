@@ -10,16 +10,17 @@ ghost use Rattle.verilog_syntax.specs.Words.{is_reserved, is_name, is_decimal, i
 pub fn is_reserved(text: &[u8]) -> bool
     ensures value { result ≡ is_reserved text.now }
 {
-    text == b"module".as_slice()
-        || text == b"endmodule".as_slice()
-        || text == b"assign".as_slice()
-        || text == b"input".as_slice()
-        || text == b"output".as_slice()
-        || text == b"inout".as_slice()
-        || text == b"wire".as_slice()
-        || text == b"tri".as_slice()
-        || text == b"supply0".as_slice()
-        || text == b"supply1".as_slice()
+    match text {
+        [b'a', ..] => text == b"assign".as_slice(),
+        [b'e', ..] => text == b"endmodule".as_slice(),
+        [b'i', ..] => text == b"input".as_slice() || text == b"inout".as_slice(),
+        [b'm', ..] => text == b"module".as_slice(),
+        [b'o', ..] => text == b"output".as_slice(),
+        [b's', ..] => text == b"supply0".as_slice() || text == b"supply1".as_slice(),
+        [b't', ..] => text == b"tri".as_slice(),
+        [b'w', ..] => text == b"wire".as_slice(),
+        _ => false,
+    }
 }
 
 fn is_blank(b: u8) -> bool

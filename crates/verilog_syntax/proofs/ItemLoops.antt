@@ -87,3 +87,13 @@ module _ (fuel : ℕ) (front : List Item) (depth : ℕ) (ended : Bool) (ts : Lis
 
     pub goes_on_inside : b ≡ false → SoFar fuel front depth ended ts total → SoFar n (front ++ item ∷ []) d b rest total
     goes_on_inside b-false s = goes_on (rw b-false refl) s
+
+-- an expression that ends with its first item leaves no brace open
+pub ends_outermost : (item : Item) → ends_one item ≡ true → depth_behind 0 item ≡ 0
+ends_outermost items.Open e = absurd cc
+ends_outermost items.Comma e = absurd cc
+ends_outermost items.Close e = refl
+ends_outermost (items.Name name) e = refl
+ends_outermost (items.Bit name index) e = refl
+ends_outermost (items.Part name left right) e = refl
+ends_outermost (items.Constant text) e = refl
