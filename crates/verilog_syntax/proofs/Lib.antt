@@ -16,3 +16,6 @@ pub mod SpelledLaw
 pub mod Statements
 pub mod Taken
 pub mod Trees
+pub mod ChunkTakes
+pub mod ChunkLemmas
+pub mod ChunkReads

@@ -17,6 +17,7 @@ mod laws;
 mod parser;
 mod reading;
 mod room;
+mod source;
 mod statement;
 mod words;
 mod written;
