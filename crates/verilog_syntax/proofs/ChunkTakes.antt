@@ -1,10 +1,10 @@
 -- Taking a statement's tokens one by one, as the loop does.
-use Rattle.std.proofs.Common.{◌≡◌, ℕ, ◌<◌, Bool, true, false, cond, List, [], ◌∷◌, ◌++◌, length, refl, sym, ap, ◌∙◌, append_assoc, append-nil, arith}
+use Rattle.std.proofs.Common.{◌≡◌, ℕ, Bool, true, false, cond, List, [], ◌∷◌, ◌++◌, refl, sym, ap, ◌∙◌, append_assoc, append-nil}
 use Rattle.std.proofs.lemmas.List.{map-append}
 use Rattle.text_scan.specs.declared.span.Span.{Span}
 use Rattle.text_scan.specs.Tokens.{Token, token_of, tokens_of}
 use Rattle.text_scan.specs.Statements.{is_semicolon}
-use Rattle.verilog_syntax.specs.declared.source.Ended.TheVariants.{Semicolon, EndModule, Text}
+use Rattle.verilog_syntax.specs.declared.source.Ended.TheVariants.{Semicolon, EndModule}
 use Rattle.verilog_syntax.specs.Reading.{ends_module}
 use Rattle.verilog_syntax.specs.Chunks.{Chunk, chunk_of}
 
@@ -39,5 +39,5 @@ module _ (text : List ℕ) (front : List Span) (s : Span) (ts : List Token) (tot
   pub goes_on : ends_module (token_of text s) ≡ false → is_semicolon (token_of text s) ≡ false → with_taken (tokens_of text (front ++ s ∷ [])) (chunk_of ts) ≡ total
   goes_on e k =
       ap (λ (l : List Token). record { ended = (chunk_of ts).ended; taken = l; left = (chunk_of ts).left })
-        (ap (λ (l : List Token). l ++ (chunk_of ts).taken) front_more ∙ append_assoc (tokens_of text front) (token_of text s ∷ []) ((chunk_of ts).taken))
+      (ap (λ (l : List Token). l ++ (chunk_of ts).taken) front_more ∙ append_assoc (tokens_of text front) (token_of text s ∷ []) ((chunk_of ts).taken))
       ∙ tested false false e k

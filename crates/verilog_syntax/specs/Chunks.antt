@@ -38,6 +38,12 @@ is_closed_behind Semicolon ts = is_closed ts
 is_closed_behind EndModule ts = true
 is_closed_behind Text ts = false
 
+-- no statement follows one that ended so
+abbrev pub IsLast : Ended → Type 0
+IsLast Semicolon = ⊥
+IsLast EndModule = Unit {0}
+IsLast Text = Unit {0}
+
 -- the statements behind one that ended so
 abbrev pub statements_behind : Ended → List Token → List (List Token)
 statements_behind Semicolon ts = statements_of (take (body_len ts) ts)

@@ -1,10 +1,10 @@
 //! A text as its statements are taken from it, one after the other.
-ghost use Rattle.std.specs.Prelude.{◌≡◌, ◌<◌, ◌^◌, ◌∷◌, [], ◌++◌, length, codes, IfOk, OnOk};
+ghost use Rattle.std.specs.Prelude.{◌≡◌, ◌<◌, ◌^◌, ◌∷◌, [], ◌++◌, length, codes, IfOk, MatchOption, OnOk};
 ghost use Rattle.std.specs.Str.{bytes_eq};
-ghost use Rattle.text_scan.specs.Tokens.{tokens_of, AreSpansOf};
+ghost use Rattle.text_scan.specs.Lines.{line_at};
+ghost use Rattle.text_scan.specs.Tokens.{token_of, tokens_of, AreSpansOf};
 ghost use Rattle.text_scan.specs.VerilogTokens.{verilog_tokens};
 ghost use Rattle.verilog_syntax.specs.Chunks.{tokens_left, chunk_of, is_closed};
-ghost use Rattle.verilog_syntax.specs.Reading.{line_of_tokens};
 
 use crate::cursor::Cursor;
 use std::marker::Model;
@@ -45,10 +45,7 @@ fn push_span(spans: &mut Vec<Span>, span: Span) -> Result<(), NoMemory>
 }
 
 /// Takes the tokens of the next statement, with what ended them; their spans replace those that stood in the `Vec`.
-fn take_statement(
-    lexer: &mut VerilogLexer<'_>,
-    spans: &mut Vec<Span>,
-) -> Result<Ended, NoMemory>
+fn take_statement(lexer: &mut VerilogLexer<'_>, spans: &mut Vec<Span>) -> Result<Ended, NoMemory>
     ensures source { lexer.new.source ≡ lexer.old.source }
     ensures within { IfOk result (λ ended. AreSpansOf lexer.old.source spans.new.items) }
     ensures value { IfOk result (λ ended. chunk_of (tokens_left lexer.old)
@@ -81,6 +78,7 @@ pub(crate) fn is_closed(mut lexer: VerilogLexer<'_>) -> bool
 
 /// A text, its tokens that are still to come and the lines that are counted so far, which contracts see as the text and
 /// the spans of these tokens.
+#[derive(Drop)]
 pub(crate) struct Source<'a> {
     text: &'a [u8],
     lexer: VerilogLexer<'a>,
@@ -121,6 +119,15 @@ impl<'a> Source<'a> {
         take_statement(&mut self.lexer, spans)
     }
 
+    /// Takes the next token.
+    pub(crate) fn next(&mut self) -> Option<Lexeme<'a>>
+        ensures value { MatchOption result (self.old.spans ≡ []) (λ t. self.old.spans ≡ t.span ∷ self.new.spans) }
+        ensures source { self.new.source ≡ self.old.source }
+        ensures text { MatchOption result (self.old.spans ≡ []) (λ t. t.text.now ≡ (token_of self.old.source t.span).text) }
+    {
+        self.lexer.next()
+    }
+
     /// The tokens at these spans.
     pub(crate) fn tokens<'s>(&self, spans: &'s [Span]) -> Cursor<'a, 's>
         requires within { AreSpansOf self.now.source spans.now }
@@ -129,14 +136,11 @@ impl<'a> Source<'a> {
         Cursor::of(self.text, spans)
     }
 
-    /// The line of the first of these tokens; 1 where there is none.
-    pub(crate) fn line_of(&mut self, tokens: &Cursor<'_, '_>) -> u64
-        ensures value { result ≡ line_of_tokens self.old.source tokens.now }
+    /// The line of a place.
+    pub(crate) fn line_at(&mut self, at: u32) -> u64
+        ensures value { result ≡ line_at self.old.source at }
         ensures same { self.new ≡ self.old }
     {
-        match tokens.first() {
-            Some(token) => self.lines.line_of(token.span.start as usize),
-            None => 1,
-        }
+        self.lines.line_of(at as usize)
     }
 }
