@@ -24,7 +24,10 @@ pub(crate) enum Ended {
 fn is_semicolon(token: &[u8]) -> bool
     ensures value { result ≡ bytes_eq token.now (59 ∷ []) }
 {
-    token == b";".as_slice()
+    match token {
+        [byte] => *byte == b';',
+        _ => false,
+    }
 }
 
 fn ends_module(token: &[u8]) -> bool
