@@ -3,3 +3,4 @@ pub mod Words
 pub mod Grammar
 pub mod Reading
 pub mod Laws
+pub mod Chunks

@@ -1,10 +1,9 @@
-ghost use Rattle.std.specs.Prelude.{◌≡◌, ◌<◌, ◌==◌, ◌∷◌, [], length, take, drop, MatchOption, OnOk};
+ghost use Rattle.std.specs.Prelude.{◌≡◌, ◌<◌, ◌==◌, ◌∷◌, [], length, drop, MatchOption, OnOk};
 ghost use Rattle.text_scan.specs.Parsing.{Gives, word_at, mark_at, goes_on_at};
-ghost use Rattle.text_scan.specs.Statements.{statement_len};
 ghost use Rattle.text_scan.specs.Tokens.{tokens_of, AreSpansOf};
 
 use std::marker::Model;
-use text_scan::{Lexeme, Span, Stop, Tokens};
+use text_scan::{Lexeme, Span, Stop};
 
 /// The tokens of a text that are still to be read, which contracts see as their list. What is read may outlive the spans,
 /// since it borrows the text alone.
@@ -65,20 +64,6 @@ impl<'a, 's> Cursor<'a, 's> {
         let span = self.spans.first()?;
         let text = &self.text[span.start as usize..span.end as usize];
         Some(Lexeme { text, span: *span })
-    }
-
-    /// Takes the tokens up to and with the first semicolon, or all where there is none.
-    pub(crate) fn statement(&mut self) -> Cursor<'a, 's>
-        ensures taken { result ≡ take (statement_len self.old) self.old }
-        ensures left { self.new ≡ drop (statement_len self.old) self.old }
-    {
-        let len = Tokens::of(self.text, self.spans).statement().len();
-        let (front, rest) = self.spans.split_at(len);
-        self.spans = rest;
-        Cursor {
-            text: self.text,
-            spans: front,
-        }
     }
 
     /// Takes a token with this text.

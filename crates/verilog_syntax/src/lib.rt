@@ -18,6 +18,7 @@ mod laws;
 mod parser;
 mod reading;
 mod room;
+mod source;
 mod statement;
 mod words;
 mod written;

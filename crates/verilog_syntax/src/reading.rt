@@ -1,16 +1,19 @@
-ghost use Rattle.std.specs.Prelude.{◌≡◌, ◌<◌, ◌≤◌, ◌^◌, ◌++◌, Ok, Option, length};
+ghost use Rattle.std.specs.Prelude.{◌≡◌, ◌<◌, ◌^◌, ◌++◌, Bool, true, if◌then◌else◌, Ok, Option, OnOk, length};
 ghost use Rattle.text_scan.specs.Parsing.{GivesAll};
-ghost use Rattle.text_scan.specs.Statements.{statements_of};
-ghost use Rattle.text_scan.specs.Tokens.{token_of, tokens_of, IsSpanOf, AreSpansOf};
+ghost use Rattle.text_scan.specs.Tokens.{tokens_of};
+ghost use Rattle.text_scan.specs.VerilogTokens.{verilog_tokens};
 ghost use Rattle.text_scan.specs.declared.fault.ReadFault.TheVariants.{Fault as fault};
+ghost use Rattle.text_scan.specs.declared.kind.Kind.TheVariants.{VerilogSyntax};
 ghost use Rattle.verilog_syntax.specs.declared.statement.Statement.{Statement};
-ghost use Rattle.verilog_syntax.specs.Reading.{Answers, result_and_then, fault_at, line_of_tokens, placed_or, read_statement, read_header, read_others, read_body, ends_module, body_len, read_end, read_module, read_statements};
+ghost use Rattle.verilog_syntax.specs.Chunks.{tokens_left, is_closed, is_closed_behind, IsLast, one_of, with_front, read_behind};
+ghost use Rattle.verilog_syntax.specs.Reading.{Answers, fault_at, line_of_tokens, placed_or, read_statement, read_header, read_others, read_end, read_module, read_statements};
 
 use crate::cursor::Cursor;
 use crate::parser::{header_of, statement_of};
+use crate::source::{Ended, Source, is_closed};
 use crate::statement::Statement;
 use std::alloc::Global;
-use text_scan::{Fault, FileKind, Kind, Lines, ReadFault, Rows, Span, Spot, Stop, verilog_tokens};
+use text_scan::{Fault, FileKind, Kind, ReadFault, Rows, Spot, Stop, VerilogLexer};
 
 /// A statement, and the line of its first token, from 1.
 #[derive(Debug, Drop)]
@@ -62,76 +65,43 @@ fn read_header<'a>(
     placed_or(line, header_of(alloc, tokens))
 }
 
-/// Puts the statements behind the header behind those that are read.
-fn read_others<'a>(
+fn line_of_tokens(source: &mut Source<'_>, tokens: &Cursor<'_, '_>) -> u64
+    ensures value { result ≡ line_of_tokens source.old.source tokens.now }
+    ensures same { source.new ≡ source.old }
+{
+    match tokens.first() {
+        Some(token) => source.line_at(token.span.start),
+        None => 1,
+    }
+}
+
+/// Puts the statement that these tokens are behind those that are read; where there are no tokens there is none.
+fn read_next<'a>(
     alloc: Global,
-    lines: &mut Lines<'_>,
-    mut tokens: Cursor<'a, '_>,
+    source: &mut Source<'a>,
+    tokens: Cursor<'a, '_>,
     mut statements: Rows<Placed<'a>>,
 ) -> Result<Rows<Placed<'a>>, ReadFault>
-    ensures value { Answers result (result_and_then (λ others. Ok (statements.entry ++ others)) (read_others lines.old (statements_of tokens.entry))) }
-    ensures same { lines.new ≡ lines.old }
-{
-    while let Some(first) = tokens.first() {
-        let line = lines.line_of(first.span.start as usize);
-        let statement = read_statement(alloc, line, tokens.statement())?;
-        statements.push(statement)?;
-    }
-    Ok(statements)
-}
-
-/// The statements of a body, whose first token stands on a line.
-fn read_body<'a>(
-    alloc: Global,
-    line: u64,
-    lines: &mut Lines<'_>,
-    mut tokens: Cursor<'a, '_>,
-) -> Result<Rows<Placed<'a>>, ReadFault>
-    ensures value { Answers result (read_body line lines.old (statements_of tokens.entry)) }
-    ensures same { lines.new ≡ lines.old }
+    ensures value { Answers result (with_front statements.entry (read_others source.old.source (one_of tokens.entry))) }
+    ensures same { source.new ≡ source.old }
 {
     if tokens.is_empty() {
-        return Err(fault_at(Kind::VerilogSyntax, line));
+        return Ok(statements);
     }
-    let header = read_header(alloc, line, tokens.statement())?;
-    let mut statements = Rows::new(alloc);
-    statements.push(header)?;
-    read_others(alloc, lines, tokens, statements)
-}
-
-fn ends_module(text: &[u8], span: Span) -> bool
-    requires within { IsSpanOf text.now span }
-    ensures value { result ≡ ends_module (token_of text.now span) }
-{
-    let token = &text[span.start as usize..span.end as usize];
-    token == b"endmodule".as_slice()
-}
-
-/// How many tokens stand before the first `endmodule`; all where there is none.
-fn body_len(text: &[u8], spans: &[Span]) -> usize
-    requires within { AreSpansOf text.now spans.now }
-    ensures value { result ≡ body_len (tokens_of text.now spans.now) }
-    ensures within { result ≤ length spans.now }
-{
-    let mut len = 0;
-    for span in spans {
-        if ends_module(text, *span) {
-            return len;
-        }
-        len += 1;
-    }
-    len
+    let line = line_of_tokens(source, &tokens);
+    statements.push(read_statement(alloc, line, tokens)?)?;
+    Ok(statements)
 }
 
 /// Behind `endmodule` nothing stands.
 #[tactic(auto, unfolding(crate::specs::Reading::read_end))]
-fn read_end(lines: &mut Lines<'_>, tokens: Cursor<'_, '_>) -> Result<(), ReadFault>
-    ensures value { Answers result (read_end lines.old tokens.entry) }
+fn read_end(source: &mut Source<'_>) -> Result<(), ReadFault>
+    ensures value { Answers result (read_end source.old.source (tokens_left source.old)) }
 {
-    let Some(token) = tokens.first() else {
+    let Some(token) = source.next() else {
         return Ok(());
     };
-    let line = lines.line_of(token.span.start as usize);
+    let line = source.line_at(token.span.start);
     if token.text == b"module".as_slice() {
         Err(fault_at(Kind::SecondModule, line))
     } else {
@@ -139,42 +109,105 @@ fn read_end(lines: &mut Lines<'_>, tokens: Cursor<'_, '_>) -> Result<(), ReadFau
     }
 }
 
-fn line_of_tokens(lines: &mut Lines<'_>, tokens: &Cursor<'_, '_>) -> u64
-    ensures value { result ≡ line_of_tokens lines.old tokens.now }
-    ensures same { lines.new ≡ lines.old }
+/// The statements of a module, the last of which ended so. Where it is the text that ended, the module isn't closed: the
+/// fault of that stands at the line of the text's first token.
+fn read_close<'a>(
+    line: u64,
+    ended: Ended,
+    source: &mut Source<'_>,
+    statements: Rows<Placed<'a>>,
+) -> Result<Rows<Placed<'a>>, ReadFault>
+    requires last { IsLast ended }
+    ensures value { is_closed_behind ended (tokens_left source.old) ≡ true
+        → Answers result (with_front statements.entry (read_behind source.old.source ended (tokens_left source.old))) }
+    ensures closed { OnOk result (is_closed_behind ended (tokens_left source.old) ≡ true) }
 {
-    match tokens.first() {
-        Some(token) => lines.line_of(token.span.start as usize),
+    if matches!(ended, Ended::Text) {
+        return Err(fault_at(Kind::VerilogSyntax, line));
+    }
+    read_end(source)?;
+    Ok(statements)
+}
+
+/// Puts the statements behind one that ended so behind those that are read, up to the end of a module that is closed.
+fn read_others<'a>(
+    alloc: Global,
+    line: u64,
+    mut ended: Ended,
+    source: &mut Source<'a>,
+    mut statements: Rows<Placed<'a>>,
+) -> Result<Rows<Placed<'a>>, ReadFault>
+    ensures value { is_closed_behind ended (tokens_left source.old) ≡ true
+        → Answers result (with_front statements.entry (read_behind source.old.source ended (tokens_left source.old))) }
+    ensures closed { OnOk result (is_closed_behind ended (tokens_left source.old) ≡ true) }
+{
+    let mut spans = Vec::new(alloc);
+    while matches!(ended, Ended::Semicolon) {
+        ended = source.statement(&mut spans)?;
+        let tokens = source.tokens(&spans);
+        statements = read_next(alloc, source, tokens, statements)?;
+    }
+    read_close(line, ended, source, statements)
+}
+
+/// The statements of a module that is closed, whose first token stands on a line.
+fn read_module<'a>(
+    alloc: Global,
+    line: u64,
+    source: &mut Source<'a>,
+) -> Result<Rows<Placed<'a>>, ReadFault>
+    requires first { line ≡ line_of_tokens source.old.source (tokens_left source.old) }
+    ensures value { is_closed (tokens_left source.old) ≡ true → Answers result (read_module source.old.source (tokens_left source.old)) }
+    ensures closed { OnOk result (is_closed (tokens_left source.old) ≡ true) }
+{
+    let mut spans = Vec::new(alloc);
+    let ended = source.statement(&mut spans)?;
+    let tokens = source.tokens(&spans);
+    if tokens.is_empty() {
+        return Err(fault_at(Kind::VerilogSyntax, line));
+    }
+    let header = read_header(alloc, line, tokens)?;
+    let mut statements = Rows::new(alloc);
+    statements.push(header)?;
+    read_others(alloc, line, ended, source, statements)
+}
+
+/// The line of a text's first token; 1 where there is none.
+fn first_line(text: &[u8]) -> u64
+    requires size { length text.now < 2 ^ 32 }
+    ensures value { result ≡ line_of_tokens text.now (tokens_of text.now (verilog_tokens text.now)) }
+{
+    let mut source = Source::of(text);
+    match source.next() {
+        Some(token) => source.line_at(token.span.start),
         None => 1,
     }
 }
 
-#[tactic(auto, unfolding(crate::specs::Reading::read_module))]
-fn read_module<'a>(
-    alloc: Global,
-    text: &'a [u8],
-    spans: &[Span],
-) -> Result<Rows<Placed<'a>>, ReadFault>
-    requires within { AreSpansOf text.now spans.now }
-    ensures value { Answers result (read_module text.now (tokens_of text.now spans.now)) }
+/// The fault of a text, where reading its statements one by one came to one: if no `endmodule` closes the module, it is that
+/// one, at the line of the first token.
+fn fault_of(text: &[u8], line: u64, found: Fault) -> ReadFault
+    requires size { length text.now < 2 ^ 32 }
+    ensures value { result ≡ fault (if is_closed (tokens_of text.now (verilog_tokens text.now)) then found else fault_at VerilogSyntax line) }
 {
-    let mut lines = Lines::of(text);
-    let line = line_of_tokens(&mut lines, &Cursor::of(text, spans));
-    let len = body_len(text, spans);
-    if len == spans.len() {
-        return Err(fault_at(Kind::VerilogSyntax, line));
+    if is_closed(VerilogLexer::of(text)) {
+        ReadFault::Fault(found)
+    } else {
+        fault_at(Kind::VerilogSyntax, line)
     }
-    let statements = read_body(alloc, line, &mut lines, Cursor::of(text, &spans[..len]))?;
-    read_end(&mut lines, Cursor::of(text, &spans[len + 1..]))?;
-    Ok(statements)
 }
 
 /// The statements of a text, the header first, each with its line; or the first fault of its form: VerilogSyntax at the
-/// first statement that matches no form, or SecondModule.
+/// first statement that matches no form, or SecondModule. A module that isn't closed is VerilogSyntax at its first token,
+/// whatever its statements are.
 pub fn read_statements<'a>(alloc: Global, text: &'a [u8]) -> Result<Rows<Placed<'a>>, ReadFault>
     requires size { length text.now < 2 ^ 32 }
     ensures value { Answers result (read_statements text.now) }
 {
-    let spans = verilog_tokens(alloc, text)?;
-    read_module(alloc, text, &spans)
+    let line = first_line(text);
+    match read_module(alloc, line, &mut Source::of(text)) {
+        Ok(statements) => Ok(statements),
+        Err(ReadFault::Fault(found)) => Err(fault_of(text, line, found)),
+        Err(ReadFault::NoMemory) => Err(ReadFault::NoMemory),
+    }
 }

@@ -1,41 +1,36 @@
-use Rattle.std.proofs.Common.{◌+◌, sym, ◌∙◌, subst}
-use Rattle.std.proofs.lemmas.List.Elements.{All-drop}
+use Rattle.std.proofs.Common.{sym, ap, ◌∙◌, List, ◌∷◌, [], ◌++◌, subst}
 use Rattle.std.proofs.lemmas.Result.{err_from_is_err_and}
-use Rattle.text_scan.specs.Tokens.{IsSpanOf, AreSpansOf}
-use Rattle.verilog_syntax.proofs.Modules.{behind_all, body_stops, end_stops, ends_well}
+use Rattle.verilog_syntax.specs.declared.reading.Placed.{Placed}
+use Rattle.verilog_syntax.specs.Reading.{Answers}
+use Rattle.verilog_syntax.specs.Chunks.{tokens_left}
+use Rattle.verilog_syntax.proofs.ChunkReads.{chunk, empty, header_stops, header_goes}
 use Rattle.verilog_syntax.proofs.reading.read_module.Goals as goal
 
-pub returns-in_err-statements : goal.returns-in_err-statements
-returns-in_err-statements c =
-    let p = err_from_is_err_and c.from_residual.result c.from_residual.ensures.1 in
-    let line-is = rw (c.of-lines.ensures.value, c.of.ensures.value) at c.line_of_tokens-line.ensures.value in
-    record {
-      value = rw (p.1, p.2) (body_stops c.args.text.now c.args.spans.now c.body_len-len.result c.body_len-len.ensures.value c.if-len-spans.false _ c.line_of_tokens-line.result c.of-2.result
-          (c.line_of_tokens-line.ensures.same ∙ c.of-lines.ensures.value) line-is c.of-2.ensures.value c.in_err-statements.field-0.0 c.in_err-statements.ensures.value);
-    }
+pub returns-then-is_empty-clause-value : goal.returns-then-is_empty-clause-value
+returns-then-is_empty-clause-value c =
+    let tokens = c.tokens-tokens.ensures.value in
+    let nothing = rw (c.tokens-tokens.ensures.value, c.deref.ensures.value, c.in_ok-ended.ensures.source) at (sym c.if-is_empty.ensures.value) in
+    λ closed. rw c.fault_at.ensures.value (empty c.args.source.now.source (tokens_left c.args.source.now) _ _ _ c.in_ok-ended.ensures.value c.args.line c.requires.first closed nothing)
 
-pub of-requires-3 : goal.of-requires-3
-of-requires-3 c =
-    let i = c.body_len-len.result + 1 in
-    record { within = subst (AreSpansOf c.args.text.now) (sym (behind_all c.args.spans.now i)) (All-drop (IsSpanOf c.args.text.now) i c.args.spans.now c.requires.within) }
+pub returns-in_err-header-clause-value : goal.returns-in_err-header-clause-value
+returns-in_err-header-clause-value c =
+    let p = err_from_is_err_and c.from_residual-in_err-header.result c.from_residual-in_err-header.ensures.1 in
+    let some = rw (c.tokens-tokens.ensures.value, c.deref.ensures.value, c.in_ok-ended.ensures.source) at (sym c.if-is_empty.ensures.value) in
+    let read = rw (c.tokens-tokens.ensures.value, c.deref.ensures.value, c.in_ok-ended.ensures.source) at c.in_err-header.ensures.value in
+    λ closed. rw (p.1, p.2) (header_stops c.args.source.now.source (tokens_left c.args.source.now) _ _ _ c.in_ok-ended.ensures.value c.args.line c.requires.first closed some c.in_err-header.field-0.0 read)
 
-pub returns-in_err-read_end : goal.returns-in_err-read_end
-returns-in_err-read_end c =
-    let p = err_from_is_err_and c.from_residual-in_err-read_end.result c.from_residual-in_err-read_end.ensures.1 in
-    let line-is = rw (c.of-lines.ensures.value, c.of.ensures.value) at c.line_of_tokens-line.ensures.value in
-    let counted-is = c.line_of_tokens-line.ensures.same ∙ c.of-lines.ensures.value in
-    record {
-      value = rw (p.1, p.2) (end_stops c.args.text.now c.args.spans.now c.body_len-len.result c.body_len-len.ensures.value c.if-len-spans.false _ c.line_of_tokens-line.result c.of-2.result
-          counted-is line-is c.of-2.ensures.value c.in_ok-statements.statements c.in_ok-statements.ensures.value _ c.of-3.result (c.in_ok-statements.ensures.same ∙ counted-is) c.of-3.ensures.value
-          c.in_err-read_end.field-0.0 c.in_err-read_end.ensures.value);
-    }
+pub returns-clause-value : goal.returns-clause-value
+returns-clause-value c =
+    let some = rw (c.tokens-tokens.ensures.value, c.deref.ensures.value, c.in_ok-ended.ensures.source) at (sym c.if-is_empty.ensures.value) in
+    let read = rw (c.tokens-tokens.ensures.value, c.deref.ensures.value, c.in_ok-ended.ensures.source) at c.in_ok-header.ensures.value in
+    let front = c.in_ok-push.ensures.ok ∙ ap (λ (l : List Placed). l ++ c.in_ok-header.header ∷ []) c.new-statements.ensures.value in
+    λ closed.
+    let k = sym (chunk c.args.source.now.source (tokens_left c.args.source.now) _ _ _ c.in_ok-ended.ensures.value).closed ∙ closed in
+    let whole = rw c.in_ok-ended.ensures.source at (header_goes c.args.source.now.source (tokens_left c.args.source.now) _ _ _ c.in_ok-ended.ensures.value c.args.line c.requires.first closed some c.in_ok-header.header read) in
+    let a = rw (front, c.in_ok-ended.ensures.source) at (c.read_others.ensures.value k) in
+    subst (Answers c.read_others.result) (sym whole) a
 
-pub returns : goal.returns
-returns c =
-    let line-is = rw (c.of-lines.ensures.value, c.of.ensures.value) at c.line_of_tokens-line.ensures.value in
-    let counted-is = c.line_of_tokens-line.ensures.same ∙ c.of-lines.ensures.value in
-    record {
-      value = ends_well c.args.text.now c.args.spans.now c.body_len-len.result c.body_len-len.ensures.value c.if-len-spans.false _ c.line_of_tokens-line.result c.of-2.result
-          counted-is line-is c.of-2.ensures.value c.in_ok-statements.statements c.in_ok-statements.ensures.value _ c.of-3.result (c.in_ok-statements.ensures.same ∙ counted-is) c.of-3.ensures.value
-          _ c.in_ok-read_end.ensures.value;
-    }
+pub returns-clause-closed : goal.returns-clause-closed
+returns-clause-closed c =
+    let k = (chunk c.args.source.now.source (tokens_left c.args.source.now) _ _ _ c.in_ok-ended.ensures.value).closed in
+    rw k c.read_others.ensures.closed

@@ -1,0 +1,9 @@
+use Rattle.text_scan.specs.Tokens.{tokens_of}
+use Rattle.text_scan.specs.VerilogTokens.{verilog_tokens}
+use Rattle.verilog_syntax.proofs.ChunkReads.{fault_found}
+use Rattle.verilog_syntax.proofs.reading.read_statements.Goals as goal
+
+pub returns-in-Err-Fault : goal.returns-in-Err-Fault
+returns-in-Err-Fault c =
+    let text = c.args.text.now in
+    record { value = rw c.fault_of.ensures.value (fault_found text c.first_line-line.result (tokens_of text (verilog_tokens text)) c.in-Err-Fault.found c.first_line-line.ensures.value (rw (c.in-Err-Fault.field-0-is, c.of.ensures.value) at c.in-Err-Fault.ensures.value)) }
