@@ -1,6 +1,7 @@
 -- Declarations that stand again, as declarations are added one by one.
-use Rattle.std.proofs.Common.{◌≡◌, ℕ, ◌+◌, ◌<◌, ◌≤◌, Bool, true, false, cond, not, ◌||◌, List, [], ◌∷◌, ◌++◌, length, map, get_or, take, drop, Option, Some, None, option_map, is_some, refl, sym, ap, ◌∙◌, subst, append_assoc}
+use Rattle.std.proofs.Common.{◌≡◌, ℕ, ◌+◌, ◌<◌, ◌≤◌, Bool, true, false, cond, not, ◌||◌, List, [], ◌∷◌, ◌++◌, length, map, get_or, take, drop, Option, Some, None, option_map, is_some, Bor, refl, sym, ap, ◌∙◌, subst, append_assoc}
 use Rattle.std.specs.Option.{option_or}
+use Rattle.std.specs.HashSet.{HashSet}
 use Rattle.std.specs.List.{list_any}
 use Rattle.std.specs.Str.{bytes_eq}
 use Rattle.std.proofs.lemmas.List.{take_more, drop_more, drop_all, map-append, append-nil}
@@ -12,7 +13,6 @@ use Rattle.verilog_syntax.specs.declared.statement.Statement.TheVariants as stat
 use Rattle.verilog_reader.specs.declared.bounds.Bounds.{Bounds}
 use Rattle.verilog_reader.specs.declared.declared.First.{First}
 use Rattle.verilog_reader.specs.declared.declared.DeclaredNames.{DeclaredNames}
-use Rattle.verilog_reader.specs.declared.twice.Nets.{Nets}
 use Rattle.verilog_reader.specs.Declarations.{Declaration, bounds_of, first_of, declarations_in}
 use Rattle.verilog_reader.specs.Faults.{stands_again, any_again, has_bit_in, have_bits}
 use Rattle.verilog_reader.specs.Steps.{first_in, first_kept, only_at, kept_of}
@@ -122,7 +122,7 @@ module _ (first : First) (before : List Declaration) (all : List (List ℕ)) (na
   both_passed le so_far = sym (ap (λ l. any_again (So i) (map (declared_as first) l) || have_bits (map (declared_as first) l) all) (drop_all i names le)) ∙ so_far
 
 -- a statement declares nothing
-pub adds_none : (names : DeclaredNames) (nets : Nets) (before ds : List Declaration) (all : List (List ℕ)) → ds ≡ [] → AreKnown names nets before all → Adds false names before ds all
+pub adds_none : {S : Type 0} (names : DeclaredNames) (nets : HashSet (Bor (List ℕ)) S) (before ds : List Declaration) (all : List (List ℕ)) → ds ≡ [] → AreKnown names nets before all → Adds false names before ds all
 unfolding any_again
 adds_none names nets before ds all none known =
     let same : before ≡ before ++ ds = sym (ap (λ l. before ++ l) none ∙ append-nil before) in
