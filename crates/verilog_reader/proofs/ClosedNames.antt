@@ -1,7 +1,7 @@
 -- Names that end as those of bits do: no other name is that of a bit.
 use Rattle.std.proofs.Common.{◌≡◌, ℕ, ◌-◌, Bool, true, false, cond, ◌||◌, List, [], ◌∷◌, ◌++◌, length, drop, decimal, Option, Some, None, Bor, refl, sym, ap, ◌∙◌, length-append, arith}
 use Rattle.std.specs.List.{list_any, filter}
-use Rattle.std.specs.HashSet.{HashSet, hash_set_len, contains}
+use Rattle.std.specs.HashSet.{HashSet, hash_set_len}
 use Rattle.std.specs.Str.{bytes_eq}
 use Rattle.std.proofs.Math.Seq.{drop-append_seam}
 use Rattle.std.proofs.lemmas.Slice.Eq.{bytes_eq-Decides}

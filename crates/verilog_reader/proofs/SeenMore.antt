@@ -1,26 +1,22 @@
 -- What the check of names has seen, as a statement is added.
-use Rattle.std.proofs.Common.{◌≡◌, ℕ, zero, suc, ◌-◌, Bool, true, false, not, ◌&&◌, ◌||◌, List, [], ◌∷◌, ◌++◌, length, map, take, drop, decimal, Option, Some, None, option_map, refl, sym, ap, ◌∙◌, subst, length-append, arith}
+use Rattle.std.proofs.Common.{◌≡◌, ℕ, zero, suc, Bool, true, false, not, ◌&&◌, ◌||◌, List, [], ◌∷◌, ◌++◌, map, take, Option, Some, None, option_map, refl, sym, ap, ◌∙◌, subst}
 use Rattle.std.specs.List.{list_any, filter, flat_map}
-use Rattle.std.specs.Str.{bytes_eq}
 use Rattle.std.proofs.lemmas.List.{append-nil}
 use Rattle.std.proofs.lemmas.List.Concat.{flat_map-append}
 use Rattle.std.proofs.lemmas.List.Elements.{filter-append}
 use Rattle.std.proofs.lemmas.List.Folds.{list_any-append, list_all-append}
-use Rattle.std.proofs.lemmas.Slice.Eq.{bytes_eq-Decides}
 use Rattle.verilog_syntax.specs.declared.statement.Declared.{Declared}
 use Rattle.verilog_syntax.specs.declared.statement.Range.{Range}
 use Rattle.verilog_syntax.specs.declared.statement.Statement.{Statement}
 use Rattle.verilog_syntax.specs.declared.statement.Statement.TheVariants as statements
 use Rattle.verilog_syntax.specs.declared.reading.Placed.{Placed}
-use Rattle.verilog_reader.specs.declared.bounds.Bounds.{Bounds}
 use Rattle.verilog_reader.specs.declared.twice.Seen.{Seen}
-use Rattle.verilog_reader.specs.Values.{bit_name}
-use Rattle.verilog_reader.specs.Declarations.{Declaration, declaration_of, bounds_of, declarations_in, declarations, has, ports_in, items_in, width, index_at}
-use Rattle.verilog_reader.specs.Faults.{has_twice, any_again, instances_named, instance_names, pins_in, has_bit_in, scalars_in, scalars, are_bits, have_bits, bad_twice, is_bad_number, is_bad_range, range_in}
+use Rattle.verilog_reader.specs.Declarations.{Declaration, declaration_of, bounds_of, declarations_in, declarations, has, ports_in, items_in}
+use Rattle.verilog_reader.specs.Faults.{has_twice, any_again, instances_named, instance_names, pins_in, scalars_in, scalars, are_bits, have_bits, bad_twice, is_bad_number, is_bad_range, range_in}
 use Rattle.verilog_reader.specs.Steps.{has_bad_number, are_small, first_kept}
 use Rattle.verilog_reader.specs.NameSets.{HasNames}
 use Rattle.verilog_reader.specs.Seen.{is_small, have_small, is_bit, is_closed, IsClean, Adds, IsSeen, Tells}
-use Rattle.verilog_reader.proofs.AnyLemmas.{or_true, or_false, or_false_left, or_false_right, not_true, and_parts, any_same}
+use Rattle.verilog_reader.proofs.AnyLemmas.{or_true, or_false, or_false_left, or_false_right, and_parts, any_same}
 use Rattle.verilog_reader.proofs.BitLookups.{are_bits_is}
 use Rattle.verilog_reader.proofs.Clean.{scalars_stay}
 use Rattle.verilog_reader.proofs.ClosedNames.{closed_are_bits}

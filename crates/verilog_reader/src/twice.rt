@@ -86,15 +86,15 @@ fn has_name(names: &NameSet, name: &[u8]) -> bool
     names.contains(&name)
 }
 
-/// Whether one of some names is that of a bit of the vector.
-fn has_bit(alloc: Global, names: &NameSet, vector: &[u8], bounds: Bounds) -> Result<bool, NoMemory>
-    ensures value { IfOk result (λ found. (all : List (List ℕ)) → HasNames names.now all → found ≡ list_any (has_bit_in vector.now (Some bounds)) all) }
+/// Whether one of the scalar nets has the name of a bit of the vector.
+fn has_bit(alloc: Global, nets: &NameSet, vector: &[u8], bounds: Bounds) -> Result<bool, NoMemory>
+    ensures value { IfOk result (λ found. (all : List (List ℕ)) → AreNets nets.now all → found ≡ list_any (has_bit_in vector.now (Some bounds)) all) }
 {
     let mut name = Vec::new(alloc);
     for place in 0..width(bounds) {
         name.clear();
         push_bit_name(alloc, &mut name, vector, index_at(bounds, place))?;
-        if has_name(names, name.as_slice()) {
+        if has_name(nets, name.as_slice()) {
             return Ok(true);
         }
     }

@@ -23,7 +23,7 @@ loop-place-preserved c = λ all h.
     let b = c.args.bounds in
     let k = c.loop-place.place in
     let name : c.as_slice.result.now ≡ bit_name v (index_at b k) = c.as_slice.ensures.value ∙ c.in_ok-push_bit_name.ensures.value ∙ ap (λ (l : List ℕ). l ++ bit_name v c.index_at.result) c.clear.ensures.items ∙ ap (bit_name v) c.index_at.ensures.value in
-    bit_passes (filter is_closed all) v b k _ (omega arith) (ap (has (filter is_closed all)) (sym name) ∙ sym (c.has_name.ensures.value (filter is_closed all) h) ∙ c.if-has_name.false) (c.loop-place.invariant (filter is_closed all) h)
+    bit_passes all v b k _ (omega arith) (ap (has all) (sym name) ∙ sym (c.has_name.ensures.value all h) ∙ c.if-has_name.false) (c.loop-place.invariant all h)
 
 pub returns : goal.returns
 returns c = record { value = λ all h. bit_passed (filter is_closed all) c.args.vector.now c.args.bounds c.loop-place.place _ (omega arith) (c.loop-place.invariant (filter is_closed all) h) ∙ bits_among (filter is_closed all) c.args.vector.now c.args.bounds ∙ closed_bits c.args.vector.now (Some c.args.bounds) all }

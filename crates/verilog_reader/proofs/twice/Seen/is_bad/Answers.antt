@@ -1,4 +1,4 @@
-use Rattle.std.proofs.Common.{◌++◌, ◌||◌, Bool, Bor, List, ℕ, ap, ◌∙◌}
+use Rattle.std.proofs.Common.{◌++◌, Bor, List, ℕ, ap, ◌∙◌}
 use Rattle.std.specs.List.{filter}
 use Rattle.verilog_reader.specs.Declarations.{declarations, has}
 use Rattle.verilog_reader.specs.Faults.{are_bits, instance_names, scalars}
