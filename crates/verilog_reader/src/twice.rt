@@ -136,15 +136,9 @@ fn add_name<'a>(
 ) -> Result<bool, NoMemory>
     ensures value { IfOk result (λ bad. (before : List Declaration) (all : List (List ℕ)) → AreKnown declared.old nets.now before all → AddsOne bad declared.new before (declared_at first name.now) all) }
 {
-    match declared.first_of(name) {
+    match declared.add(name, first)? {
         Some(known) => Ok(!may_stand_beside(known, first.kind, first.bounds)),
-        None => {
-            if has_bit_among(alloc, nets, name, first.bounds)? {
-                return Ok(true);
-            }
-            declared.add(name, first)?;
-            Ok(false)
-        }
+        None => has_bit_among(alloc, nets, name, first.bounds),
     }
 }
 
