@@ -1,10 +1,10 @@
 -- Declarations that stand again, as declarations are added one by one.
-use Rattle.std.proofs.Common.{◌≡◌, ℕ, ◌+◌, ◌<◌, ◌≤◌, Bool, true, false, cond, not, ◌||◌, List, [], ◌∷◌, ◌++◌, length, map, get_or, take, drop, Option, Some, None, option_map, is_some, refl, sym, ap, ◌∙◌, subst, append_assoc}
+use Rattle.std.proofs.Common.{◌≡◌, ℕ, ◌+◌, ◌<◌, ◌≤◌, Bool, true, false, cond, not, ◌||◌, List, [], ◌∷◌, ◌++◌, length, map, get_or, take, drop, Option, Some, None, option_map, Bor, refl, sym, ap, ◌∙◌, subst, append_assoc}
 use Rattle.std.specs.Option.{option_or}
+use Rattle.std.specs.HashSet.{HashSet}
 use Rattle.std.specs.List.{list_any}
 use Rattle.std.specs.Str.{bytes_eq}
 use Rattle.std.proofs.lemmas.List.{take_more, drop_more, drop_all, map-append, append-nil}
-use Rattle.std.proofs.lemmas.Slice.Eq.{bytes_eq-Decides}
 use Rattle.verilog_syntax.specs.declared.statement.Declared.{Declared}
 use Rattle.verilog_syntax.specs.declared.statement.Range.{Range}
 use Rattle.verilog_syntax.specs.declared.statement.Statement.{Statement}
@@ -12,12 +12,11 @@ use Rattle.verilog_syntax.specs.declared.statement.Statement.TheVariants as stat
 use Rattle.verilog_reader.specs.declared.bounds.Bounds.{Bounds}
 use Rattle.verilog_reader.specs.declared.declared.First.{First}
 use Rattle.verilog_reader.specs.declared.declared.DeclaredNames.{DeclaredNames}
-use Rattle.verilog_reader.specs.declared.twice.Nets.{Nets}
 use Rattle.verilog_reader.specs.Declarations.{Declaration, bounds_of, first_of, declarations_in}
 use Rattle.verilog_reader.specs.Faults.{stands_again, any_again, has_bit_in, have_bits}
 use Rattle.verilog_reader.specs.Steps.{first_in, first_kept, only_at, kept_of}
 use Rattle.verilog_reader.specs.Seen.{Keeps, AddsOne, Adds, AreKnown, IsClean, declared_as, may_stand_beside}
-use Rattle.verilog_reader.proofs.AnyLemmas.{or_true, or_four}
+use Rattle.verilog_reader.proofs.AnyLemmas.{or_four}
 use Rattle.verilog_reader.proofs.Clean.{known_step, known_clean, new_clean}
 use Rattle.verilog_reader.proofs.Firsts.{first_kept-append}
 
@@ -47,42 +46,25 @@ kept_none : (o : Option Declaration) → option_map kept_of o ≡ None → o ≡
 kept_none None h = refl
 kept_none (Some f) h = absurd cc
 
-or_first : (o p : Option First) (t : Bool) → (t ≡ true → is_some o ≡ true) → option_or o (cond t p None) ≡ o
-or_first None p true h = let wrong = h refl in absurd cc
-or_first None p false h = refl
-or_first (Some x) p t h = refl
-
-same_known : (before : List Declaration) (d : Declaration) (k : First) (q : List ℕ) → first_kept before d.name ≡ Some k → first_kept before q ≡ first_kept (before ++ d ∷ []) q
-same_known before d k q known =
-    sym (first_kept-append before (d ∷ []) q ∙ ap (option_or (first_kept before q)) (sym (only_is d q))
-    ∙ or_first (first_kept before q) (Some (kept_of d)) (bytes_eq d.name q) (λ e. ap (λ o. is_some o) (sym (ap (first_kept before) ((bytes_eq-Decides d.name q).0 e)) ∙ known)))
-
-pub known_adds : (names : DeclaredNames) (before : List Declaration) (d : Declaration) (all : List (List ℕ)) (k : First) → first_kept before d.name ≡ Some k → Keeps names before → IsClean before all
-    → AddsOne (not (may_stand_beside k d.kind d.bounds)) names before d all
-known_adds names before d all k known keeps clean =
+pub known_adds : (names old : DeclaredNames) (before : List Declaration) (d : Declaration) (all : List (List ℕ)) (k : First) → first_kept before d.name ≡ Some k
+    → ((q : List ℕ) → first_in names q ≡ option_or (first_in old q) (only_at d.name (kept_of d) q)) → Keeps old before → IsClean before all → AddsOne (not (may_stand_beside k d.kind d.bounds)) names before d all
+known_adds names old before d all k known adds keeps clean =
     let f = kept_some (first_of d.name before) k known in
     record {
       is = sym (known_step before d f.declaration all f.is clean ∙ ap (λ o. stands_again o d) f.is ∙ ap (λ x. not (may_stand_beside x d.kind d.bounds)) f.same);
-      kept = λ e q. keeps q ∙ same_known before d k q known;
+      kept = λ e q. kept_more before d q (first_in names q) (first_in old q) (adds q) (keeps q);
       clean = λ e. known_clean before d f.declaration all f.is clean;
     }
 
 -- a name that is new
-pub new_fails : (names : DeclaredNames) (before : List Declaration) (d : Declaration) (all : List (List ℕ)) → list_any (has_bit_in d.name d.bounds) all ≡ true → AddsOne true names before d all
-new_fails names before d all there = record {
-  is = sym (ap (λ t. stands_again (first_of d.name before) d || t) there ∙ or_true (stands_again (first_of d.name before) d));
-  kept = λ e. absurd cc;
-  clean = λ e. absurd cc;
-}
-
-pub new_adds : (names old : DeclaredNames) (before : List Declaration) (d : Declaration) (all : List (List ℕ)) → first_kept before d.name ≡ None → list_any (has_bit_in d.name d.bounds) all ≡ false
-    → ((q : List ℕ) → first_in names q ≡ option_or (first_in old q) (only_at d.name (kept_of d) q)) → Keeps old before → IsClean before all → AddsOne false names before d all
-new_adds names old before d all new none adds keeps clean =
+pub new_adds : (bad : Bool) (names old : DeclaredNames) (before : List Declaration) (d : Declaration) (all : List (List ℕ)) → first_kept before d.name ≡ None → bad ≡ list_any (has_bit_in d.name d.bounds) all
+    → ((q : List ℕ) → first_in names q ≡ option_or (first_in old q) (only_at d.name (kept_of d) q)) → Keeps old before → IsClean before all → AddsOne bad names before d all
+new_adds bad names old before d all new bits adds keeps clean =
     let absent = kept_none (first_of d.name before) new in
     record {
-      is = sym (ap (λ o. stands_again o d || list_any (has_bit_in d.name d.bounds) all) absent ∙ none);
+      is = bits ∙ sym (ap (λ o. stands_again o d || list_any (has_bit_in d.name d.bounds) all) absent);
       kept = λ e q. kept_more before d q (first_in names q) (first_in old q) (adds q) (keeps q);
-      clean = λ e. new_clean before d all absent clean none;
+      clean = λ e. new_clean before d all absent clean (sym bits ∙ e);
     }
 
 -- a loop over names that are declared alike
@@ -122,7 +104,7 @@ module _ (first : First) (before : List Declaration) (all : List (List ℕ)) (na
   both_passed le so_far = sym (ap (λ l. any_again (So i) (map (declared_as first) l) || have_bits (map (declared_as first) l) all) (drop_all i names le)) ∙ so_far
 
 -- a statement declares nothing
-pub adds_none : (names : DeclaredNames) (nets : Nets) (before ds : List Declaration) (all : List (List ℕ)) → ds ≡ [] → AreKnown names nets before all → Adds false names before ds all
+pub adds_none : {S : Type 0} (names : DeclaredNames) (nets : HashSet (Bor (List ℕ)) S) (before ds : List Declaration) (all : List (List ℕ)) → ds ≡ [] → AreKnown names nets before all → Adds false names before ds all
 unfolding any_again
 adds_none names nets before ds all none known =
     let same : before ≡ before ++ ds = sym (ap (λ l. before ++ l) none ∙ append-nil before) in

@@ -32,18 +32,14 @@ added name q first new old is absent =
     ]
     in is ∙ cases (bytes_eq name q) absent
 
--- a name that was there
-pub kept : (name q : List ℕ) (first : First) (old : Option First) → (bytes_eq name q ≡ true → is_some old ≡ true) → old ≡ option_or old (only_at name first q)
-kept name q first old there =
-    let cases : (o : Option First) (t : Bool) → (t ≡ true → is_some o ≡ true) → o ≡ option_or o (cond t (Some first) None)
-    = λ o t. elim o as (λ o. (t ≡ true → is_some o ≡ true) → o ≡ option_or o (cond t (Some first) None)) [
-      | None ↦ elim t as (λ t. (t ≡ true → is_some {T = First} None ≡ true) → None ≡ cond t (Some first) None) [
-        | true ↦ λ h. let wrong = h refl in cc
-        | false ↦ λ h. refl
-      ]
-      | Some x ↦ λ h. refl
-    ]
-    in cases old (bytes_eq name q) there
+-- a name that was there, and whose first declaration was put back
+pub put_back : (name q : List ℕ) (first known : First) (new mid old : Option First) → new ≡ cond (bytes_eq name q) (Some known) mid → mid ≡ cond (bytes_eq name q) (Some first) old
+    → (bytes_eq name q ≡ true → old ≡ Some known) → new ≡ option_or old (only_at name first q)
+put_back name q first known new mid old is was there = is ∙ ap (λ (o : Option First). cond (bytes_eq name q) (Some known) o) was ∙ cases (bytes_eq name q) there
+  where
+    cases : (t : Bool) → (t ≡ true → old ≡ Some known) → cond t (Some known) (cond t (Some first) old) ≡ option_or old (cond t (Some first) None)
+    cases true h = sym (ap (λ (o : Option First). option_or o (Some first)) (h refl))
+    cases false h = sym (or_none old)
 
 -- whether a name is kept is told by what is kept
 pub absent_is : {X : Type 0} (o : Option X) → is_some o ≡ false → o ≡ None

@@ -8,6 +8,7 @@ pub mod BitLookups
 pub mod Again
 pub mod Undeclared
 pub mod Clean
+pub mod ClosedNames
 pub mod SeenMore
 pub mod Firsts
 pub mod Counting

@@ -1,50 +1,26 @@
 -- What the check of names has seen, as a statement is added.
-use Rattle.std.proofs.Common.{◌≡◌, ℕ, zero, suc, ◌-◌, Bool, true, false, not, ◌&&◌, ◌||◌, List, [], ◌∷◌, ◌++◌, length, map, take, drop, decimal, Option, Some, None, option_map, refl, sym, ap, ◌∙◌, subst, length-append, arith}
-use Rattle.std.specs.List.{list_any, flat_map}
-use Rattle.std.specs.Str.{bytes_eq}
-use Rattle.std.proofs.Math.Seq.{drop-append_seam}
+use Rattle.std.proofs.Common.{◌≡◌, ℕ, zero, suc, Bool, true, false, not, ◌&&◌, ◌||◌, List, [], ◌∷◌, ◌++◌, map, take, Option, Some, None, option_map, refl, sym, ap, ◌∙◌, subst}
+use Rattle.std.specs.List.{list_any, filter, flat_map}
 use Rattle.std.proofs.lemmas.List.{append-nil}
 use Rattle.std.proofs.lemmas.List.Concat.{flat_map-append}
+use Rattle.std.proofs.lemmas.List.Elements.{filter-append}
 use Rattle.std.proofs.lemmas.List.Folds.{list_any-append, list_all-append}
-use Rattle.std.proofs.lemmas.Slice.Eq.{bytes_eq-Decides}
 use Rattle.verilog_syntax.specs.declared.statement.Declared.{Declared}
 use Rattle.verilog_syntax.specs.declared.statement.Range.{Range}
 use Rattle.verilog_syntax.specs.declared.statement.Statement.{Statement}
 use Rattle.verilog_syntax.specs.declared.statement.Statement.TheVariants as statements
 use Rattle.verilog_syntax.specs.declared.reading.Placed.{Placed}
-use Rattle.verilog_reader.specs.declared.bounds.Bounds.{Bounds}
 use Rattle.verilog_reader.specs.declared.twice.Seen.{Seen}
-use Rattle.verilog_reader.specs.Values.{bit_name}
-use Rattle.verilog_reader.specs.Declarations.{Declaration, declaration_of, bounds_of, declarations_in, declarations, has, ports_in, items_in, width, index_at}
-use Rattle.verilog_reader.specs.Faults.{has_twice, any_again, instances_named, instance_names, pins_in, has_bit_in, scalars_in, scalars, are_bits, have_bits, bad_twice, is_bad_number, is_bad_range, range_in}
+use Rattle.verilog_reader.specs.Declarations.{Declaration, declaration_of, bounds_of, declarations_in, declarations, has, ports_in, items_in}
+use Rattle.verilog_reader.specs.Faults.{has_twice, any_again, instances_named, instance_names, pins_in, scalars_in, scalars, are_bits, have_bits, bad_twice, is_bad_number, is_bad_range, range_in}
 use Rattle.verilog_reader.specs.Steps.{has_bad_number, are_small, first_kept}
 use Rattle.verilog_reader.specs.NameSets.{HasNames}
 use Rattle.verilog_reader.specs.Seen.{is_small, have_small, is_bit, is_closed, IsClean, Adds, IsSeen, Tells}
-use Rattle.verilog_reader.proofs.AnyLemmas.{or_true, or_false, or_false_left, or_false_right, not_true, and_parts, any_same}
-use Rattle.verilog_reader.proofs.BitNames.{bit_parts}
-use Rattle.verilog_reader.proofs.BitLookups.{none_from, are_bits_is}
+use Rattle.verilog_reader.proofs.AnyLemmas.{or_true, or_false, or_false_left, or_false_right, and_parts, any_same}
+use Rattle.verilog_reader.proofs.BitLookups.{are_bits_is}
 use Rattle.verilog_reader.proofs.Clean.{scalars_stay}
+use Rattle.verilog_reader.proofs.ClosedNames.{closed_are_bits}
 use Rattle.verilog_reader.proofs.Undeclared.{scalar_names}
-
--- the name of a bit ends with a closing bracket
-closed_end : (xs : List ℕ) → is_closed (xs ++ 93 ∷ []) ≡ true
-closed_end xs =
-    let n : length (xs ++ 93 ∷ []) - 1 ≡ length xs = omega (arith, length-append xs (93 ∷ [])) in
-    ap (λ k. bytes_eq (93 ∷ []) (drop k (xs ++ 93 ∷ []))) n ∙ ap (bytes_eq (93 ∷ [])) (drop-append_seam xs (93 ∷ []))
-
-bit_closed : (v : List ℕ) (i : ℕ) → is_closed (bit_name v i) ≡ true
-bit_closed v i = ap is_closed (bit_parts v i) ∙ closed_end (v ++ 91 ∷ decimal i)
-
-no_bit_of : (v : List ℕ) (o : Option Bounds) (name : List ℕ) → is_closed name ≡ false → has_bit_in v o name ≡ false
-no_bit_of v None name other = refl
-no_bit_of v (Some b) name other =
-    none_from (λ j. bytes_eq (bit_name v j) name) b 0 (width b)
-    (λ m lt. not_true (bytes_eq (bit_name v (index_at b m)) name) (λ e. let wrong = sym other ∙ sym (ap is_closed ((bytes_eq-Decides (bit_name v (index_at b m)) name).0 e)) ∙ bit_closed v (index_at b m) in cc))
-
-pub no_bits_of : (v : List ℕ) (o : Option Bounds) (names : List (List ℕ)) → list_any is_closed names ≡ false → list_any (has_bit_in v o) names ≡ false
-no_bits_of v o [] other = refl
-no_bits_of v o (name ∷ names) other =
-    ap (λ t. t || list_any (has_bit_in v o) names) (no_bit_of v o name (or_false_left (is_closed name) (list_any is_closed names) other)) ∙ no_bits_of v o names (or_false_right (is_closed name) (list_any is_closed names) other)
 
 -- what one statement more adds
 flat_last : {X : Type 0} (f : Placed → List X) (before : List Placed) (p : Placed) → flat_map f before ++ f p ≡ flat_map f (before ++ p ∷ [])
@@ -75,28 +51,30 @@ in_order false false false false true f = refl
 in_order false false false false false f = or_false f
 
 -- what the code finds out at a statement
-pub record IsAdded (itself bits stands again : Bool) (all before : List Placed) (names : List (List ℕ)) (s : Statement) (old new : Seen) : Type 0 where
-  pub named : names ≡ scalars_in (declarations all) s
+pub record IsAdded (itself bits stands again : Bool) (all before : List Placed) (names : List (List ℕ)) (s : Statement) (new : Seen) : Type 0 where
+  pub named : names ≡ filter is_closed (scalars_in (declarations all) s)
   pub twice : itself ≡ (has_twice (ports_in s) || has_twice (pins_in s))
   pub among : bits ≡ are_bits (declarations before) names
   pub adds : Adds stands new.declared (declarations before) (declarations_in s) (scalars (declarations all) before)
   pub named_again : again ≡ list_any (has (instance_names before)) (instances_named s)
   pub instances : HasNames new.instances (instance_names before ++ instances_named s)
-  pub nets : HasNames new.nets.names (scalars (declarations all) before ++ names)
-  pub closed : new.nets.closed ≡ (old.nets.closed || list_any is_closed names)
+  pub nets : HasNames new.nets (filter is_closed (scalars (declarations all) before) ++ names)
 
-module _ (itself bits stands again : Bool) (all before : List Placed) (names : List (List ℕ)) (old new : Seen) (p : Placed) (seen : IsSeen all before old) where
+module _ (itself bits stands again : Bool) (all before : List Placed) (names : List (List ℕ)) (new : Seen) (p : Placed) where
   abbrev Added : Statement → Type 0
-  Added s = IsAdded itself bits stands again all before names s old new
+  Added s = IsAdded itself bits stands again all before names s new
 
   abbrev bad : Bool
   bad = ((itself || bits) || stands) || again
+
+  bits_are : Added p.statement → bits ≡ are_bits (declarations before) (scalars_in (declarations all) p.statement)
+  bits_are a = a.among ∙ ap (are_bits (declarations before)) a.named ∙ closed_are_bits (declarations before) (scalars_in (declarations all) p.statement)
 
   bad_is : Added p.statement → bad ≡ bad_twice all before p
   unfolding bad_twice
   bad_is a =
       ap (λ t. ((t || bits) || stands) || again) a.twice
-      ∙ ap (λ t. (((has_twice (ports_in p.statement) || has_twice (pins_in p.statement)) || t) || stands) || again) (a.among ∙ ap (are_bits (declarations before)) a.named)
+      ∙ ap (λ t. (((has_twice (ports_in p.statement) || has_twice (pins_in p.statement)) || t) || stands) || again) (bits_are a)
       ∙ ap (λ t. (((has_twice (ports_in p.statement) || has_twice (pins_in p.statement)) || are_bits (declarations before) (scalars_in (declarations all) p.statement)) || t) || again) a.adds.is
       ∙ ap (λ t. (((has_twice (ports_in p.statement) || has_twice (pins_in p.statement)) || are_bits (declarations before) (scalars_in (declarations all) p.statement))
       || (any_again (declarations before) (declarations_in p.statement) || have_bits (declarations_in p.statement) (scalars (declarations all) before))) || t) a.named_again
@@ -106,8 +84,11 @@ module _ (itself bits stands again : Bool) (all before : List Placed) (names : L
   abbrev so : List (List ℕ)
   so = scalars (declarations all) before
 
-  nets_more : Added p.statement → so ++ names ≡ scalars (declarations all) (before ++ p ∷ [])
-  nets_more a = ap (λ l. so ++ l) a.named ∙ flat_last (λ x. scalars_in (declarations all) x.statement) before p
+  nets_more : so ++ scalars_in (declarations all) p.statement ≡ scalars (declarations all) (before ++ p ∷ [])
+  nets_more = flat_last (λ x. scalars_in (declarations all) x.statement) before p
+
+  closed_more : Added p.statement → filter is_closed so ++ names ≡ filter is_closed (scalars (declarations all) (before ++ p ∷ []))
+  closed_more a = ap (λ l. filter is_closed so ++ l) a.named ∙ sym (filter-append is_closed so (scalars_in (declarations all) p.statement)) ∙ ap (filter is_closed) nets_more
 
   declared_more : declarations before ++ declarations_in p.statement ≡ declarations (before ++ p ∷ [])
   declared_more = flat_last (λ x. declarations_in x.statement) before p
@@ -116,9 +97,10 @@ module _ (itself bits stands again : Bool) (all before : List Placed) (names : L
   clean_more a none good =
       let ds = declarations before ++ declarations_in p.statement in
       let no_again = or_false_left (any_again (declarations before) (declarations_in p.statement)) (have_bits (declarations_in p.statement) so) (sym a.adds.is ∙ good) in
-      let behind : IsClean ds names = ap (list_any (is_bit ds)) a.named ∙ scalars_clean p.statement (declarations all) (declarations before) no_again (ap (are_bits (declarations before)) (sym a.named) ∙ sym a.among ∙ none) in
-      let both : IsClean ds (so ++ names) = list_any-append (is_bit ds) so names ∙ ap (λ t. t || list_any (is_bit ds) names) (a.adds.clean good) ∙ behind in
-      ap (λ l. list_any (is_bit l) (scalars (declarations all) (before ++ p ∷ []))) (sym declared_more) ∙ ap (list_any (is_bit ds)) (sym (nets_more a)) ∙ both
+      let here = scalars_in (declarations all) p.statement in
+      let behind : IsClean ds here = scalars_clean p.statement (declarations all) (declarations before) no_again (sym (bits_are a) ∙ none) in
+      let both : IsClean ds (so ++ here) = list_any-append (is_bit ds) so here ∙ ap (λ t. t || list_any (is_bit ds) here) (a.adds.clean good) ∙ behind in
+      ap (λ l. list_any (is_bit l) (scalars (declarations all) (before ++ p ∷ []))) (sym declared_more) ∙ ap (list_any (is_bit ds)) (sym nets_more) ∙ both
 
   seen_more : Added p.statement → bad ≡ false → IsSeen all (before ++ p ∷ []) new
   seen_more a e =
@@ -129,10 +111,7 @@ module _ (itself bits stands again : Bool) (all before : List Placed) (names : L
         instances = λ q. a.instances q ∙ ap (λ l. has l q.now) (flat_last (λ x. instances_named x.statement) before p);
         known = record {
           keeps = λ q. a.adds.kept good q ∙ ap (λ l. first_kept l q) declared_more;
-          are_nets = record {
-            names = λ q. a.nets q ∙ ap (λ l. has l q.now) (nets_more a);
-            closed = a.closed ∙ ap (λ t. t || list_any is_closed names) seen.known.are_nets.closed ∙ sym (list_any-append is_closed so names) ∙ ap (list_any is_closed) (nets_more a);
-          };
+          are_nets = λ q. a.nets q ∙ ap (λ l. has l q.now) (closed_more a);
           clean = clean_more a none good;
         };
       }

@@ -1,13 +1,14 @@
 -- What the check of names knows of the statements so far.
 use Rattle.std.specs.Prelude.{◌≡◌, ℕ, ◌-◌, Bool, true, false, ◌&&◌, ◌||◌, not, nat_lt, List, [], ◌∷◌, ◌++◌, length, drop, Option, Some, None}
-use Rattle.std.specs.List.{list_any, list_all}
+use Rattle.std.specs.List.{list_any, list_all, filter}
+use Rattle.std.specs.Borrow.{Bor}
+use Rattle.std.specs.HashSet.{HashSet}
 use Rattle.std.specs.Str.{bytes_eq}
 use Rattle.verilog_syntax.specs.declared.statement.Declared.{Declared}
 use Rattle.verilog_syntax.specs.declared.reading.Placed.{Placed}
 use Rattle.verilog_reader.specs.declared.bounds.Bounds.{Bounds}
 use Rattle.verilog_reader.specs.declared.declared.First.{First}
 use Rattle.verilog_reader.specs.declared.declared.DeclaredNames.{DeclaredNames}
-use Rattle.verilog_reader.specs.declared.twice.Nets.{Nets}
 use Rattle.verilog_reader.specs.declared.twice.Seen.{Seen}
 use Rattle.verilog_reader.specs.Values.{plain_of}
 use Rattle.verilog_reader.specs.Declarations.{Declaration, declarations, first_of, bounds_in, is_port_kind, is_wire}
@@ -43,13 +44,12 @@ is_closed name = bytes_eq (93 ∷ []) (drop (length name - 1) name)
 abbrev pub IsClean : List Declaration → List (List ℕ) → Type 0
 IsClean ds names = list_any (is_bit ds) names ≡ false
 
--- the scalar nets so far
-pub record AreNets (nets : Nets) (all : List (List ℕ)) : Type 0 where
-  pub names : HasNames nets.names all
-  pub closed : nets.closed ≡ list_any is_closed all
+-- the set has those of the scalar nets that are closed
+abbrev pub AreNets : {S : Type 0} → HashSet (Bor (List ℕ)) S → List (List ℕ) → Type 0
+AreNets nets all = HasNames nets (filter is_closed all)
 
 -- declarations and scalar nets of which none is a bit
-pub record AreKnown (names : DeclaredNames) (nets : Nets) (before : List Declaration) (all : List (List ℕ)) : Type 0 where
+pub record AreKnown {S : Type 0} (names : DeclaredNames) (nets : HashSet (Bor (List ℕ)) S) (before : List Declaration) (all : List (List ℕ)) : Type 0 where
   pub keeps : Keeps names before
   pub are_nets : AreNets nets all
   pub clean : IsClean before all

@@ -3,6 +3,7 @@ ghost use Rattle.std.specs.Prelude.{◌≡◌, ◌==◌, ◌<◌, ◌≤◌, ◌
 ghost use Rattle.std.specs.List.{list_any, list_all};
 ghost use Rattle.text_scan.specs.VerilogTokens.{is_digit};
 ghost use Rattle.verilog_reader.specs.Values.{bit_name};
+ghost use Rattle.verilog_reader.specs.Seen.{is_closed};
 
 use crate::values::index_value;
 
@@ -23,6 +24,13 @@ fn plain_index(digits: &[u8]) -> Option<u32>
         return None;
     }
     index_value(digits)
+}
+
+/// Whether a name ends as those of bits do.
+pub(crate) fn is_closed(name: &[u8]) -> bool
+    ensures value { result ≡ is_closed name.now }
+{
+    name.ends_with(b"]")
 }
 
 /// What stands before a closing bracket at the end.

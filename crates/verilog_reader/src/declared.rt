@@ -65,14 +65,16 @@ impl<'a> DeclaredNames<'a> {
         self.firsts.contains_key(&name)
     }
 
-    /// Adds a declaration of a name, unless the name has one.
-    pub(crate) fn add(&mut self, name: &'a [u8], first: First) -> Result<(), NoMemory>
+    /// Adds a declaration of a name, unless the name has one, which it then answers.
+    pub(crate) fn add(&mut self, name: &'a [u8], first: First) -> Result<Option<First>, NoMemory>
+        ensures before { IfOk result (λ known. known ≡ first_in self.old name.now) }
         ensures ok { OnOk result ((q : List ℕ) → first_in self.new q ≡ option_or (first_in self.old q) (only_at name.now first q)) }
     {
-        if !self.firsts.contains_key(&name) {
-            self.firsts.insert(name, first)?;
+        let known = self.firsts.insert(name, first)?;
+        if let Some(known) = known {
+            self.firsts.insert(name, known)?;
         }
-        Ok(())
+        Ok(known)
     }
 
     /// Adds the declarations of a name list.

@@ -13,10 +13,7 @@ use text_scan::NoMemory;
 use verilog_syntax::{Connection, Statement, Written};
 
 /// Puts the plain names of these behind the last one.
-pub(crate) fn push_names<'a>(
-    names: &mut Vec<&'a [u8]>,
-    written: &[Written<'a>],
-) -> Result<(), NoMemory>
+fn push_names<'a>(names: &mut Vec<&'a [u8]>, written: &[Written<'a>]) -> Result<(), NoMemory>
     ensures value { OnOk result (map (λ name. name.now) names.new.items ≡ map (λ name. name.now) names.old.items ++ map plain_of written.now) }
 {
     for name in written {

@@ -19,7 +19,7 @@ use crate::declared::{DeclaredNames, First, range_bounds};
 use crate::faults::fault_at;
 use crate::name_hash::{NameSet, NameState};
 use crate::name_lists::{add_names, has_twice, ports_in, repeats_pin};
-use crate::scalars::scalars_in;
+use crate::scalars::closed_scalars_in;
 use crate::select::{is_port_kind, selects};
 use crate::values::{plain_of, push_bit_name};
 use crate::vector::{index_at, width};
@@ -80,57 +80,33 @@ fn are_bits(declared: &DeclaredNames, names: &[&[u8]]) -> bool
     false
 }
 
-/// Whether a name ends as those of bits do.
-fn is_closed(name: &[u8]) -> bool
-    ensures value { result ≡ is_closed name.now }
-{
-    name.ends_with(b"]")
-}
-
-fn any_closed(names: &[&[u8]]) -> bool
-    ensures value { result ≡ list_any is_closed (map (λ name. name.now) names.now) }
-{
-    for name in names {
-        if is_closed(*name) {
-            return true;
-        }
-    }
-    false
-}
-
 fn has_name(names: &NameSet, name: &[u8]) -> bool
     ensures value { (all : List (List ℕ)) → HasNames names.now all → result ≡ has all name.now }
 {
     names.contains(&name)
 }
 
-/// Whether one of some names is that of a bit of the vector.
-fn has_bit(alloc: Global, names: &NameSet, vector: &[u8], bounds: Bounds) -> Result<bool, NoMemory>
-    ensures value { IfOk result (λ found. (all : List (List ℕ)) → HasNames names.now all → found ≡ list_any (has_bit_in vector.now (Some bounds)) all) }
+/// Whether one of the scalar nets has the name of a bit of the vector.
+fn has_bit(alloc: Global, nets: &NameSet, vector: &[u8], bounds: Bounds) -> Result<bool, NoMemory>
+    ensures value { IfOk result (λ found. (all : List (List ℕ)) → AreNets nets.now all → found ≡ list_any (has_bit_in vector.now (Some bounds)) all) }
 {
     let mut name = Vec::new(alloc);
     for place in 0..width(bounds) {
         name.clear();
         push_bit_name(alloc, &mut name, vector, index_at(bounds, place))?;
-        if has_name(names, name.as_slice()) {
+        if has_name(nets, name.as_slice()) {
             return Ok(true);
         }
     }
     Ok(false)
 }
 
-/// The scalar nets so far.
-#[derive(Drop)]
-struct Nets<'a> {
-    names: NameSet<'a>,
-    /// One of the names ends as those of bits do; else no bit has one of them.
-    closed: bool,
-}
-
 /// Whether one of the scalar nets has the name of a bit of the vector; without bounds it is none.
+///
+/// The set holds the closed names alone, since no bit has another.
 fn has_bit_among(
     alloc: Global,
-    nets: &Nets,
+    nets: &NameSet,
     vector: &[u8],
     bounds: Option<Bounds>,
 ) -> Result<bool, NoMemory>
@@ -138,10 +114,10 @@ fn has_bit_among(
 {
     match bounds {
         Some(bounds) => {
-            if nets.closed {
-                has_bit(alloc, &nets.names, vector, bounds)
-            } else {
+            if nets.is_empty() {
                 Ok(false)
+            } else {
+                has_bit(alloc, nets, vector, bounds)
             }
         }
         None => Ok(false),
@@ -154,21 +130,15 @@ fn has_bit_among(
 fn add_name<'a>(
     alloc: Global,
     declared: &mut DeclaredNames<'a>,
-    nets: &Nets,
+    nets: &NameSet,
     first: First,
     name: &'a [u8],
 ) -> Result<bool, NoMemory>
     ensures value { IfOk result (λ bad. (before : List Declaration) (all : List (List ℕ)) → AreKnown declared.old nets.now before all → AddsOne bad declared.new before (declared_at first name.now) all) }
 {
-    match declared.first_of(name) {
+    match declared.add(name, first)? {
         Some(known) => Ok(!may_stand_beside(known, first.kind, first.bounds)),
-        None => {
-            if has_bit_among(alloc, nets, name, first.bounds)? {
-                return Ok(true);
-            }
-            declared.add(name, first)?;
-            Ok(false)
-        }
+        None => has_bit_among(alloc, nets, name, first.bounds),
     }
 }
 
@@ -176,7 +146,7 @@ fn add_name<'a>(
 fn add_names_declared<'a>(
     alloc: Global,
     declared: &mut DeclaredNames<'a>,
-    nets: &Nets,
+    nets: &NameSet,
     first: First,
     names: &[Written<'a>],
 ) -> Result<bool, NoMemory>
@@ -194,7 +164,7 @@ fn add_names_declared<'a>(
 fn add_declarations<'a>(
     alloc: Global,
     declared: &mut DeclaredNames<'a>,
-    nets: &Nets,
+    nets: &NameSet,
     statement: &Statement<'a>,
 ) -> Result<bool, NoMemory>
     requires small { is_bad_range (range_in statement.now) ≡ false }
@@ -242,7 +212,8 @@ fn repeats_itself(alloc: Global, statement: &Statement) -> Result<bool, NoMemory
 struct Seen<'a> {
     declared: DeclaredNames<'a>,
     instances: NameSet<'a>,
-    nets: Nets<'a>,
+    /// The scalar nets with closed names.
+    nets: NameSet<'a>,
 }
 
 impl<'a> Seen<'a> {
@@ -252,10 +223,7 @@ impl<'a> Seen<'a> {
         Seen {
             declared: DeclaredNames::new(alloc),
             instances: NameSet::with_hasher(alloc, NameState::new()),
-            nets: Nets {
-                names: NameSet::with_hasher(alloc, NameState::new()),
-                closed: false,
-            },
+            nets: NameSet::with_hasher(alloc, NameState::new()),
         }
     }
 
@@ -269,13 +237,12 @@ impl<'a> Seen<'a> {
         requires small { is_bad_range (range_in statement.now) ≡ false }
         ensures value { IfOk result (λ bad. (ps : List Placed) (before : List Placed) (p : Placed) → p.statement ≡ statement.now → Keeps all.now (declarations ps) → have_small (declarations before) ≡ true → IsSeen ps before self.old → Tells bad ps before p self.new) }
     {
-        let scalars = scalars_in(alloc, all, statement)?;
+        let scalars = closed_scalars_in(alloc, all, statement)?;
         let itself = repeats_itself(alloc, statement)?;
         let bits = are_bits(&self.declared, scalars.as_slice());
         let stands = add_declarations(alloc, &mut self.declared, &self.nets, statement)?;
         let again = add_instance(&mut self.instances, statement)?;
-        add_names(&mut self.nets.names, scalars.as_slice())?;
-        self.nets.closed |= any_closed(scalars.as_slice());
+        add_names(&mut self.nets, scalars.as_slice())?;
         Ok(itself | bits | stands | again)
     }
 }

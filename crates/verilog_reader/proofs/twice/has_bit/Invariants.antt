@@ -6,5 +6,5 @@ use Rattle.verilog_reader.specs.NameSets.{HasNames}
 use Rattle.verilog_reader.proofs.twice.has_bit.Given as goal
 
 abbrev pub invariant-loop-place : goal.invariant-loop-place
-invariant-loop-place l = (all : List (List ℕ)) → HasNames l.names all
+invariant-loop-place l = (all : List (List ℕ)) → HasNames l.nets all
     → list_any (λ i. has all (bit_name l.vector i)) (indexes_from l.bounds l.place (width l.bounds - l.place)) ≡ list_any (λ i. has all (bit_name l.vector i)) (indexes l.bounds)

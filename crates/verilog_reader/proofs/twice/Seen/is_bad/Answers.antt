@@ -1,5 +1,5 @@
-use Rattle.std.proofs.Common.{◌++◌, ◌||◌, Bool, Bor, List, ℕ, ap, ◌∙◌}
-use Rattle.std.specs.List.{list_any}
+use Rattle.std.proofs.Common.{◌++◌, Bor, List, ℕ, ap, ◌∙◌}
+use Rattle.std.specs.List.{filter}
 use Rattle.verilog_reader.specs.Declarations.{declarations, has}
 use Rattle.verilog_reader.specs.Faults.{are_bits, instance_names, scalars}
 use Rattle.verilog_reader.specs.Seen.{is_closed}
@@ -12,7 +12,7 @@ returns c = record {
   value = λ ps before p is keeps small seen.
       let so = scalars (declarations ps) before in
       let again = c.in_ok-again.ensures.value (instance_names before) seen.instances in
-      tells c.in_ok-itself.itself c.are_bits-bits.result c.in_ok-stands.stands c.in_ok-again.again ps before (now_of c.in_ok-scalars.scalars.items) c.args.self.now _ p seen c.args.statement.now is
+      tells c.in_ok-itself.itself c.are_bits-bits.result c.in_ok-stands.stands c.in_ok-again.again ps before (now_of c.in_ok-scalars.scalars.items) _ p c.args.statement.now is
       (record {
         named = c.in_ok-scalars.ensures.value (declarations ps) keeps;
         twice = c.in_ok-itself.ensures.value;
@@ -20,7 +20,6 @@ returns c = record {
         adds = c.in_ok-stands.ensures.value (declarations before) so seen.known;
         named_again = again.0;
         instances = again.1;
-        nets = λ q. c.in_ok-add_names.ensures.value so seen.known.are_nets.names q ∙ ap (λ (l : List (Bor (List ℕ))). has (so ++ now_of l) q.now) c.as_slice-2.ensures.value;
-        closed = ap (λ (t : Bool). c.args.self.now.nets.closed || t) (c.any_closed.ensures.value ∙ ap (λ (l : List (Bor (List ℕ))). list_any is_closed (now_of l)) c.as_slice-3.ensures.value);
+        nets = λ q. c.in_ok-add_names.ensures.value (filter is_closed so) seen.known.are_nets q ∙ ap (λ (l : List (Bor (List ℕ))). has (filter is_closed so ++ now_of l) q.now) c.as_slice-2.ensures.value;
       });
 }
