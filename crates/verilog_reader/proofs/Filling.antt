@@ -1,16 +1,12 @@
 -- A table that is filled by one loop or another.
 use Rattle.std.proofs.Common.{◌≡◌, ℕ, ◌+◌, ◌<◌, ◌≤◌, List, [], ◌∷◌, ◌++◌, length, map, get_or, drop, Option, None, refl, sym, ap, ◌∙◌}
-use Rattle.std.specs.List.{flat_map}
 use Rattle.std.proofs.lemmas.List.{map-append, drop_more, drop_all}
-use Rattle.std.proofs.lemmas.List.Concat.{flat_map-append}
-use Rattle.verilog_syntax.specs.declared.statement.Item.{Item}
-use Rattle.verilog_syntax.specs.declared.statement.Connection.{Connection}
 use Rattle.verilog_syntax.specs.declared.statement.Range.{Range}
 use Rattle.verilog_syntax.specs.declared.statement.Declared.{Declared}
 use Rattle.verilog_syntax.specs.declared.reading.Placed.{Placed}
 use Rattle.verilog_reader.specs.declared.bounds.Bounds.{Bounds}
-use Rattle.verilog_reader.specs.Declarations.{Declaration, declaration_of, declarations_in, declarations, mentions_of, mentions_in, mentions, connection_items}
-use Rattle.verilog_reader.specs.Numbering.{with_entry, with_entries, with_declared, with_mentioned}
+use Rattle.verilog_reader.specs.Declarations.{Declaration, declaration_of, declarations_in, declarations}
+use Rattle.verilog_reader.specs.Numbering.{with_entry, with_entries, with_declared}
 
 abbrev pub Entries : Type 0
 Entries = List (List ℕ × Option Bounds)

@@ -20,7 +20,7 @@ use Rattle.verilog_syntax.specs.declared.statement.Statement.{Statement}
 use Rattle.verilog_syntax.specs.declared.statement.Statement.TheVariants as statements
 use Rattle.verilog_reader.specs.declared.bounds.Bounds.{Bounds}
 use Rattle.verilog_reader.specs.declared.entry.Entry.{Entry}
-use Rattle.verilog_reader.specs.Values.{plain_of, decimal_value, is_big_index}
+use Rattle.verilog_reader.specs.Values.{plain_of, decimal_value}
 use Rattle.verilog_reader.specs.Declarations.{mentions_of, mentions_in, connection_items}
 use Rattle.verilog_reader.specs.Faults.{width_or_one, part_of, selects, selects_part}
 use Rattle.verilog_reader.specs.Numbering.{place_from, place, bounds_or, with_entry, with_entries, with_mentioned, all_bits, one_bit, part_bits, numbered_item, numbered_items, numbered_expression, numbered_connection, numbered_assigns_in, numbered_instances_in, IsFineItem, IsFineExpression, IsFineStatement, HasFineItems}
@@ -72,11 +72,12 @@ agree_right es more xs ys is = each_right (λ (q : List ℕ). place more q ≡ p
 -- what is mentioned is settled
 pub settled : (es : Entries) (names : List (List ℕ)) (xs : Entries) → Agree (with_mentioned es names) (with_entries (with_mentioned es names) xs) names
 settled es [] xs = tt
-settled es (n ∷ names) xs =
-    (kept (with_mentioned es (n ∷ names)) xs n
-     (named_all (with_entry es n None) (map (λ (name : List ℕ). let e : List ℕ × Option Bounds = (name, None) in e) names) n
+settled es (n ∷ names) xs = (
+  kept (with_mentioned es (n ∷ names)) xs n
+      (named_all (with_entry es n None) (map (λ (name : List ℕ). let e : List ℕ × Option Bounds = (name, None) in e) names) n
       ∙ ap (λ (t : Bool). t || named (map (λ (name : List ℕ). let e : List ℕ × Option Bounds = (name, None) in e) names) n) (named_more es n None n ∙ self)),
-     settled (with_entry es n None) names xs)
+  settled (with_entry es n None) names xs,
+)
   where
     or_true : (t : Bool) → (t || true) ≡ true
     or_true true = refl
@@ -155,7 +156,7 @@ module _ (es more : Entries) where
       ap (λ (e : Expr). let made : Assign = record { left = e; right = numbered_expression more right; line = line } in made ∷ [])
       (same_expression left (agree_left es more (flat_map mentions_of left.items) (flat_map mentions_of right.items) both))
       ∙ ap (λ (e : Expr). let made : Assign = record { left = numbered_expression es left; right = e; line = line } in made ∷ [])
-        (same_expression right (agree_right es more (flat_map mentions_of left.items) (flat_map mentions_of right.items) both))
+      (same_expression right (agree_right es more (flat_map mentions_of left.items) (flat_map mentions_of right.items) both))
   same_assigns line (statements.Instance cell name connections) is = refl
 
   pub same_instances : (line : ℕ) (s : Statement) → Agree es more (mentions_in s) → numbered_instances_in more line s ≡ numbered_instances_in es line s
@@ -169,9 +170,10 @@ module _ (es more : Entries) where
   has_fine_items (statements.Module name ports) is fine = tt
   has_fine_items (statements.Declare kind range names) is fine = tt
   has_fine_items (statements.Assign left right) is fine =
-      let both = agree_sides left.items right.items is in
-      (fine_items left.items (agree_left es more (flat_map mentions_of left.items) (flat_map mentions_of right.items) both) fine.0,
-       fine_items right.items (agree_right es more (flat_map mentions_of left.items) (flat_map mentions_of right.items) both) fine.1)
+      let both = agree_sides left.items right.items is in (
+        fine_items left.items (agree_left es more (flat_map mentions_of left.items) (flat_map mentions_of right.items) both) fine.0,
+        fine_items right.items (agree_right es more (flat_map mentions_of left.items) (flat_map mentions_of right.items) both) fine.1,
+      )
   has_fine_items (statements.Instance cell name connections) is fine = fine_connections connections is fine
 
 pub items_of_fine : (es : Entries) (s : Statement) → IsFineStatement es s → HasFineItems es s

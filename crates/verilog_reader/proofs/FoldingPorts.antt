@@ -1,5 +1,5 @@
 -- The ports of a module by the entries of what it declares, before any that it only mentions.
-use Rattle.std.proofs.Common.{◌≡◌, ℕ, Bool, true, false, ◌||◌, List, [], ◌∷◌, ◌++◌, map, Option, None, refl, sym, ap, subst, ◌∙◌}
+use Rattle.std.proofs.Common.{◌≡◌, ℕ, Bool, true, false, ◌||◌, List, [], ◌∷◌, ◌++◌, map, Option, refl, sym, ap, subst, ◌∙◌}
 use Rattle.std.specs.List.{flat_map, All}
 use Rattle.std.specs.Str.{bytes_eq}
 use Rattle.std.proofs.lemmas.List.Elements.{All-weaker}
@@ -19,7 +19,7 @@ use Rattle.verilog_reader.specs.declared.entry.Entry.{Entry}
 use Rattle.verilog_reader.specs.Values.{plain_of}
 use Rattle.verilog_reader.specs.Declarations.{Declaration, declaration_of, declarations_in, declarations, is_declared, mentions}
 use Rattle.verilog_reader.specs.Denoted.{directions_of, header_name, header_line, entry_nets}
-use Rattle.verilog_reader.specs.Numbering.{total, place, with_entries, with_declared, with_mentioned, entries, port_bits, numbered_ports_of, numbered_ports_in, numbered_ports, numbered_assigns, numbered_instances, numbered, IsListed, AreListed, IsFineStatement, HasFineItems}
+use Rattle.verilog_reader.specs.Numbering.{total, with_entries, with_declared, with_mentioned, entries, port_bits, numbered_ports_of, numbered_ports_in, numbered_ports, numbered_assigns, numbered_instances, numbered, IsListed, AreListed, IsFineStatement, HasFineItems}
 use Rattle.verilog_reader.proofs.Distinct.{all_of}
 use Rattle.verilog_reader.proofs.Filling.{Entries, mentioned_entries}
 use Rattle.verilog_reader.proofs.FoldingPlaces.{kept, each_left, each_right, items_of_fine}
@@ -38,9 +38,10 @@ module _ (es : Entries) where
 
   all_named : (ds : List Declaration) → ((q : List ℕ) → is_declared ds q ≡ true → named es q ≡ true) → AllNamed ds
   all_named [] h = tt
-  all_named (d ∷ ds) h =
-      (h d.name (ap (λ (t : Bool). t || is_declared ds d.name) (bytes_same d.name d.name refl)),
-       all_named ds (λ q is. h q (ap (λ (t : Bool). bytes_eq d.name q || t) is ∙ or_true (bytes_eq d.name q))))
+  all_named (d ∷ ds) h = (
+    h d.name (ap (λ (t : Bool). t || is_declared ds d.name) (bytes_same d.name d.name refl)),
+    all_named ds (λ q is. h q (ap (λ (t : Bool). bytes_eq d.name q || t) is ∙ or_true (bytes_eq d.name q))),
+  )
 
   names_listed : (kind : Declared) (range : Option Range) (names : List (List ℕ)) → AllNamed (map (declaration_of kind range) names) → Each (IsListed es) names
   names_listed kind range [] are = tt
@@ -54,9 +55,10 @@ module _ (es : Entries) where
 
   statements_listed : (ps : List Placed) → AllNamed (declarations ps) → Each (λ (p : Placed). AreListed es p.statement) ps
   statements_listed [] are = tt
-  statements_listed (p ∷ ps) are =
-      (statement_listed p.statement (each_left (λ (d : Declaration). named es d.name ≡ true) (declarations_in p.statement) (declarations ps) are),
-       statements_listed ps (each_right (λ (d : Declaration). named es d.name ≡ true) (declarations_in p.statement) (declarations ps) are))
+  statements_listed (p ∷ ps) are = (
+    statement_listed p.statement (each_left (λ (d : Declaration). named es d.name ≡ true) (declarations_in p.statement) (declarations ps) are),
+    statements_listed ps (each_right (λ (d : Declaration). named es d.name ≡ true) (declarations_in p.statement) (declarations ps) are),
+  )
 
   -- entries behind these leave the ports
   module _ (xs : Entries) where
@@ -72,7 +74,7 @@ module _ (es : Entries) where
         ap (λ (ports : List Port). ports ++ numbered_ports (with_entries es xs) ps)
         (same_of p.line (declarations_in p.statement) (each_left (λ (d : Declaration). named es d.name ≡ true) (declarations_in p.statement) (declarations ps) are))
         ∙ ap (λ (ports : List Port). numbered_ports_in es p.line p.statement ++ ports)
-          (same_ports ps (each_right (λ (d : Declaration). named es d.name ≡ true) (declarations_in p.statement) (declarations ps) are))
+        (same_ports ps (each_right (λ (d : Declaration). named es d.name ≡ true) (declarations_in p.statement) (declarations ps) are))
 
 declared_are : (ps : List Placed) → AllNamed (declared_of ps) (declarations ps)
 declared_are ps =

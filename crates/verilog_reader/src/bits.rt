@@ -89,11 +89,7 @@ fn push_item<'a>(
     }
 }
 
-fn bits_of<'a>(
-    alloc: Global,
-    nets: &mut Nets<'a>,
-    items: &[Item<'a>],
-) -> Result<Bits, NoMemory>
+fn bits_of<'a>(alloc: Global, nets: &mut Nets<'a>, items: &[Item<'a>]) -> Result<Bits, NoMemory>
     requires { All (IsFineItem (with_items nets.old items.now)) items.now }
     ensures ok { OnOk result (nets.new ≡ with_items nets.old items.now) }
     ensures value { IfOk result (λ bits. bits ≡ numbered_items nets.new items.now) }
