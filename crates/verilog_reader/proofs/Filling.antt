@@ -1,16 +1,12 @@
 -- A table that is filled by one loop or another.
 use Rattle.std.proofs.Common.{◌≡◌, ℕ, ◌+◌, ◌<◌, ◌≤◌, List, [], ◌∷◌, ◌++◌, length, map, get_or, drop, Option, None, refl, sym, ap, ◌∙◌}
-use Rattle.std.specs.List.{flat_map}
 use Rattle.std.proofs.lemmas.List.{map-append, drop_more, drop_all}
-use Rattle.std.proofs.lemmas.List.Concat.{flat_map-append}
-use Rattle.verilog_syntax.specs.declared.statement.Item.{Item}
-use Rattle.verilog_syntax.specs.declared.statement.Connection.{Connection}
 use Rattle.verilog_syntax.specs.declared.statement.Range.{Range}
 use Rattle.verilog_syntax.specs.declared.statement.Declared.{Declared}
 use Rattle.verilog_syntax.specs.declared.reading.Placed.{Placed}
 use Rattle.verilog_reader.specs.declared.bounds.Bounds.{Bounds}
-use Rattle.verilog_reader.specs.Declarations.{Declaration, declaration_of, declarations_in, declarations, mentions_of, mentions_in, mentions, connection_items}
-use Rattle.verilog_reader.specs.Numbering.{with_entry, with_entries, with_declared, with_mentioned}
+use Rattle.verilog_reader.specs.Declarations.{Declaration, declaration_of, declarations_in, declarations}
+use Rattle.verilog_reader.specs.Numbering.{with_entry, with_entries, with_declared}
 
 abbrev pub Entries : Type 0
 Entries = List (List ℕ × Option Bounds)
@@ -35,14 +31,11 @@ ends {X} F nil xs i old all past was =
 abbrev declared_entries : List Declaration → Entries
 declared_entries ds = map (λ d. (d.name, d.bounds)) ds
 
-abbrev mentioned_entries : List (List ℕ) → Entries
+abbrev pub mentioned_entries : List (List ℕ) → Entries
 mentioned_entries names = map (λ name. (name, None)) names
 
 pub entry_is : (old new : Entries) (p q : List ℕ) (a b : Option Bounds) → new ≡ with_entry old p a → p ≡ q → a ≡ b → new ≡ with_entry old q b
 entry_is old new p q a b is name bounds = is ∙ ap (λ (n : List ℕ). with_entry old n a) name ∙ ap (with_entry old q) bounds
-
-pub items_are : (old new : Entries) (xs ys : List Item) → new ≡ with_mentioned old (flat_map mentions_of xs) → xs ≡ ys → new ≡ with_mentioned old (flat_map mentions_of ys)
-items_are old new xs ys is same = is ∙ ap (λ (xs : List Item). with_mentioned old (flat_map mentions_of xs)) same
 
 -- names of a declaration
 pub name_more : (kind : Declared) (range : Option Range) (xs : List (List ℕ)) (i : ℕ) (x : List ℕ) (old new all : Entries) → i < length xs → x ≡ get_or xs i x
@@ -64,44 +57,5 @@ declared_more ps i x old new all lt at is was =
 pub declared_end : (ps : List Placed) (i : ℕ) (old all : Entries) → length ps ≤ i → with_declared old (declarations (drop i ps)) ≡ all → old ≡ all
 declared_end ps i old all past was = ends (λ (ps : List Placed). declared_entries (declarations ps)) refl ps i old all past was
 
-mentions-append : (xs ys : List (List ℕ)) → mentioned_entries (xs ++ ys) ≡ mentioned_entries xs ++ mentioned_entries ys
+pub mentions-append : (xs ys : List (List ℕ)) → mentioned_entries (xs ++ ys) ≡ mentioned_entries xs ++ mentioned_entries ys
 mentions-append xs ys = map-append (λ (name : List ℕ). let e : List ℕ × Option Bounds = (name, None) in e) xs ys
-
--- items that mention
-pub item_more : (xs : List Item) (i : ℕ) (x : Item) (old new all : Entries) → i < length xs → x ≡ get_or xs i x
-    → new ≡ with_mentioned old (mentions_of x) → with_mentioned old (flat_map mentions_of (drop i xs)) ≡ all → with_mentioned new (flat_map mentions_of (drop (i + 1) xs)) ≡ all
-item_more xs i x old new all lt at is was =
-    goes_on (λ (xs : List Item). mentioned_entries (flat_map mentions_of xs)) (λ x. mentioned_entries (mentions_of x)) (λ x xs. mentions-append (mentions_of x) (flat_map mentions_of xs)) xs i x old new all lt at is was
-
-pub item_end : (xs : List Item) (i : ℕ) (old all : Entries) → length xs ≤ i → with_mentioned old (flat_map mentions_of (drop i xs)) ≡ all → old ≡ all
-item_end xs i old all past was = ends (λ (xs : List Item). mentioned_entries (flat_map mentions_of xs)) refl xs i old all past was
-
--- and both sides of an assign
-pub sides : (es one two : Entries) (xs ys : List Item) → one ≡ with_mentioned es (flat_map mentions_of xs) → two ≡ with_mentioned one (flat_map mentions_of ys)
-    → two ≡ with_mentioned es (flat_map mentions_of (xs ++ ys))
-sides es one two xs ys first second =
-    second ∙ ap (λ (es : Entries). with_mentioned es (flat_map mentions_of ys)) first
-    ∙ sym (with_entries-append es (mentioned_entries (flat_map mentions_of xs)) (mentioned_entries (flat_map mentions_of ys)))
-    ∙ ap (with_entries es) (sym (mentions-append (flat_map mentions_of xs) (flat_map mentions_of ys)))
-    ∙ ap (with_mentioned es) (sym (flat_map-append mentions_of xs ys))
-
--- connections that mention
-pub connection_more : (xs : List Connection) (i : ℕ) (x : Connection) (old new all : Entries) → i < length xs → x ≡ get_or xs i x
-    → new ≡ with_mentioned old (flat_map mentions_of x.expression.items) → with_mentioned old (flat_map mentions_of (connection_items (drop i xs))) ≡ all
-    → with_mentioned new (flat_map mentions_of (connection_items (drop (i + 1) xs))) ≡ all
-connection_more xs i x old new all lt at is was =
-    goes_on (λ (xs : List Connection). mentioned_entries (flat_map mentions_of (connection_items xs))) (λ x. mentioned_entries (flat_map mentions_of x.expression.items))
-    (λ x xs. ap mentioned_entries (flat_map-append mentions_of x.expression.items (connection_items xs)) ∙ mentions-append (flat_map mentions_of x.expression.items) (flat_map mentions_of (connection_items xs)))
-    xs i x old new all lt at is was
-
-pub connection_end : (xs : List Connection) (i : ℕ) (old all : Entries) → length xs ≤ i → with_mentioned old (flat_map mentions_of (connection_items (drop i xs))) ≡ all → old ≡ all
-connection_end xs i old all past was = ends (λ (xs : List Connection). mentioned_entries (flat_map mentions_of (connection_items xs))) refl xs i old all past was
-
--- statements that mention
-pub mentioned_more : (ps : List Placed) (i : ℕ) (x : Placed) (old new all : Entries) → i < length ps → x ≡ get_or ps i x
-    → new ≡ with_mentioned old (mentions_in x.statement) → with_mentioned old (mentions (drop i ps)) ≡ all → with_mentioned new (mentions (drop (i + 1) ps)) ≡ all
-mentioned_more ps i x old new all lt at is was =
-    goes_on (λ (ps : List Placed). mentioned_entries (mentions ps)) (λ p. mentioned_entries (mentions_in p.statement)) (λ p ps. mentions-append (mentions_in p.statement) (mentions ps)) ps i x old new all lt at is was
-
-pub mentioned_end : (ps : List Placed) (i : ℕ) (old all : Entries) → length ps ≤ i → with_mentioned old (mentions (drop i ps)) ≡ all → old ≡ all
-mentioned_end ps i old all past was = ends (λ (ps : List Placed). mentioned_entries (mentions ps)) refl ps i old all past was

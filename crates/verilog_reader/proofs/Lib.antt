@@ -29,8 +29,10 @@ pub mod NetlistOf
 pub mod NumberedLists
 pub mod Distinct
 pub mod Within
-pub mod Spent
 pub mod PortNumbers
 pub mod NamesApart
 pub mod ScalarNames
 pub mod BitNaming
+pub mod FoldingPlaces
+pub mod FoldingLoops
+pub mod FoldingPorts

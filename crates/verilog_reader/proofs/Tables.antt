@@ -5,6 +5,7 @@ use Rattle.std.specs.Map.{lookup}
 use Rattle.std.specs.Str.{bytes_eq}
 use Rattle.std.proofs.lemmas.List.{map-append}
 use Rattle.std.proofs.lemmas.Option.{none-some, same_Some}
+use Rattle.std.proofs.lemmas.Slice.Eq.{bytes_eq-Decides}
 use Rattle.verilog_reader.specs.declared.bounds.Bounds.{Bounds}
 use Rattle.verilog_reader.specs.declared.entry.Entry.{Entry}
 use Rattle.verilog_reader.specs.Faults.{width_or_one}
@@ -54,11 +55,28 @@ there old q b t is at on =
     sym (ap (λ (t : Bool). cond t (entries_of old) (entries_of old ++ (q, b) ∷ [])) (sym (ap is_some (found q 0 old is)) ∙ (sym at ∙ on)))
 
 -- a name that a table doesn't have, put behind the others
-pub absent : (old new : Table) (k : Bor (List ℕ)) (e : Entry) (t : Bool) → new ≡ old ++ (k, e) ∷ [] → IsNumbered 0 old
-    → t ≡ is_some (lookup (λ (x : Bor (List ℕ)). bytes_eq k.now x.now) old) → t ≡ false → entries_of new ≡ with_entry (entries_of old) k.now e.bounds
-absent old new k e t is was at off =
-    ap entries_of is ∙ entries_push old k e
-    ∙ sym (ap (λ (t : Bool). cond t (entries_of old) (entries_of old ++ (k.now, e.bounds) ∷ [])) (sym (ap is_some (found k.now 0 old was)) ∙ (sym at ∙ off)))
+pub absent : (old new : Table) (k : Bor (List ℕ)) (e : Entry) → new ≡ old ++ (k, e) ∷ [] → place (entries_of old) k.now ≡ None → entries_of new ≡ with_entry (entries_of old) k.now e.bounds
+absent old new k e is none =
+    ap entries_of is ∙ entries_push old k e ∙ sym (ap (λ (o : Option Entry). cond (is_some o) (entries_of old) (entries_of old ++ (k.now, e.bounds) ∷ [])) none)
+
+place_last : (q : List ℕ) (at : ℕ) (es : List (List ℕ × Option Bounds)) (b : Option Bounds) → place_from at es q ≡ None
+    → place_from at (es ++ (q, b) ∷ []) q ≡ Some (record { first = at + total es; bounds = b })
+place_last q at [] b is =
+    ap (λ (t : Bool). cond t (Some (record { first = at; bounds = b })) None) ((bytes_eq-Decides q q).1 refl)
+    ∙ ap (λ (n : ℕ). let e : Entry = record { first = n; bounds = b } in Some e) (omega arith)
+place_last q at (x ∷ es) b is = by (bytes_eq q x.0) is (place_last q (at + width_or_one x.1) es b)
+  where
+    by : (t : Bool) → cond t (Some (record { first = at; bounds = x.1 })) (place_from (at + width_or_one x.1) es q) ≡ None
+        → (place_from (at + width_or_one x.1) es q ≡ None → place_from (at + width_or_one x.1) (es ++ (q, b) ∷ []) q ≡ Some (record { first = at + width_or_one x.1 + total es; bounds = b }))
+        → cond t (Some (record { first = at; bounds = x.1 })) (place_from (at + width_or_one x.1) (es ++ (q, b) ∷ []) q) ≡ Some (record { first = at + (width_or_one x.1 + total es); bounds = b })
+    by true is rest = absurd (none-some (record { first = at; bounds = x.1 }) (sym is))
+    by false is rest = rest is ∙ ap (λ (n : ℕ). let e : Entry = record { first = n; bounds = b } in Some e) (omega arith)
+
+-- it stands behind their nets
+pub appended : (old new : Table) (k : Bor (List ℕ)) (e : Entry) → new ≡ old ++ (k, e) ∷ [] → place (entries_of old) k.now ≡ None → e.first ≡ total (entries_of old) → place (entries_of new) k.now ≡ Some e
+appended old new k e is none at =
+    ap (λ (es : Table). place (entries_of es) k.now) is ∙ ap (λ es. place es k.now) (entries_push old k e) ∙ place_last k.now 0 (entries_of old) e.bounds none
+    ∙ ap (λ (n : ℕ). let made : Entry = record { first = n; bounds = e.bounds } in Some made) (omega (arith, at))
 
 place_within : (q : List ℕ) (at : ℕ) (es : List (List ℕ × Option Bounds)) (e : Entry) → place_from at es q ≡ Some e → e.first + width_or_one e.bounds ≤ at + total es
 place_within q at [] e is = absurd (none-some e is)

@@ -24,7 +24,7 @@ use Rattle.verilog_reader.specs.declared.bounds.Bounds.{Bounds}
 use Rattle.verilog_reader.specs.declared.entry.Entry.{Entry}
 use Rattle.verilog_reader.specs.Values.{plain_of, decimal_value, is_big_index}
 use Rattle.verilog_reader.specs.Constants.{constant_bits}
-use Rattle.verilog_reader.specs.Declarations.{width, offset, Declaration, declarations_in, declarations, mentions}
+use Rattle.verilog_reader.specs.Declarations.{width, offset, Declaration, declarations_in, declarations, mentions_of, mentions}
 use Rattle.verilog_reader.specs.Faults.{width_or_one, part_of, is_bad_size, is_bad_range, selects, selects_part}
 use Rattle.verilog_reader.specs.Denoted.{directions_of, header_name, header_line, entry_nets}
 
@@ -68,6 +68,10 @@ with_declared es ds = with_entries es (map (λ d. (d.name, d.bounds)) ds)
 
 abbrev pub with_mentioned : List (List ℕ × Option Bounds) → List (List ℕ) → List (List ℕ × Option Bounds)
 with_mentioned es names = with_entries es (map (λ name. (name, None)) names)
+
+-- with the names that the pieces of expressions mention
+abbrev pub with_items : List (List ℕ × Option Bounds) → List Item → List (List ℕ × Option Bounds)
+with_items es items = with_mentioned es (flat_map mentions_of items)
 
 -- the entries of statements: what they declare, and then what they mention alone
 abbrev pub entries : List Placed → List (List ℕ × Option Bounds)
@@ -133,11 +137,13 @@ numbered_ports_of es line d = flat_map (λ direction. port_bits line direction (
 abbrev pub numbered_ports_in : List (List ℕ × Option Bounds) → ℕ → Statement → List Port
 numbered_ports_in es line statement = flat_map (numbered_ports_of es line) (declarations_in statement)
 
+abbrev pub numbered_assign : List (List ℕ × Option Bounds) → ℕ → Expression → Expression → Assign
+numbered_assign es line left right = record { left = numbered_expression es left; right = numbered_expression es right; line = line }
+
 abbrev pub numbered_assigns_in : List (List ℕ × Option Bounds) → ℕ → Statement → List Assign
 numbered_assigns_in es line (statements.Module name ports) = []
 numbered_assigns_in es line (statements.Declare kind range names) = []
-numbered_assigns_in es line (statements.Assign left right) =
-    record { left = numbered_expression es left; right = numbered_expression es right; line = line } ∷ []
+numbered_assigns_in es line (statements.Assign left right) = numbered_assign es line left right ∷ []
 numbered_assigns_in es line (statements.Instance cell name connections) = []
 
 abbrev pub numbered_instances_in : List (List ℕ × Option Bounds) → ℕ → Statement → List Instance
@@ -190,3 +196,17 @@ IsFineStatement es (statements.Module name ports) = Unit {0}
 IsFineStatement es (statements.Declare kind range names) = (is_bad_range range ≡ false) × All (IsListed es) names
 IsFineStatement es (statements.Assign left right) = IsFineExpression es left × IsFineExpression es right
 IsFineStatement es (statements.Instance cell name connections) = All (λ c. IsFineExpression es c.expression) connections
+
+-- the names that a statement declares have entries
+abbrev pub AreListed : List (List ℕ × Option Bounds) → Statement → Type 0
+AreListed es (statements.Module name ports) = Unit {0}
+AreListed es (statements.Declare kind range names) = All (IsListed es) names
+AreListed es (statements.Assign left right) = Unit {0}
+AreListed es (statements.Instance cell name connections) = Unit {0}
+
+-- what stands in its expressions is fine
+abbrev pub HasFineItems : List (List ℕ × Option Bounds) → Statement → Type 0
+HasFineItems es (statements.Module name ports) = Unit {0}
+HasFineItems es (statements.Declare kind range names) = Unit {0}
+HasFineItems es (statements.Assign left right) = IsFineExpression es left × IsFineExpression es right
+HasFineItems es (statements.Instance cell name connections) = All (λ c. IsFineExpression es c.expression) connections

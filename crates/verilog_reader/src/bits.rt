@@ -2,7 +2,8 @@
 ghost use Rattle.std.specs.Prelude.{◌≡◌, ◌+◌, ◌-◌, ◌<◌, ◌^◌, ◌++◌, true, false, All, Some, OnOk, IfOk};
 ghost use Rattle.verilog_reader.specs.Faults.{width_or_one, is_bad_size, selects, selects_part};
 ghost use Rattle.verilog_reader.specs.Constants.{constant_bits};
-ghost use Rattle.verilog_reader.specs.Numbering.{net_bits, all_bits, one_bit, part_bits, numbered_item, numbered_items, numbered_expression, IsFineItem, IsFineExpression};
+ghost use Rattle.verilog_reader.specs.Numbering.{net_bits, all_bits, one_bit, part_bits, numbered_item, numbered_items, numbered_expression, IsFineItem, IsFineExpression, with_mentioned, with_items};
+ghost use Rattle.verilog_reader.specs.Declarations.{mentions_of};
 
 use crate::bounds::Bounds;
 use crate::constant::constant_bits;
@@ -59,30 +60,39 @@ fn push_constant(alloc: Global, bits: &mut Bits, text: &[u8]) -> Result<(), NoMe
     Ok(())
 }
 
-fn push_item(alloc: Global, bits: &mut Bits, nets: &Nets, item: &Item) -> Result<(), NoMemory>
-    requires { IsFineItem nets.now item.now }
-    ensures ok { OnOk result (bits.new ≡ bits.old ++ numbered_item nets.now item.now) }
+/// The item's bits, whose net may be new.
+fn push_item<'a>(
+    alloc: Global,
+    bits: &mut Bits,
+    nets: &mut Nets<'a>,
+    item: &Item<'a>,
+) -> Result<(), NoMemory>
+    requires { IsFineItem (with_mentioned nets.old (mentions_of item.now)) item.now }
+    ensures ok { OnOk result (nets.new ≡ with_mentioned nets.old (mentions_of item.now)) }
+    ensures made { OnOk result (bits.new ≡ bits.old ++ numbered_item nets.new item.now) }
 {
     match item {
         Item::Open | Item::Comma | Item::Close => Ok(()),
-        Item::Name(name) => push_all(bits, nets.entry(plain_of(name))),
+        Item::Name(name) => push_all(bits, nets.entry_or_add(plain_of(name))?),
         Item::Bit { name, index } => {
-            push_one(bits, nets.entry(plain_of(name)), number_of(index.text()))
+            let entry = nets.entry_or_add(plain_of(name))?;
+            push_one(bits, entry, number_of(index.text()))
         }
         Item::Part { name, left, right } => {
             let part = Bounds {
                 left: number_of(left.text()),
                 right: number_of(right.text()),
             };
-            push_part(bits, nets.entry(plain_of(name)), part)
+            push_part(bits, nets.entry_or_add(plain_of(name))?, part)
         }
         Item::Constant(text) => push_constant(alloc, bits, text.text()),
     }
 }
 
-fn bits_of(alloc: Global, nets: &Nets, items: &[Item]) -> Result<Bits, NoMemory>
-    requires { All (IsFineItem nets.now) items.now }
-    ensures value { IfOk result (λ bits. bits ≡ numbered_items nets.now items.now) }
+fn bits_of<'a>(alloc: Global, nets: &mut Nets<'a>, items: &[Item<'a>]) -> Result<Bits, NoMemory>
+    requires { All (IsFineItem (with_items nets.old items.now)) items.now }
+    ensures ok { OnOk result (nets.new ≡ with_items nets.old items.now) }
+    ensures value { IfOk result (λ bits. bits ≡ numbered_items nets.new items.now) }
 {
     let mut bits = Bits::with_room(alloc, items.len())?;
     for item in items {
@@ -91,14 +101,15 @@ fn bits_of(alloc: Global, nets: &Nets, items: &[Item]) -> Result<Bits, NoMemory>
     Ok(bits)
 }
 
-/// The bits of an expression, and where it stands.
-pub(crate) fn expression_of(
+/// The bits of an expression, and where it stands. The nets that it is the first to mention are added.
+pub(crate) fn expression_of<'a>(
     alloc: Global,
-    nets: &Nets,
-    expression: &Expression,
+    nets: &mut Nets<'a>,
+    expression: &Expression<'a>,
 ) -> Result<Expr, NoMemory>
-    requires { IsFineExpression nets.now expression.now }
-    ensures value { IfOk result (λ expr. expr ≡ numbered_expression nets.now expression.now) }
+    requires { IsFineExpression (with_items nets.old expression.now.items) expression.now }
+    ensures ok { OnOk result (nets.new ≡ with_items nets.old expression.now.items) }
+    ensures value { IfOk result (λ expr. expr ≡ numbered_expression nets.new expression.now) }
 {
     Ok(Expr {
         bits: bits_of(alloc, nets, expression.items.as_slice())?,

@@ -1,4 +1,4 @@
-//! The names that statements declare and mention.
+//! The names that statements declare.
 ghost use Rattle.std.specs.Prelude.{◌≡◌, [], ◌++◌, false, All, map, OnOk, IfOk};
 ghost use Rattle.std.specs.List.{flat_map};
 ghost use Rattle.verilog_reader.specs.Declarations.{declaration_of, declarations_in, declarations, mentions_of, mentions_in, mentions, connection_items};
@@ -50,84 +50,15 @@ fn declare_all<'a>(nets: &mut Nets<'a>, statements: &[Placed<'a>]) -> Result<(),
     Ok(())
 }
 
-fn mention<'a>(nets: &mut Nets<'a>, item: &Item<'a>) -> Result<(), NoMemory>
-    ensures ok { OnOk result (nets.new ≡ with_mentioned nets.old (mentions_of item.now)) }
-{
-    match item {
-        Item::Name(name) | Item::Bit { name, .. } | Item::Part { name, .. } => {
-            nets.add(plain_of(name), None)
-        }
-        Item::Open | Item::Comma | Item::Close | Item::Constant(_) => Ok(()),
-    }
-}
-
-fn mention_items<'a>(nets: &mut Nets<'a>, items: &[Item<'a>]) -> Result<(), NoMemory>
-    ensures ok { OnOk result (nets.new ≡ with_mentioned nets.old (flat_map mentions_of items.now)) }
-{
-    for item in items {
-        mention(nets, item)?;
-    }
-    Ok(())
-}
-
-fn mention_connections<'a>(
-    nets: &mut Nets<'a>,
-    connections: &[Connection<'a>],
-) -> Result<(), NoMemory>
-    ensures ok { OnOk result (nets.new ≡ with_mentioned nets.old (flat_map mentions_of (connection_items connections.now))) }
-{
-    for connection in connections {
-        mention_items(nets, connection.expression.items.as_slice())?;
-    }
-    Ok(())
-}
-
-fn mention_sides<'a>(
-    nets: &mut Nets<'a>,
-    left: &[Item<'a>],
-    right: &[Item<'a>],
-) -> Result<(), NoMemory>
-    ensures ok { OnOk result (nets.new ≡ with_mentioned nets.old (flat_map mentions_of (left.now ++ right.now))) }
-{
-    mention_items(nets, left)?;
-    mention_items(nets, right)
-}
-
-fn mention_in<'a>(nets: &mut Nets<'a>, statement: &Statement<'a>) -> Result<(), NoMemory>
-    ensures ok { OnOk result (nets.new ≡ with_mentioned nets.old (mentions_in statement.now)) }
-{
-    match statement {
-        Statement::Assign { left, right } => {
-            mention_sides(nets, left.items.as_slice(), right.items.as_slice())
-        }
-        Statement::Instance { connections, .. } => {
-            mention_connections(nets, connections.as_slice())
-        }
-        Statement::Module { .. } | Statement::Declare { .. } => Ok(()),
-    }
-}
-
-fn mention_all<'a>(nets: &mut Nets<'a>, statements: &[Placed<'a>]) -> Result<(), NoMemory>
-    ensures ok { OnOk result (nets.new ≡ with_mentioned nets.old (mentions statements.now)) }
-{
-    for placed in statements {
-        mention_in(nets, &placed.statement)?;
-    }
-    Ok(())
-}
-
-/// The nets of a module, those declared and then those that only expressions mention; and how many are declared.
-pub(crate) fn nets_of<'a>(
+/// The nets that a module declares.
+pub(crate) fn declared_nets<'a>(
     alloc: Global,
     statements: &[Placed<'a>],
-) -> Result<(Nets<'a>, u32), NoMemory>
+) -> Result<Nets<'a>, NoMemory>
     requires { All (λ p. is_bad_range (range_in p.statement) ≡ false) statements.now }
-    ensures value { IfOk result (λ made. made.0 ≡ entries statements.now) }
-    ensures declared { IfOk result (λ made. made.1 ≡ total (with_declared [] (declarations statements.now))) }
+    ensures value { IfOk result (λ nets. nets ≡ with_declared [] (declarations statements.now)) }
 {
     let mut nets = Nets::new(alloc);
     declare_all(&mut nets, statements)?;
-    let declared = nets.count();
-    mention_all(&mut nets, statements)?;
-    Ok((nets, declared))
+    Ok(nets)
 }

@@ -6,18 +6,18 @@ ghost use Rattle.verilog_reader.specs.Values.{plain_of};
 ghost use Rattle.verilog_reader.specs.Declarations.{declaration_of};
 ghost use Rattle.verilog_reader.specs.Faults.{width_or_one, is_bad_range, range_in, check_number, check_twice, check_select};
 ghost use Rattle.verilog_reader.specs.Denoted.{directions_of, module_name, header_name, header_line, IsNetlistOf};
-ghost use Rattle.verilog_reader.specs.Numbering.{entries, numbered, place, port_bits, numbers_from, numbered_port, numbered_ports_of, numbered_ports_in, numbered_ports, numbered_connection, numbered_assigns_in, numbered_assigns, numbered_instances_in, numbered_instances, IsListed, IsFineExpression, IsFineStatement};
+ghost use Rattle.verilog_reader.specs.Numbering.{entries, numbered, place, port_bits, numbers_from, numbered_port, numbered_ports_of, numbered_ports_in, numbered_ports, numbered_connection, numbered_assigns_in, numbered_assigns, numbered_instances_in, numbered_instances, IsListed, AreListed, IsFineStatement};
 
-use crate::bits::expression_of;
 use crate::entry::Entry;
-use crate::fill::nets_of;
+use crate::fill::declared_nets;
 use crate::nets::Nets;
+use crate::parts::parts_of;
 use crate::values::plain_of;
 use crate::vectors::width_or_one;
-use netlist_core::{Assign, Connection as Pin, Direction, Instance, NetId, Netlist, Port};
+use netlist_core::{Direction, NetId, Netlist, Port};
 use std::alloc::Global;
 use text_scan::{Name, NoMemory, Rows};
-use verilog_syntax::{Connection, Declared, Placed, Statement, Written};
+use verilog_syntax::{Declared, Placed, Statement, Written};
 
 fn direction_of(kind: Declared) -> Option<Direction>
     ensures { directions_of kind ≡ option_to_list result }
@@ -72,7 +72,7 @@ fn push_declared(
     line: u64,
     statement: &Statement,
 ) -> Result<(), NoMemory>
-    requires { IsFineStatement nets.now statement.now }
+    requires { AreListed nets.now statement.now }
     ensures ok { OnOk result (ports.new ≡ ports.old ++ numbered_ports_in nets.now line statement.now) }
 {
     if let Statement::Declare { kind, names, .. } = statement {
@@ -85,7 +85,7 @@ fn push_declared(
 
 /// The port bits, in the order of their direction statements.
 fn ports_of(alloc: Global, nets: &Nets, statements: &[Placed]) -> Result<Rows<Port>, NoMemory>
-    requires { All (λ p. IsFineStatement nets.now p.statement) statements.now }
+    requires { All (λ p. AreListed nets.now p.statement) statements.now }
     ensures value { IfOk result (λ ports. ports ≡ numbered_ports nets.now statements.now) }
 {
     let mut ports = Rows::new(alloc);
@@ -93,117 +93,6 @@ fn ports_of(alloc: Global, nets: &Nets, statements: &[Placed]) -> Result<Rows<Po
         push_declared(&mut ports, nets, placed.line, &placed.statement)?;
     }
     Ok(ports)
-}
-
-fn push_assign(
-    alloc: Global,
-    assigns: &mut Rows<Assign>,
-    nets: &Nets,
-    line: u64,
-    statement: &Statement,
-) -> Result<(), NoMemory>
-    requires { IsFineStatement nets.now statement.now }
-    ensures ok { OnOk result (assigns.new ≡ assigns.old ++ numbered_assigns_in nets.now line statement.now) }
-{
-    if let Statement::Assign { left, right } = statement {
-        return assigns.push(Assign {
-            left: expression_of(alloc, nets, left)?,
-            right: expression_of(alloc, nets, right)?,
-            line,
-        });
-    }
-    Ok(())
-}
-
-fn assigns_of(alloc: Global, nets: &Nets, statements: &[Placed]) -> Result<Rows<Assign>, NoMemory>
-    requires { All (λ p. IsFineStatement nets.now p.statement) statements.now }
-    ensures value { IfOk result (λ assigns. assigns ≡ numbered_assigns nets.now statements.now) }
-{
-    let mut assigns = Rows::new(alloc);
-    for placed in statements {
-        push_assign(alloc, &mut assigns, nets, placed.line, &placed.statement)?;
-    }
-    Ok(assigns)
-}
-
-fn pin_of(alloc: Global, nets: &Nets, connection: &Connection) -> Result<Pin, NoMemory>
-    requires { IsFineExpression nets.now connection.now.expression }
-    ensures value { IfOk result (λ pin. pin ≡ numbered_connection nets.now connection.now) }
-{
-    Ok(Pin {
-        pin: Name::copy(alloc, plain_of(&connection.pin))?,
-        expr: expression_of(alloc, nets, &connection.expression)?,
-    })
-}
-
-fn pins_of(alloc: Global, nets: &Nets, connections: &[Connection]) -> Result<Rows<Pin>, NoMemory>
-    requires { All (λ c. IsFineExpression nets.now c.expression) connections.now }
-    ensures value { IfOk result (λ pins. pins ≡ map (numbered_connection nets.now) connections.now) }
-{
-    let mut pins = Rows::of(Vec::with_capacity(alloc, connections.len())?);
-    for connection in connections {
-        pins.push(pin_of(alloc, nets, connection)?)?;
-    }
-    Ok(pins)
-}
-
-fn push_instance(
-    alloc: Global,
-    instances: &mut Rows<Instance>,
-    nets: &Nets,
-    line: u64,
-    statement: &Statement,
-) -> Result<(), NoMemory>
-    requires { IsFineStatement nets.now statement.now }
-    ensures ok { OnOk result (instances.new ≡ instances.old ++ numbered_instances_in nets.now line statement.now) }
-{
-    if let Statement::Instance {
-        cell,
-        name,
-        connections,
-    } = statement
-    {
-        return instances.push(Instance {
-            name: Name::copy(alloc, plain_of(name))?,
-            cell: Name::copy(alloc, plain_of(cell))?,
-            connections: pins_of(alloc, nets, connections.as_slice())?,
-            line,
-        });
-    }
-    Ok(())
-}
-
-/// The same, and the statement is freed.
-fn push_spent(
-    alloc: Global,
-    instances: &mut Rows<Instance>,
-    nets: &Nets,
-    placed: Placed<'_>,
-) -> Result<(), NoMemory>
-    requires { IsFineStatement nets.now placed.statement }
-    ensures ok { OnOk result (instances.new ≡ instances.old ++ numbered_instances_in nets.now placed.entry.line placed.entry.statement) }
-{
-    push_instance(alloc, instances, nets, placed.line, &placed.statement)
-}
-
-/// The instances. Their numbers have 32 bits: more would not fit in memory. Each statement is freed once it is read.
-fn instances_of(
-    alloc: Global,
-    nets: &Nets,
-    statements: Rows<Placed<'_>>,
-) -> Result<Rows<Instance>, NoMemory>
-    requires { All (λ p. IsFineStatement nets.now p.statement) statements }
-    ensures value { IfOk result (λ instances. instances ≡ numbered_instances nets.now statements.entry) }
-    ensures few { IfOk result (λ instances. length instances < 2 ^ 32) }
-{
-    let mut instances = Rows::new(alloc);
-    for placed in statements.into_vec() {
-        push_spent(alloc, &mut instances, nets, placed)?;
-    }
-    if instances.as_slice().len() > u32::MAX as usize {
-        return Err(NoMemory);
-    }
-    Ok(instances)
 }
 
 /// The name of a module whose header this is.
@@ -241,15 +130,20 @@ fn folded(alloc: Global, statements: Rows<Placed<'_>>) -> Result<Netlist, NoMemo
     ensures few_nets { IfOk result (λ n. length n.nets < 2 ^ 32) }
     ensures few_instances { IfOk result (λ n. length n.instances < 2 ^ 32) }
 {
-    let (nets, declared) = nets_of(alloc, statements.as_slice())?;
+    let module = Name::copy(alloc, header_name(statements.as_slice()))?;
+    let line = header_line(statements.as_slice());
+    let mut nets = declared_nets(alloc, statements.as_slice())?;
+    let declared = nets.count();
+    let ports = ports_of(alloc, &nets, statements.as_slice())?;
+    let (assigns, instances) = parts_of(alloc, &mut nets, statements)?;
     Ok(Netlist {
-        module: Name::copy(alloc, header_name(statements.as_slice()))?,
-        line: header_line(statements.as_slice()),
+        module,
+        line,
         nets: nets.names(alloc)?,
         declared,
-        ports: ports_of(alloc, &nets, statements.as_slice())?,
-        assigns: assigns_of(alloc, &nets, statements.as_slice())?,
-        instances: instances_of(alloc, &nets, statements)?,
+        ports,
+        assigns,
+        instances,
     })
 }
 

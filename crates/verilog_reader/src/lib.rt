@@ -22,6 +22,7 @@ mod net_names;
 mod netlist;
 mod nets;
 mod number;
+mod parts;
 mod scalars;
 mod select;
 mod twice;

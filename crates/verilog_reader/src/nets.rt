@@ -1,5 +1,5 @@
 //! The names of a module's nets.
-ghost use Rattle.std.specs.Prelude.{◌≡◌, ◌+◌, ◌≤◌, ◌<◌, ◌^◌, [], length, Some, IsSome, OnOk, IfOk};
+ghost use Rattle.std.specs.Prelude.{◌≡◌, ◌+◌, ◌≤◌, ◌<◌, ◌^◌, [], length, None, Some, IsSome, OnOk, IfOk};
 ghost use Rattle.std.specs.List.{flat_map};
 ghost use Rattle.verilog_reader.specs.Denoted.{entry_nets};
 ghost use Rattle.verilog_reader.specs.Faults.{width_or_one};
@@ -45,20 +45,45 @@ impl<'a> Nets<'a> {
         }
     }
 
-    /// Gives a name its nets, unless it has them. Their numbers have 32 bits: more would not fit in memory.
+    /// Gives a name its nets, unless it has them.
     pub(crate) fn add(&mut self, name: &'a [u8], bounds: Option<Bounds>) -> Result<(), NoMemory>
         ensures ok { OnOk result (self.new ≡ with_entry self.old name.now bounds) }
     {
         if self.entries.contains_key(name) {
             return Ok(());
         }
+        self.append(name, bounds)?;
+        Ok(())
+    }
+
+    /// The nets of a name, which is a scalar's unless it has some.
+    pub(crate) fn entry_or_add(&mut self, name: &'a [u8]) -> Result<Entry, NoMemory>
+        ensures ok { OnOk result (self.new ≡ with_entry self.old name.now None) }
+        ensures found { IfOk result (λ entry. place self.new name.now ≡ Some entry) }
+        ensures within { IfOk result (λ entry. entry.first + width_or_one entry.bounds ≤ total self.new) }
+        ensures few { OnOk result (total self.new < 2 ^ 32) }
+    {
+        match self.entries.get(name).copied() {
+            Some(entry) => Ok(entry),
+            None => self.append(name, None),
+        }
+    }
+
+    /// Gives a new name its nets. Their numbers have 32 bits: more would not fit in memory.
+    fn append(&mut self, name: &'a [u8], bounds: Option<Bounds>) -> Result<Entry, NoMemory>
+        requires { place self.old name.now ≡ None }
+        ensures ok { OnOk result (self.new ≡ with_entry self.old name.now bounds) }
+        ensures found { IfOk result (λ entry. place self.new name.now ≡ Some entry) }
+        ensures few { OnOk result (total self.new < 2 ^ 32) }
+    {
         let first = self.count;
         let Ok(count) = u32::try_from(u64::from(first) + width_or_one(bounds)) else {
             return Err(NoMemory);
         };
-        self.entries.insert(name, Entry { first, bounds })?;
+        let entry = Entry { first, bounds };
+        self.entries.insert(name, entry)?;
         self.count = count;
-        Ok(())
+        Ok(entry)
     }
 
     /// How many nets there are.
