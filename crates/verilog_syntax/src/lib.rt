@@ -12,7 +12,6 @@
 //! behavioural code aren't read.
 #![tactic(auto)]
 
-mod cursor;
 mod item_list;
 mod laws;
 mod parser;

@@ -3,14 +3,13 @@ ghost use Rattle.std.specs.List.{list_any};
 ghost use Rattle.text_scan.specs.Parsing.{Gives, GivesAll, list_at};
 ghost use Rattle.verilog_syntax.specs.Reading.{text_at, name_at, decimal_at, begins_at, bracket_at, part_at, bit_at, select_at, named_at, first_at, later_at, item_at, depth_behind, ends_one, items_at, start_of, expression_at, any_expression_at, connection_at, any_at, bounds_at, range_at, declare_at, is_a_constant, target_at, assign_at, instance_at, kind_of, statement_at, ports_at, header_at, statement_of, header_of};
 
-use crate::cursor::Cursor;
 use crate::item_list::Items;
 use crate::room::{fitted, with_room};
 use crate::statement::{Connection, Declared, Expression, Item, Range, Statement};
 use crate::words::{is_constant, is_decimal, is_name};
 use crate::written::Written;
 use std::alloc::Global;
-use text_scan::{Rows, Span, Stop};
+use text_scan::{Rows, Span, Stop, Tokens};
 
 /// How many braces are open behind an item.
 fn depth_behind(depth: usize, item: &Item<'_>) -> usize
@@ -64,7 +63,7 @@ fn kind_of(word: &[u8]) -> Option<Declared>
 #[derive(Drop)]
 struct Parser<'a, 's> {
     alloc: Global,
-    tokens: Cursor<'a, 's>,
+    tokens: Tokens<'a, 's>,
 }
 
 impl<'a, 's> Parser<'a, 's> {
@@ -475,7 +474,7 @@ impl<'a, 's> Parser<'a, 's> {
 
 /// The statement of these tokens, of all of them.
 #[tactic(auto, unfolding(crate::specs::Reading::statement_of))]
-pub(crate) fn statement_of<'a>(alloc: Global, tokens: Cursor<'a, '_>) -> Result<Statement<'a>, Stop>
+pub(crate) fn statement_of<'a>(alloc: Global, tokens: Tokens<'a, '_>) -> Result<Statement<'a>, Stop>
     ensures value { GivesAll result (statement_of tokens.entry) }
 {
     let mut parser = Parser { alloc, tokens };
@@ -489,7 +488,7 @@ pub(crate) fn statement_of<'a>(alloc: Global, tokens: Cursor<'a, '_>) -> Result<
 
 /// The header that has these tokens, all of them.
 #[tactic(auto, unfolding(crate::specs::Reading::header_of))]
-pub(crate) fn header_of<'a>(alloc: Global, tokens: Cursor<'a, '_>) -> Result<Statement<'a>, Stop>
+pub(crate) fn header_of<'a>(alloc: Global, tokens: Tokens<'a, '_>) -> Result<Statement<'a>, Stop>
     ensures value { GivesAll result (header_of tokens.entry) }
 {
     let mut parser = Parser { alloc, tokens };

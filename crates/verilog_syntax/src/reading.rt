@@ -8,12 +8,11 @@ ghost use Rattle.verilog_syntax.specs.declared.statement.Statement.{Statement};
 ghost use Rattle.verilog_syntax.specs.Chunks.{tokens_left, is_closed, is_closed_behind, IsLast, one_of, with_front, read_behind};
 ghost use Rattle.verilog_syntax.specs.Reading.{Answers, fault_at, line_of_tokens, placed_or, read_statement, read_header, read_others, read_end, read_module, read_statements};
 
-use crate::cursor::Cursor;
 use crate::parser::{header_of, statement_of};
 use crate::source::{Ended, Source, is_closed};
 use crate::statement::Statement;
 use std::alloc::Global;
-use text_scan::{Fault, FileKind, Kind, ReadFault, Rows, Spot, Stop, VerilogLexer};
+use text_scan::{Fault, FileKind, Kind, ReadFault, Rows, Spot, Stop, Tokens, VerilogLexer};
 
 /// A statement, and the line of its first token, from 1.
 #[derive(Debug, Drop)]
@@ -47,7 +46,7 @@ fn placed_or<'a>(line: u64, read: Result<Statement<'a>, Stop>) -> Result<Placed<
 fn read_statement<'a>(
     alloc: Global,
     line: u64,
-    tokens: Cursor<'a, '_>,
+    tokens: Tokens<'a, '_>,
 ) -> Result<Placed<'a>, ReadFault>
     ensures value { Answers result (read_statement line tokens.entry) }
 {
@@ -58,14 +57,14 @@ fn read_statement<'a>(
 fn read_header<'a>(
     alloc: Global,
     line: u64,
-    tokens: Cursor<'a, '_>,
+    tokens: Tokens<'a, '_>,
 ) -> Result<Placed<'a>, ReadFault>
     ensures value { Answers result (read_header line tokens.entry) }
 {
     placed_or(line, header_of(alloc, tokens))
 }
 
-fn line_of_tokens(source: &mut Source<'_>, tokens: &Cursor<'_, '_>) -> u64
+fn line_of_tokens(source: &mut Source<'_>, tokens: &Tokens<'_, '_>) -> u64
     ensures value { result ≡ line_of_tokens source.old.source tokens.now }
     ensures same { source.new ≡ source.old }
 {
@@ -79,7 +78,7 @@ fn line_of_tokens(source: &mut Source<'_>, tokens: &Cursor<'_, '_>) -> u64
 fn read_next<'a>(
     alloc: Global,
     source: &mut Source<'a>,
-    tokens: Cursor<'a, '_>,
+    tokens: Tokens<'a, '_>,
     mut statements: Rows<Placed<'a>>,
 ) -> Result<Rows<Placed<'a>>, ReadFault>
     ensures value { Answers result (with_front statements.entry (read_others source.old.source (one_of tokens.entry))) }

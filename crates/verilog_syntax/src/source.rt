@@ -6,9 +6,8 @@ ghost use Rattle.text_scan.specs.Tokens.{token_of, tokens_of, AreSpansOf};
 ghost use Rattle.text_scan.specs.VerilogTokens.{verilog_tokens};
 ghost use Rattle.verilog_syntax.specs.Chunks.{tokens_left, chunk_of, is_closed};
 
-use crate::cursor::Cursor;
 use std::marker::Model;
-use text_scan::{Lexeme, Lines, NoMemory, Span, VerilogLexer};
+use text_scan::{Lexeme, Lines, NoMemory, Span, Tokens, VerilogLexer};
 
 /// What ended the tokens of a statement.
 #[derive(Clone, Copy, Debug)]
@@ -132,11 +131,11 @@ impl<'a> Source<'a> {
     }
 
     /// The tokens at these spans.
-    pub(crate) fn tokens<'s>(&self, spans: &'s [Span]) -> Cursor<'a, 's>
+    pub(crate) fn tokens<'s>(&self, spans: &'s [Span]) -> Tokens<'a, 's>
         requires within { AreSpansOf self.now.source spans.now }
         ensures value { result ≡ tokens_of self.now.source spans.now }
     {
-        Cursor::of(self.text, spans)
+        Tokens::of(self.text, spans)
     }
 
     /// The line of a place.

@@ -6,6 +6,8 @@ ghost use Rattle.text_scan.specs.VerilogSplit.{are_digits_of, is_based, is_escap
 ghost use Rattle.text_scan.specs.Seams.{is_identifier};
 ghost use Rattle.verilog_syntax.specs.Words.{is_reserved, is_name, is_decimal, is_constant};
 
+use text_scan::{is_blank, is_digit, is_digit_of, is_word, is_word_start};
+
 /// A word of the language that is no name.
 pub fn is_reserved(text: &[u8]) -> bool
     ensures value { result ≡ is_reserved text.now }
@@ -23,24 +25,6 @@ pub fn is_reserved(text: &[u8]) -> bool
     }
 }
 
-fn is_blank(b: u8) -> bool
-    ensures value { result ≡ is_blank b }
-{
-    matches!(b, b' ' | b'\t' | b'\n' | b'\r')
-}
-
-fn begins_name(b: u8) -> bool
-    ensures value { result ≡ is_word_start b }
-{
-    b.is_ascii_alphabetic() || b == b'_'
-}
-
-fn is_word(b: u8) -> bool
-    ensures value { result ≡ is_word b }
-{
-    begins_name(b) || b.is_ascii_digit() || b == b'$'
-}
-
 fn are_words(bytes: &[u8]) -> bool
     ensures value { result ≡ list_all is_word bytes.now }
 {
@@ -52,7 +36,7 @@ pub fn is_identifier(text: &[u8]) -> bool
     ensures value { result ≡ is_identifier text.now }
 {
     match text {
-        [first, rest @ ..] => begins_name(*first) && are_words(rest),
+        [first, rest @ ..] => is_word_start(*first) && are_words(rest),
         [] => false,
     }
 }
@@ -85,7 +69,7 @@ pub(crate) fn is_name(text: &[u8]) -> bool
 fn are_digits(bytes: &[u8]) -> bool
     ensures value { result ≡ list_all is_digit bytes.now }
 {
-    bytes.iter().all(|b| b.is_ascii_digit())
+    bytes.iter().all(|b| is_digit(*b))
 }
 
 #[tactic(auto, unfolding(crate::specs::Words::is_decimal))]
@@ -93,26 +77,8 @@ pub(crate) fn is_decimal(text: &[u8]) -> bool
     ensures value { result ≡ is_decimal text.now }
 {
     match text {
-        [first, rest @ ..] => first.is_ascii_digit() && are_digits(rest),
+        [first, rest @ ..] => is_digit(*first) && are_digits(rest),
         [] => false,
-    }
-}
-
-#[tactic(auto, unfolding(text_scan::specs::VerilogTokens::is_digit_of))]
-fn is_digit_of(base: u8, digit: u8) -> bool
-    ensures value { result ≡ is_digit_of base digit }
-{
-    let unknown = matches!(digit, b'x' | b'z' | b'X' | b'Z' | b'?');
-    if base == b'b' || base == b'B' {
-        digit == b'0' || digit == b'1' || unknown
-    } else if base == b'o' || base == b'O' {
-        matches!(digit, b'0'..=b'7') || unknown
-    } else if base == b'd' || base == b'D' {
-        digit.is_ascii_digit()
-    } else if base == b'h' || base == b'H' {
-        digit.is_ascii_hexdigit() || unknown
-    } else {
-        false
     }
 }
 
@@ -147,7 +113,7 @@ fn digit_len(bytes: &[u8]) -> usize
     ensures value { result ≡ prefix_len is_digit bytes.now }
     ensures within { result ≤ length bytes.now }
 {
-    bytes.iter().take_while(|b| b.is_ascii_digit()).count()
+    bytes.iter().take_while(|b| is_digit(**b)).count()
 }
 
 #[tactic(auto, unfolding(crate::specs::Words::is_constant))]
@@ -155,7 +121,7 @@ pub(crate) fn is_constant(text: &[u8]) -> bool
     ensures value { result ≡ is_constant text.now }
 {
     match text {
-        [first, rest @ ..] => first.is_ascii_digit() && is_based(&rest[digit_len(rest)..]),
+        [first, rest @ ..] => is_digit(*first) && is_based(&rest[digit_len(rest)..]),
         [] => false,
     }
 }
