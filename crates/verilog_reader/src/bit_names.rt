@@ -30,7 +30,7 @@ fn plain_index(digits: &[u8]) -> Option<u32>
 pub(crate) fn is_closed(name: &[u8]) -> bool
     ensures value { result ≡ is_closed name.now }
 {
-    name.ends_with(b"]")
+    matches!(name, [.., b']'])
 }
 
 /// What stands before a closing bracket at the end.

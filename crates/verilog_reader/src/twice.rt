@@ -1,8 +1,9 @@
 //! The check for names that stand twice.
 //!
 //! `Seen` holds the names of the statements so far; each statement is tested beside them and added. A name is looked up in
-//! maps and sets. The bits of a vector are looked up one by one, but only at its first declaration, and only where a scalar
-//! net before has a name that ends as theirs do; so their number stays within what the number check allows.
+//! maps and sets, a scalar net's only where it is closed: where it ends with a bracket, as the names of bits do. The bits of
+//! a vector are looked up one by one, but only at its first declaration, and only where a scalar net before has a closed
+//! name; so their number stays within what the number check allows.
 ghost use Rattle.std.specs.Prelude.{◌≡◌, ◌||◌, ◌++◌, [], List, ℕ, false, true, Some, map, IfOk};
 ghost use Rattle.std.specs.List.{list_any};
 ghost use Rattle.verilog_syntax.specs.declared.reading.Placed.{Placed};
@@ -103,7 +104,7 @@ fn has_bit(alloc: Global, nets: &NameSet, vector: &[u8], bounds: Bounds) -> Resu
 
 /// Whether one of the scalar nets has the name of a bit of the vector; without bounds it is none.
 ///
-/// The set holds the closed names alone, since no bit has another.
+/// The set holds the closed names alone, since a bit has no other.
 fn has_bit_among(
     alloc: Global,
     nets: &NameSet,
