@@ -4,13 +4,17 @@ use Rattle.verilog_syntax.specs.declared.reading.Placed.{Placed}
 use Rattle.verilog_reader.specs.Declarations.{declarations}
 use Rattle.verilog_reader.specs.Denoted.{header_name, header_line}
 use Rattle.verilog_reader.specs.Numbering.{with_declared, numbered_ports, AreListed}
-use Rattle.verilog_reader.proofs.FoldingPorts.{all_listed, folded_is}
+use Rattle.verilog_reader.proofs.FoldingPorts.{all_listed, all_fine, folded_is}
 use Rattle.verilog_reader.proofs.fold.folded.Goals as goal
 
 pub ports_of-requires : goal.ports_of-requires
 ports_of-requires c =
     All-same (λ (p : Placed). AreListed c.in_ok-nets.nets p.statement) c.as_slice-4.result.now c.args.statements c.as_slice-4.ensures.value
     (all_listed c.args.statements c.in_ok-nets.nets (c.in_ok-nets.ensures.value ∙ ap (λ (ps : List Placed). with_declared [] (declarations ps)) c.as_slice-3.ensures.value))
+
+pub parts_of-requires : goal.parts_of-requires
+parts_of-requires c =
+    all_fine c.args.statements c.in_ok-nets.nets (c.in_ok-nets.ensures.value ∙ ap (λ (ps : List Placed). with_declared [] (declarations ps)) c.as_slice-3.ensures.value) c.requires.fine
 
 pub returns-clause-value : goal.returns-clause-value
 returns-clause-value c =
