@@ -1,12 +1,15 @@
 //! Hashes of names.
 ghost use Rattle.std.specs.Prelude.{◌≡◌};
-ghost use Rattle.verilog_reader.specs.NameHashes.{initial, written};
+ghost use Rattle.verilog_reader.specs.NameHashes.{initial, written, finished};
 
 use std::collections::{HashMap, HashSet};
 use std::hash::{BuildHasherDefault, Hasher};
 
-/// Multiplies byte by byte. What is written as more than one byte, as a length, leaves it as it was: the bytes of a name tell
-/// its length too.
+const MIXER: u64 = 0x9e37_79b9_7f4a_7c15;
+
+/// Names that differ by their last digits get numbers that stand close together, so that tables of them are gone through
+/// in the order of a file, and not at random. What is written as more than one byte, as a length, leaves it as it was: the
+/// bytes of a name tell its length too.
 #[derive(Clone, Copy)]
 pub(crate) struct NameHasher {
     state: u64,
@@ -23,17 +26,18 @@ impl Default for NameHasher {
 impl Hasher for NameHasher {
     ghost write = { written };
 
-    ghost finish = { λ h. h.state };
+    ghost finish = { finished };
 
     #[inline(always)]
     fn finish(&self) -> u64 {
-        self.state
+        // a table tells the names of one place apart by the highest bits, which are mixed for that
+        self.state ^ (self.state.wrapping_mul(MIXER) >> 56 << 56)
     }
 
     #[inline(always)]
     fn write(&mut self, bytes: &[u8]) {
         if let [byte] = bytes {
-            self.state = (self.state ^ u64::from(*byte)).wrapping_mul(0x9e37_79b9_7f4a_7c15);
+            self.state = self.state.wrapping_mul(31).wrapping_add(u64::from(*byte));
         }
     }
 }
