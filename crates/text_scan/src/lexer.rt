@@ -11,6 +11,7 @@ use crate::verilog::piece_at;
 use std::marker::Model;
 
 /// The first token that begins at a place or behind it.
+#[inline(always)]
 fn token_from(text: &[u8], from: usize) -> Option<Span>
     requires small { length text.now < 2 ^ 32 }
     requires within { from ≤ length text.now }
@@ -64,6 +65,7 @@ impl<'a> VerilogLexer<'a> {
     }
 
     /// Takes the next token.
+    #[inline(always)]
     pub fn next(&mut self) -> Option<Lexeme<'a>>
         ensures value { MatchOption result ((self.old.spans ≡ []) × (self.new.spans ≡ [])) (λ t. self.old.spans ≡ t.span ∷ self.new.spans) }
         ensures source { self.new.source ≡ self.old.source }
