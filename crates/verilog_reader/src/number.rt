@@ -119,7 +119,7 @@ fn has_bad_number(statement: &Statement) -> bool
         Statement::Module { .. } => false,
         Statement::Declare { range, .. } => is_bad_range(range),
         Statement::Assign { left, right } => {
-            has_bad_item(left.items.as_slice()) || has_bad_item(right.items.as_slice())
+            has_bad_item(left.get().items.as_slice()) || has_bad_item(right.get().items.as_slice())
         }
         Statement::Instance { connections, .. } => has_bad_connection(connections.as_slice()),
     }

@@ -95,8 +95,8 @@ fn has_bad_select(names: &DeclaredNames, statement: &Statement) -> bool
     match statement {
         Statement::Module { .. } | Statement::Declare { .. } => false,
         Statement::Assign { left, right } => {
-            has_bad_item(names, left.items.as_slice())
-                || has_bad_item(names, right.items.as_slice())
+            has_bad_item(names, left.get().items.as_slice())
+                || has_bad_item(names, right.get().items.as_slice())
         }
         Statement::Instance { connections, .. } => {
             has_bad_connection(names, connections.as_slice())
@@ -147,7 +147,7 @@ fn differ_in_width(names: &DeclaredNames, statement: &Statement) -> bool
     match statement {
         Statement::Module { .. } | Statement::Declare { .. } | Statement::Instance { .. } => false,
         Statement::Assign { left, right } => {
-            expression_width(names, left) != expression_width(names, right)
+            expression_width(names, left.get()) != expression_width(names, right.get())
         }
     }
 }
