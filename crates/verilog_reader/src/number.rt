@@ -75,7 +75,8 @@ fn is_bad_number(item: &Item) -> bool
     match item {
         Item::Open | Item::Comma | Item::Close | Item::Name(_) => false,
         Item::Bit { index, .. } => is_big_index(index.text()),
-        Item::Part { left, right, .. } => is_big_index(left.text()) || is_big_index(right.text()),
+        Item::Part { left, right, .. } => is_big_index(left.get().text())
+            || is_big_index(right.get().text()),
         Item::Constant(text) => is_bad_size(text.text()),
     }
 }

@@ -59,7 +59,10 @@ fn is_bad_select(names: &DeclaredNames, item: &Item) -> bool
             !selects(names.bounds(plain_of(name)), small_value(index.text()))
         }
         Item::Part { name, left, right } => {
-            !selects_part(names.bounds(plain_of(name)), part_of(left, right))
+            !selects_part(
+                names.bounds(plain_of(name)),
+                part_of(left.get(), right.get()),
+            )
         }
     }
 }
@@ -123,7 +126,7 @@ fn item_width(names: &DeclaredNames, item: &Item) -> u64
         Item::Open | Item::Comma | Item::Close => 0,
         Item::Name(name) => width_or_one(names.bounds(plain_of(name))),
         Item::Bit { .. } => 1,
-        Item::Part { left, right, .. } => width(part_of(left, right)),
+        Item::Part { left, right, .. } => width(part_of(left.get(), right.get())),
         Item::Constant(text) => u64::from(constant_size(text.text())),
     }
 }

@@ -132,6 +132,8 @@ impl<'a, 's> Parser<'a, 's> {
     {
         let right = self.decimal()?;
         let end = self.bracket()?;
+        let left = Boxed::of(self.alloc, left)?;
+        let right = Boxed::of(self.alloc, right)?;
         Ok((Item::Part { name, left, right }, end))
     }
 

@@ -40,8 +40,8 @@ pub enum Item<'a> {
     /// `name[left:right]`
     Part {
         name: Written<'a>,
-        left: Written<'a>,
-        right: Written<'a>,
+        left: Boxed<Written<'a>>,
+        right: Boxed<Written<'a>>,
     },
     /// `size'base digits`
     Constant(Written<'a>),

@@ -342,9 +342,9 @@ impl<'a> Listing<'a> {
                 self.put(b"part ")?;
                 self.put(name.text())?;
                 self.put(b" ")?;
-                self.put(left.text())?;
+                self.put(left.get().text())?;
                 self.put(b" ")?;
-                self.put(right.text())
+                self.put(right.get().text())
             }
             Item::Constant(text) => {
                 self.put(b"constant ")?;
