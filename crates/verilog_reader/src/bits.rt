@@ -80,8 +80,8 @@ fn push_item<'a>(
         }
         Item::Part { name, left, right } => {
             let part = Bounds {
-                left: number_of(left.text()),
-                right: number_of(right.text()),
+                left: number_of(left.get().text()),
+                right: number_of(right.get().text()),
             };
             push_part(bits, nets.entry_or_add(plain_of(name))?, part)
         }

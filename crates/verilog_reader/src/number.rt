@@ -75,7 +75,8 @@ fn is_bad_number(item: &Item) -> bool
     match item {
         Item::Open | Item::Comma | Item::Close | Item::Name(_) => false,
         Item::Bit { index, .. } => is_big_index(index.text()),
-        Item::Part { left, right, .. } => is_big_index(left.text()) || is_big_index(right.text()),
+        Item::Part { left, right, .. } => is_big_index(left.get().text())
+            || is_big_index(right.get().text()),
         Item::Constant(text) => is_bad_size(text.text()),
     }
 }
@@ -119,7 +120,7 @@ fn has_bad_number(statement: &Statement) -> bool
         Statement::Module { .. } => false,
         Statement::Declare { range, .. } => is_bad_range(range),
         Statement::Assign { left, right } => {
-            has_bad_item(left.items.as_slice()) || has_bad_item(right.items.as_slice())
+            has_bad_item(left.get().items.as_slice()) || has_bad_item(right.get().items.as_slice())
         }
         Statement::Instance { connections, .. } => has_bad_connection(connections.as_slice()),
     }

@@ -74,7 +74,7 @@ fn push_statement<'a>(
 {
     match statement {
         Statement::Assign { left, right } => {
-            assigns.push(assign_of(alloc, nets, line, left, right)?)
+            assigns.push(assign_of(alloc, nets, line, left.get(), right.get())?)
         }
         Statement::Instance {
             cell,

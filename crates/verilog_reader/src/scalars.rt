@@ -107,8 +107,8 @@ pub(crate) fn closed_scalars_in<'a>(
             Ok(scalars)
         }
         Statement::Assign { left, right } => {
-            push_undeclared(&mut scalars, all, left.items.as_slice())?;
-            push_undeclared(&mut scalars, all, right.items.as_slice())?;
+            push_undeclared(&mut scalars, all, left.get().items.as_slice())?;
+            push_undeclared(&mut scalars, all, right.get().items.as_slice())?;
             Ok(scalars)
         }
         Statement::Instance { connections, .. } => {

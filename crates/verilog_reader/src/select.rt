@@ -59,7 +59,10 @@ fn is_bad_select(names: &DeclaredNames, item: &Item) -> bool
             !selects(names.bounds(plain_of(name)), small_value(index.text()))
         }
         Item::Part { name, left, right } => {
-            !selects_part(names.bounds(plain_of(name)), part_of(left, right))
+            !selects_part(
+                names.bounds(plain_of(name)),
+                part_of(left.get(), right.get()),
+            )
         }
     }
 }
@@ -95,8 +98,8 @@ fn has_bad_select(names: &DeclaredNames, statement: &Statement) -> bool
     match statement {
         Statement::Module { .. } | Statement::Declare { .. } => false,
         Statement::Assign { left, right } => {
-            has_bad_item(names, left.items.as_slice())
-                || has_bad_item(names, right.items.as_slice())
+            has_bad_item(names, left.get().items.as_slice())
+                || has_bad_item(names, right.get().items.as_slice())
         }
         Statement::Instance { connections, .. } => {
             has_bad_connection(names, connections.as_slice())
@@ -123,7 +126,7 @@ fn item_width(names: &DeclaredNames, item: &Item) -> u64
         Item::Open | Item::Comma | Item::Close => 0,
         Item::Name(name) => width_or_one(names.bounds(plain_of(name))),
         Item::Bit { .. } => 1,
-        Item::Part { left, right, .. } => width(part_of(left, right)),
+        Item::Part { left, right, .. } => width(part_of(left.get(), right.get())),
         Item::Constant(text) => u64::from(constant_size(text.text())),
     }
 }
@@ -147,7 +150,7 @@ fn differ_in_width(names: &DeclaredNames, statement: &Statement) -> bool
     match statement {
         Statement::Module { .. } | Statement::Declare { .. } | Statement::Instance { .. } => false,
         Statement::Assign { left, right } => {
-            expression_width(names, left) != expression_width(names, right)
+            expression_width(names, left.get()) != expression_width(names, right.get())
         }
     }
 }

@@ -12,6 +12,7 @@
 //! behavioural code aren't read.
 #![tactic(auto)]
 
+mod boxed;
 mod item_list;
 mod laws;
 mod parser;
@@ -22,6 +23,7 @@ mod statement;
 mod words;
 mod written;
 
+pub use boxed::Boxed;
 pub use item_list::Items;
 pub use laws::grammar_law;
 pub use reading::{Placed, read_statements};

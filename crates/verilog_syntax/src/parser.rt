@@ -3,6 +3,7 @@ ghost use Rattle.std.specs.List.{list_any};
 ghost use Rattle.text_scan.specs.Parsing.{Gives, GivesAll, list_at};
 ghost use Rattle.verilog_syntax.specs.Reading.{text_at, name_at, decimal_at, begins_at, bracket_at, part_at, bit_at, select_at, named_at, first_at, later_at, item_at, depth_behind, ends_one, items_at, start_of, expression_at, any_expression_at, connection_at, any_at, bounds_at, range_at, declare_at, is_a_constant, target_at, assign_at, instance_at, kind_of, statement_at, ports_at, header_at, statement_of, header_of};
 
+use crate::boxed::Boxed;
 use crate::item_list::Items;
 use crate::room::{fitted, with_room};
 use crate::statement::{Connection, Declared, Expression, Item, Range, Statement};
@@ -131,6 +132,8 @@ impl<'a, 's> Parser<'a, 's> {
     {
         let right = self.decimal()?;
         let end = self.bracket()?;
+        let left = Boxed::of(self.alloc, left)?;
+        let right = Boxed::of(self.alloc, right)?;
         Ok((Item::Part { name, left, right }, end))
     }
 
@@ -405,7 +408,10 @@ impl<'a, 's> Parser<'a, 's> {
         self.tokens.mark(b'=')?;
         let right = self.expression()?;
         self.tokens.mark(b';')?;
-        Ok(Statement::Assign { left, right })
+        Ok(Statement::Assign {
+            left: Boxed::of(self.alloc, left)?,
+            right: Boxed::of(self.alloc, right)?,
+        })
     }
 
     /// `cell name ( .pin(expression), .. ) ;`

@@ -1,3 +1,4 @@
+use crate::boxed::Boxed;
 use crate::item_list::Items;
 use crate::written::Written;
 use text_scan::{Rows, Span};
@@ -39,8 +40,8 @@ pub enum Item<'a> {
     /// `name[left:right]`
     Part {
         name: Written<'a>,
-        left: Written<'a>,
-        right: Written<'a>,
+        left: Boxed<Written<'a>>,
+        right: Boxed<Written<'a>>,
     },
     /// `size'base digits`
     Constant(Written<'a>),
@@ -77,8 +78,8 @@ pub enum Statement<'a> {
     },
     /// `assign left = right ;`
     Assign {
-        left: Expression<'a>,
-        right: Expression<'a>,
+        left: Boxed<Expression<'a>>,
+        right: Boxed<Expression<'a>>,
     },
     /// `cell name ( .pin(expression), .. ) ;`
     Instance {

@@ -301,8 +301,8 @@ impl<'a> Listing<'a> {
             }
             Statement::Assign { left, right } => {
                 self.put(b"assign ")?;
-                self.put_expression(left)?;
-                self.put_expression(right)
+                self.put_expression(left.get())?;
+                self.put_expression(right.get())
             }
             Statement::Instance {
                 cell,
@@ -342,9 +342,9 @@ impl<'a> Listing<'a> {
                 self.put(b"part ")?;
                 self.put(name.text())?;
                 self.put(b" ")?;
-                self.put(left.text())?;
+                self.put(left.get().text())?;
                 self.put(b" ")?;
-                self.put(right.text())
+                self.put(right.get().text())
             }
             Item::Constant(text) => {
                 self.put(b"constant ")?;
@@ -377,7 +377,7 @@ fn listed_statements(alloc: Global, text: &[u8]) -> Result<Vec<u8>, Fail>
 /// The right side of an assign, or the first connection's expression.
 fn expression_of<'b, 'a>(placed: &'b Placed<'a>) -> Option<&'b Expression<'a>> {
     match &placed.statement {
-        Statement::Assign { right, .. } => Some(right),
+        Statement::Assign { right, .. } => Some(right.get()),
         Statement::Instance { connections, .. } => {
             let connection = connections.as_slice().first()?;
             Some(&connection.expression)
