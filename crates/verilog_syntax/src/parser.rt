@@ -68,6 +68,7 @@ struct Parser<'a, 's> {
 }
 
 impl<'a, 's> Parser<'a, 's> {
+    #[inline(always)]
     #[tactic(auto, unfolding(crate::specs::Reading::name_at, crate::specs::Reading::text_at))]
     fn name(&mut self) -> Result<Written<'a>, Stop>
         ensures value { Gives result self.new.tokens (name_at self.old.tokens) }
@@ -95,6 +96,7 @@ impl<'a, 's> Parser<'a, 's> {
     }
 
     /// Whether a token of this one byte stands next; if it does, it is taken.
+    #[inline(always)]
     #[tactic(auto, unfolding(crate::specs::Reading::begins_at))]
     fn begins(&mut self, mark: u8) -> bool
         ensures value { begins_at mark self.old.tokens ≡ Some (result, self.new.tokens) }
@@ -162,6 +164,7 @@ impl<'a, 's> Parser<'a, 's> {
     }
 
     /// Behind a name, which ends at a place.
+    #[inline(always)]
     #[tactic(auto, unfolding(crate::specs::Reading::named_at))]
     fn named(&mut self, name: Written<'a>, end: u32) -> Result<(Item<'a>, u32), Stop>
         ensures value { Gives result self.new.tokens (named_at name.entry end self.old.tokens) }
@@ -175,6 +178,7 @@ impl<'a, 's> Parser<'a, 's> {
     }
 
     /// Where an expression begins: an operand or an opening brace, and where it ends.
+    #[inline(always)]
     #[tactic(auto, unfolding(crate::specs::Reading::first_at))]
     fn first(&mut self) -> Result<(Item<'a>, u32), Stop>
         ensures value { Gives result self.new.tokens (first_at self.old.tokens) }
@@ -194,6 +198,7 @@ impl<'a, 's> Parser<'a, 's> {
     }
 
     /// Behind an expression in braces: a comma or the closing brace, and where it ends.
+    #[inline(always)]
     #[tactic(auto, unfolding(crate::specs::Reading::later_at))]
     fn later(&mut self) -> Result<(Item<'a>, u32), Stop>
         ensures value { Gives result self.new.tokens (later_at self.old.tokens) }
@@ -210,6 +215,7 @@ impl<'a, 's> Parser<'a, 's> {
     }
 
     /// The next piece of an expression, behind the end of one or where one begins.
+    #[inline(always)]
     #[tactic(auto, unfolding(crate::specs::Reading::item_at))]
     fn item(&mut self, ended: bool) -> Result<(Item<'a>, u32), Stop>
         ensures value { Gives result self.new.tokens (item_at ended self.old.tokens) }
@@ -220,6 +226,7 @@ impl<'a, 's> Parser<'a, 's> {
 
     /// The pieces of an expression, and where the last one ends. Each takes a token at least, so there are no more turns
     /// than tokens; `depth` counts the braces that are open.
+    #[inline(always)]
     fn items(&mut self) -> Result<(Items<'a>, u32), Stop>
         ensures value { Gives result self.new.tokens (items_at self.old.tokens) }
         ensures shorter { OnOk result (length self.new.tokens < length self.old.tokens) }
@@ -246,6 +253,7 @@ impl<'a, 's> Parser<'a, 's> {
         Err(Stop::NoForm)
     }
 
+    #[inline(always)]
     #[tactic(auto, unfolding(crate::specs::Reading::expression_at, crate::specs::Reading::items_at, crate::specs::Reading::items_within))]
     fn expression(&mut self) -> Result<Expression<'a>, Stop>
         ensures value { Gives result self.new.tokens (expression_at self.old.tokens) }
@@ -258,6 +266,7 @@ impl<'a, 's> Parser<'a, 's> {
     }
 
     /// An expression, or none before the closing parenthesis.
+    #[inline(always)]
     #[tactic(auto, unfolding(crate::specs::Reading::any_expression_at))]
     fn any_expression(&mut self) -> Result<Expression<'a>, Stop>
         ensures value { Gives result self.new.tokens (any_expression_at self.old.tokens) }
@@ -274,6 +283,7 @@ impl<'a, 's> Parser<'a, 's> {
     }
 
     /// `.pin(expression)` or `.pin()`.
+    #[inline(always)]
     #[tactic(auto, unfolding(crate::specs::Reading::connection_at))]
     fn connection(&mut self) -> Result<Connection<'a>, Stop>
         ensures value { Gives result self.new.tokens (connection_at self.old.tokens) }

@@ -9,6 +9,7 @@ ghost use Rattle.verilog_syntax.specs.Words.{is_reserved, is_name, is_decimal, i
 use text_scan::{is_blank, is_digit, is_digit_of, is_word, is_word_start};
 
 /// A word of the language that is no name.
+#[inline(always)]
 pub fn is_reserved(text: &[u8]) -> bool
     ensures value { result ≡ is_reserved text.now }
 {
@@ -32,6 +33,7 @@ fn are_words(bytes: &[u8]) -> bool
 }
 
 /// A letter or `_`, and then letters, digits, `_` and `$`.
+#[inline(always)]
 pub fn is_identifier(text: &[u8]) -> bool
     ensures value { result ≡ is_identifier text.now }
 {
@@ -56,6 +58,7 @@ fn is_escaped(bytes: &[u8]) -> bool
     0 < len && bytes.len() <= len + 1
 }
 
+#[inline(always)]
 #[tactic(auto, unfolding(crate::specs::Words::is_name))]
 pub(crate) fn is_name(text: &[u8]) -> bool
     ensures value { result ≡ is_name text.now }
