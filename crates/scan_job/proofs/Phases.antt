@@ -23,7 +23,7 @@ use Rattle.chain_rewire.specs.Faults.{IsRewireFault}
 use Rattle.path_report.specs.Reports.{IsPathText, IsPathFault}
 use Rattle.scan_job.specs.Commands.{value_at, names_by, names_of, rewire_of}
 use Rattle.scan_job.specs.FirstFault.{size_fault, is_too_large, first_too_large, input_slots, IsCommandFault, HasNoCommandFault, IsFirstFault, HasNoFault}
-use Rattle.scan_job.specs.Texts.{rewire_text, AreTexts, AreOutputsOf}
+use Rattle.scan_job.specs.Texts.{AreTexts, AreOutputsOf}
 use Rattle.scan_job.specs.TopCall.{Slots, IsUsed, IsFile, SameEverywhere, SameUnused, SameCounts, HoldsFiles, SameFiles, SameOutputs}
 use Rattle.scan_job.specs.Ended.{IsDone, IsRefused, IsInputFailed, IsOutputFailed, IsOutOfMemory, HasEnded}
 use Rattle.scan_job.specs.Phases.{HasPutLine, HasFailedAtLine, HasSaid, AreJudged, HasPutAll, HasPutSome, HasFinished}

@@ -19,17 +19,11 @@ use crate::name_hash::{NameSet, NameState};
 use crate::values::{index_value, plain_of};
 use crate::vector::width;
 use std::alloc::Global;
-use text_scan::{Kind, NoMemory, ReadFault};
+use text_scan::{Kind, NoMemory, ReadFault, is_digit};
 use verilog_syntax::{Connection, Item, Placed, Range, Statement, Written};
 
 /// The most bits that the declared vectors have together.
 const MOST_BITS: u64 = 16_777_216;
-
-fn is_digit(b: u8) -> bool
-    ensures value { result ≡ is_digit b }
-{
-    matches!(b, b'0'..=b'9')
-}
 
 fn digits_len(bytes: &[u8]) -> usize
     ensures value { result ≡ prefix_len is_digit bytes.now }

@@ -5,14 +5,8 @@ ghost use Rattle.text_scan.specs.VerilogTokens.{is_blank};
 ghost use Rattle.verilog_reader.specs.Values.{plain_of, decimal_value, bit_name};
 
 use std::alloc::Global;
-use text_scan::NoMemory;
+use text_scan::{NoMemory, is_blank};
 use verilog_syntax::Written;
-
-fn is_blank(b: u8) -> bool
-    ensures value { result ≡ is_blank b }
-{
-    matches!(b, b' ' | b'\t' | b'\n' | b'\r')
-}
 
 fn name_len(bytes: &[u8]) -> usize
     ensures value { result ≡ prefix_len (λ c. not (is_blank c)) bytes.now }
