@@ -14,7 +14,7 @@ use Rattle.verilog_reader.specs.declared.declared.First.{First}
 use Rattle.verilog_reader.specs.declared.declared.DeclaredNames.{DeclaredNames}
 use Rattle.verilog_reader.specs.Declarations.{Declaration, bounds_of, first_of, declarations_in}
 use Rattle.verilog_reader.specs.Faults.{stands_again, any_again, has_bit_in, have_bits}
-use Rattle.verilog_reader.specs.Steps.{first_in, first_kept, only_at, kept_of}
+use Rattle.verilog_reader.specs.NameTables.{first_in, first_kept, only_at, kept_of}
 use Rattle.verilog_reader.specs.Seen.{Keeps, AddsOne, Adds, AreKnown, IsClean, declared_as, may_stand_beside}
 use Rattle.verilog_reader.proofs.AnyLemmas.{or_four}
 use Rattle.verilog_reader.proofs.Clean.{known_step, known_clean, new_clean}

@@ -11,7 +11,7 @@ use Rattle.verilog_reader.specs.declared.declared.First.{First}
 use Rattle.verilog_reader.specs.Values.{bit_name}
 use Rattle.verilog_reader.specs.Declarations.{Declaration, has, width, has_index, offset, index_at, indexes_from, indexes, is_named, first_of, bounds_or_none, bounds_in}
 use Rattle.verilog_reader.specs.Faults.{has_bit_in, selects, are_bits}
-use Rattle.verilog_reader.specs.Steps.{first_kept, kept_bounds}
+use Rattle.verilog_reader.specs.NameTables.{first_kept, kept_bounds}
 use Rattle.verilog_reader.specs.Seen.{is_small, have_small, is_bit}
 use Rattle.verilog_reader.proofs.AnyLemmas.{or_true, and_false, not_true, and_parts, same_tests, any_same, any_and, any_swap}
 use Rattle.verilog_reader.proofs.NameLists.{name_symm}

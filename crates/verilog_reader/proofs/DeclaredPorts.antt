@@ -12,7 +12,8 @@ use Rattle.verilog_reader.specs.declared.bounds.Bounds.{Bounds}
 use Rattle.verilog_reader.specs.Values.{plain_of}
 use Rattle.verilog_reader.specs.Declarations.{declaration_of}
 use Rattle.verilog_reader.specs.Denoted.{directions_of}
-use Rattle.verilog_reader.specs.Numbering.{place, port_bits, numbered_ports_of, numbered_ports_in}
+use Rattle.verilog_reader.specs.NameTables.{place}
+use Rattle.verilog_reader.specs.Numbering.{port_bits, numbered_ports_of, numbered_ports_in}
 
 module _ (es : List (List ℕ × Option Bounds)) (line : ℕ) (kind : Declared) (range : Option Range) where
   -- with a direction

@@ -16,7 +16,7 @@ use Rattle.verilog_reader.specs.declared.bounds.Bounds.{Bounds}
 use Rattle.verilog_reader.specs.declared.declared.First.{First}
 use Rattle.verilog_reader.specs.Values.{plain_of}
 use Rattle.verilog_reader.specs.Declarations.{Declaration, declaration_of, bounds_of, is_named, first_of, bounds_or_none, bounds_in, is_declared, declarations_in, declarations}
-use Rattle.verilog_reader.specs.Steps.{kept_of, first_kept, first_named, only_at, kept_bounds}
+use Rattle.verilog_reader.specs.NameTables.{kept_of, first_kept, first_named, only_at, kept_bounds}
 
 or_none : {X : Type 0} (o : Option X) → option_or o None ≡ o
 or_none None = refl

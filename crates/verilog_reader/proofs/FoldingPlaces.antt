@@ -23,7 +23,8 @@ use Rattle.verilog_reader.specs.declared.entry.Entry.{Entry}
 use Rattle.verilog_reader.specs.Values.{plain_of, decimal_value}
 use Rattle.verilog_reader.specs.Declarations.{mentions_of, mentions_in, connection_items}
 use Rattle.verilog_reader.specs.Faults.{width_or_one, part_of, selects, selects_part}
-use Rattle.verilog_reader.specs.Numbering.{place_from, place, bounds_or, with_entry, with_entries, with_mentioned, all_bits, one_bit, part_bits, numbered_item, numbered_items, numbered_expression, numbered_connection, numbered_assigns_in, numbered_instances_in, IsFineItem, IsFineExpression, IsFineStatement, HasFineItems}
+use Rattle.verilog_reader.specs.NameTables.{place_from, place}
+use Rattle.verilog_reader.specs.Numbering.{bounds_or, with_entry, with_entries, with_mentioned, all_bits, one_bit, part_bits, numbered_item, numbered_items, numbered_expression, numbered_connection, numbered_assigns_in, numbered_instances_in, IsFineItem, IsFineExpression, IsFineStatement, HasFineItems}
 use Rattle.verilog_reader.proofs.Filling.{Entries}
 use Rattle.verilog_reader.proofs.Places.{bytes_same, named, named_more, named_all}
 

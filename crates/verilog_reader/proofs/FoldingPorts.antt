@@ -19,7 +19,8 @@ use Rattle.verilog_reader.specs.declared.entry.Entry.{Entry}
 use Rattle.verilog_reader.specs.Values.{plain_of}
 use Rattle.verilog_reader.specs.Declarations.{Declaration, declaration_of, declarations_in, declarations, is_declared, mentions}
 use Rattle.verilog_reader.specs.Denoted.{directions_of, header_name, header_line, entry_nets}
-use Rattle.verilog_reader.specs.Numbering.{total, with_entries, with_declared, with_mentioned, entries, port_bits, numbered_ports_of, numbered_ports_in, numbered_ports, numbered_assigns, numbered_instances, numbered, IsListed, AreListed, IsFineStatement, HasFineItems}
+use Rattle.verilog_reader.specs.NameTables.{total}
+use Rattle.verilog_reader.specs.Numbering.{with_entries, with_declared, with_mentioned, entries, port_bits, numbered_ports_of, numbered_ports_in, numbered_ports, numbered_assigns, numbered_instances, numbered, IsListed, AreListed, IsFineStatement, HasFineItems}
 use Rattle.verilog_reader.proofs.Distinct.{all_of}
 use Rattle.verilog_reader.proofs.Filling.{Entries, mentioned_entries}
 use Rattle.verilog_reader.proofs.FoldingPlaces.{kept, each_left, each_right, items_of_fine}

@@ -13,7 +13,8 @@ use Rattle.verilog_reader.specs.Values.{bit_name}
 use Rattle.verilog_reader.specs.Declarations.{width, has_index, has_part, offset, index_at, indexes_from, indexes}
 use Rattle.verilog_reader.specs.Faults.{width_or_one}
 use Rattle.verilog_reader.specs.Denoted.{entry_nets, name_bits, named_of, bit_text}
-use Rattle.verilog_reader.specs.Numbering.{place_from, place, net_bits}
+use Rattle.verilog_reader.specs.NameTables.{place_from, place}
+use Rattle.verilog_reader.specs.Numbering.{net_bits}
 use Rattle.verilog_reader.proofs.Filling.{Entries}
 use Rattle.verilog_reader.proofs.Places.{same_bytes}
 use Rattle.verilog_reader.proofs.NumberedLists.{length-entry, length-indexes_from}

@@ -12,7 +12,8 @@ use Rattle.verilog_syntax.specs.Reading.{read_statements}
 use Rattle.verilog_reader.specs.Faults.{read_faultless, check_number, check_twice, check_select, bad_number, bad_twice, bad_select, is_bad_range, range_in, differ_in_width, has_twice, pins_in}
 use Rattle.verilog_reader.specs.Declarations.{bounds_in, undeclared_in, mentions}
 use Rattle.verilog_reader.specs.Denoted.{IsNetlistOf, entry_nets, first_declared, first_mentioned, declared_nets}
-use Rattle.verilog_reader.specs.Numbering.{total, with_declared, entries, numbered, numbered_ports, numbered_assigns, numbered_instances, IsFineStatement}
+use Rattle.verilog_reader.specs.NameTables.{total}
+use Rattle.verilog_reader.specs.Numbering.{with_declared, entries, numbered, numbered_ports, numbered_assigns, numbered_instances, IsFineStatement}
 use Rattle.verilog_reader.proofs.Filling.{Entries}
 use Rattle.verilog_reader.proofs.Places.{bounds_are, entries_are, declared_first}
 use Rattle.verilog_reader.proofs.Checked.{Passes, passes, sound, ranges, fine, IsSound, declared_named}

@@ -12,7 +12,8 @@ use Rattle.verilog_reader.specs.Declarations.{index_at, indexes_from, indexes, w
 use Rattle.verilog_reader.specs.Faults.{width_or_one}
 use Rattle.verilog_reader.specs.Values.{bit_name, name_text}
 use Rattle.verilog_reader.specs.Denoted.{entry_nets, bit_text}
-use Rattle.verilog_reader.specs.Numbering.{numbers_from, net_bit, net_bits, numbered_port, total, entries_of}
+use Rattle.verilog_reader.specs.NameTables.{total, entries_of}
+use Rattle.verilog_reader.specs.Numbering.{numbers_from, net_bit, net_bits, numbered_port}
 
 -- one number more
 pub goes_on : {X : Type 0} (G : ℕ → ℕ → List X) (f : ℕ → X) → ((at n : ℕ) → G at (suc n) ≡ f at ∷ G (at + 1) n) → (at end : ℕ) (out new all : List X)

@@ -22,7 +22,8 @@ use Rattle.verilog_reader.specs.Values.{plain_of}
 use Rattle.verilog_reader.specs.Declarations.{Declaration, declarations_in, declarations, is_named, first_of, is_declared, is_port_kind, has}
 use Rattle.verilog_reader.specs.Faults.{width_or_one, stands_again, any_again, instances_named, instance_names, bad_twice}
 use Rattle.verilog_reader.specs.Denoted.{directions_of}
-use Rattle.verilog_reader.specs.Numbering.{total, place_from, place, numbers_from, numbered_port, port_bits, numbered_ports_of, numbered_ports_in, numbered_ports, numbered_instances_in, numbered_instances}
+use Rattle.verilog_reader.specs.NameTables.{total, place_from, place}
+use Rattle.verilog_reader.specs.Numbering.{numbers_from, numbered_port, port_bits, numbered_ports_of, numbered_ports_in, numbered_ports, numbered_instances_in, numbered_instances}
 use Rattle.verilog_reader.proofs.Filling.{Entries}
 use Rattle.verilog_reader.proofs.Tables.{within}
 use Rattle.verilog_reader.proofs.Places.{bytes_same, same_bytes}

@@ -14,7 +14,8 @@ use Rattle.verilog_reader.specs.declared.select.Known.{Known}
 use Rattle.verilog_reader.specs.Values.{plain_of}
 use Rattle.verilog_reader.specs.Declarations.{Declaration, declaration_of, is_named, is_port_kind, bounds_in, declarations_in, declarations, ports_in, header_ports, has, items_in}
 use Rattle.verilog_reader.specs.Faults.{BoundsAt, is_bad_select, differ_in_width, has_direction, is_badly_listed, bad_select}
-use Rattle.verilog_reader.specs.Steps.{kept_bounds, known_bounds, has_key, listed_in, directed_in, AreKnown, is_bad_beside}
+use Rattle.verilog_reader.specs.NameTables.{kept_bounds, known_bounds}
+use Rattle.verilog_reader.specs.Steps.{has_key, listed_in, directed_in, AreKnown, is_bad_beside}
 use Rattle.verilog_reader.proofs.Firsts.{bounds_is, declarations_more}
 
 or_last : (b s h : Bool) → cond b true (s || h) ≡ (s || (h || (b || false)))

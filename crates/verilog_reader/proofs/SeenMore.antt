@@ -13,7 +13,8 @@ use Rattle.verilog_syntax.specs.declared.reading.Placed.{Placed}
 use Rattle.verilog_reader.specs.declared.twice.Seen.{Seen}
 use Rattle.verilog_reader.specs.Declarations.{Declaration, declaration_of, bounds_of, declarations_in, declarations, has, ports_in, items_in}
 use Rattle.verilog_reader.specs.Faults.{has_twice, any_again, instances_named, instance_names, pins_in, scalars_in, scalars, are_bits, have_bits, bad_twice, is_bad_number, is_bad_range, range_in}
-use Rattle.verilog_reader.specs.Steps.{has_bad_number, are_small, first_kept}
+use Rattle.verilog_reader.specs.NameTables.{first_kept}
+use Rattle.verilog_reader.specs.Steps.{has_bad_number, are_small}
 use Rattle.verilog_reader.specs.NameSets.{HasNames}
 use Rattle.verilog_reader.specs.Seen.{is_small, have_small, is_bit, is_closed, IsClean, Adds, IsSeen, Tells}
 use Rattle.verilog_reader.proofs.AnyLemmas.{or_true, or_false, or_false_left, or_false_right, and_parts, any_same}

@@ -9,7 +9,8 @@ use Rattle.std.proofs.lemmas.Slice.Eq.{bytes_eq-Decides}
 use Rattle.verilog_reader.specs.declared.bounds.Bounds.{Bounds}
 use Rattle.verilog_reader.specs.declared.entry.Entry.{Entry}
 use Rattle.verilog_reader.specs.Faults.{width_or_one}
-use Rattle.verilog_reader.specs.Numbering.{entries_of, total, IsNumbered, place_from, place, with_entry}
+use Rattle.verilog_reader.specs.NameTables.{entries_of, total, IsNumbered, place_from, place}
+use Rattle.verilog_reader.specs.Numbering.{with_entry}
 
 abbrev pub Table : Type 0
 Table = List (Bor (List ℕ) × Entry)

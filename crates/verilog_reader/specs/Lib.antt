@@ -2,6 +2,7 @@ pub mod Values
 pub mod Constants
 pub mod Declarations
 pub mod Faults
+pub mod NameTables
 pub mod Steps
 pub mod Denoted
 pub mod LastBits

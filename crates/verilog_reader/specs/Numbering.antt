@@ -26,30 +26,8 @@ use Rattle.verilog_reader.specs.Values.{plain_of, decimal_value, is_big_index}
 use Rattle.verilog_reader.specs.Constants.{constant_bits}
 use Rattle.verilog_reader.specs.Declarations.{width, offset, Declaration, declarations_in, declarations, mentions_of, mentions}
 use Rattle.verilog_reader.specs.Faults.{width_or_one, part_of, is_bad_size, is_bad_range, selects, selects_part}
+use Rattle.verilog_reader.specs.NameTables.{total, place, offset_in}
 use Rattle.verilog_reader.specs.Denoted.{directions_of, header_name, header_line, entry_nets}
-
--- the names of a table in order, each with its bounds
-abbrev pub entries_of : List (Bor (List ℕ) × Entry) → List (List ℕ × Option Bounds)
-entries_of table = map (λ e. (e.0.now, e.1.bounds)) table
-
--- how many nets they have
-abbrev pub total : List (List ℕ × Option Bounds) → ℕ
-total [] = 0
-total (e ∷ es) = width_or_one e.1 + total es
-
--- the first nets are numbered one behind the other
-abbrev pub IsNumbered : ℕ → List (Bor (List ℕ) × Entry) → Type 0
-IsNumbered at [] = Unit {0}
-IsNumbered at (e ∷ es) = (e.1.first ≡ at) × IsNumbered (at + width_or_one e.1.bounds) es
-
--- where the nets of a name stand
-abbrev pub place_from : ℕ → List (List ℕ × Option Bounds) → List ℕ → Option Entry
-place_from at [] name = None
-place_from at (e ∷ es) name =
-    if bytes_eq name e.0 then Some (record { first = at; bounds = e.1 }) else place_from (at + width_or_one e.1) es name
-
-abbrev pub place : List (List ℕ × Option Bounds) → List ℕ → Option Entry
-place es name = place_from 0 es name
 
 abbrev pub bounds_or : Option Entry → Option Bounds
 bounds_or None = None
@@ -93,10 +71,6 @@ net_bits first n = map net_bit (numbers_from first n)
 abbrev pub all_bits : Option Entry → List Bit
 all_bits None = []
 all_bits (Some e) = net_bits e.first (width_or_one e.bounds)
-
-abbrev pub offset_in : Option Bounds → ℕ → ℕ
-offset_in None index = 0
-offset_in (Some b) index = offset b index
 
 abbrev pub one_bit : Option Entry → ℕ → List Bit
 one_bit None index = []

@@ -8,17 +8,16 @@ use Rattle.verilog_syntax.specs.declared.statement.Declared.{Declared}
 use Rattle.verilog_syntax.specs.declared.reading.Placed.{Placed}
 use Rattle.verilog_reader.specs.declared.bounds.Bounds.{Bounds}
 use Rattle.verilog_reader.specs.declared.declared.First.{First}
-use Rattle.verilog_reader.specs.declared.declared.DeclaredNames.{DeclaredNames}
 use Rattle.verilog_reader.specs.declared.twice.Seen.{Seen}
 use Rattle.verilog_reader.specs.Values.{plain_of}
 use Rattle.verilog_reader.specs.Declarations.{Declaration, declarations, first_of, bounds_in, is_port_kind, is_wire}
 use Rattle.verilog_reader.specs.Faults.{same_bounds, stands_again, any_again, has_bit_in, have_bits, instance_names, scalars, bad_twice}
 use Rattle.verilog_reader.specs.NameSets.{HasNames}
-use Rattle.verilog_reader.specs.Steps.{first_in, first_kept}
+use Rattle.verilog_reader.specs.NameTables.{firsts_of}
 
 -- the names of the code keep these declarations
-abbrev pub Keeps : DeclaredNames → List Declaration → Type 0
-Keeps names ds = (q : List ℕ) → first_in names q ≡ first_kept ds q
+abbrev pub Keeps : List (List ℕ × First) → List Declaration → Type 0
+Keeps names ds = names ≡ firsts_of ds
 
 abbrev pub is_small : Option Bounds → Bool
 is_small None = true
@@ -40,6 +39,10 @@ is_bit ds name = list_any (λ d. has_bit_in d.name (bounds_in ds d.name) name) d
 abbrev pub is_closed : List ℕ → Bool
 is_closed name = bytes_eq (93 ∷ []) (drop (length name - 1) name)
 
+-- the set has the closed names that are declared
+abbrev pub AreClosed : {S : Type 0} → HashSet (Bor (List ℕ)) S → List Declaration → Type 0
+AreClosed closed ds = HasNames closed (filter is_closed (map (λ d. d.name) ds))
+
 -- none of the names is that of a bit of a declared vector
 abbrev pub IsClean : List Declaration → List (List ℕ) → Type 0
 IsClean ds names = list_any (is_bit ds) names ≡ false
@@ -49,7 +52,7 @@ abbrev pub AreNets : {S : Type 0} → HashSet (Bor (List ℕ)) S → List (List 
 AreNets nets all = HasNames nets (filter is_closed all)
 
 -- declarations and scalar nets of which none is a bit
-pub record AreKnown {S : Type 0} (names : DeclaredNames) (nets : HashSet (Bor (List ℕ)) S) (before : List Declaration) (all : List (List ℕ)) : Type 0 where
+pub record AreKnown {S : Type 0} (names : List (List ℕ × First)) (nets : HashSet (Bor (List ℕ)) S) (before : List Declaration) (all : List (List ℕ)) : Type 0 where
   pub keeps : Keeps names before
   pub are_nets : AreNets nets all
   pub clean : IsClean before all
@@ -62,13 +65,13 @@ abbrev pub declared_as : First → List ℕ → Declaration
 declared_as first name = declared_at first (plain_of name)
 
 -- a declaration stands behind others: whether it may not, or has a bit with the name of a scalar net; and if not, it is kept too
-pub record AddsOne (bad : Bool) (names : DeclaredNames) (before : List Declaration) (d : Declaration) (all : List (List ℕ)) : Type 0 where
+pub record AddsOne (bad : Bool) (names : List (List ℕ × First)) (before : List Declaration) (d : Declaration) (all : List (List ℕ)) : Type 0 where
   pub is : bad ≡ (stands_again (first_of d.name before) d || list_any (has_bit_in d.name d.bounds) all)
   pub kept : bad ≡ false → Keeps names (before ++ d ∷ [])
   pub clean : bad ≡ false → IsClean (before ++ d ∷ []) all
 
 -- the same of declarations
-pub record Adds (bad : Bool) (names : DeclaredNames) (before ds : List Declaration) (all : List (List ℕ)) : Type 0 where
+pub record Adds (bad : Bool) (names : List (List ℕ × First)) (before ds : List Declaration) (all : List (List ℕ)) : Type 0 where
   pub is : bad ≡ (any_again before ds || have_bits ds all)
   pub kept : bad ≡ false → Keeps names (before ++ ds)
   pub clean : bad ≡ false → IsClean (before ++ ds) all

@@ -7,10 +7,11 @@ ghost use Rattle.verilog_reader.specs.Declarations.{mentions_of};
 
 use crate::bounds::Bounds;
 use crate::constant::constant_bits;
+use crate::declared::small_value;
 use crate::entry::Entry;
 use crate::nets::Nets;
 use crate::values::plain_of;
-use crate::vectors::{number_of, offset_in, width, width_or_one};
+use crate::vector::{offset_in, width, width_or_one};
 use netlist_core::{Bit, Bits, Expr, NetId};
 use std::alloc::Global;
 use text_scan::NoMemory;
@@ -76,12 +77,12 @@ fn push_item<'a>(
         Item::Name(name) => push_all(bits, nets.entry_or_add(plain_of(name))?),
         Item::Bit { name, index } => {
             let entry = nets.entry_or_add(plain_of(name))?;
-            push_one(bits, entry, number_of(index.text()))
+            push_one(bits, entry, small_value(index.text()))
         }
         Item::Part { name, left, right } => {
             let part = Bounds {
-                left: number_of(left.get().text()),
-                right: number_of(right.get().text()),
+                left: small_value(left.get().text()),
+                right: small_value(right.get().text()),
             };
             push_part(bits, nets.entry_or_add(plain_of(name))?, part)
         }

@@ -1,42 +1,17 @@
 //! The bits of a constant.
-ghost use Rattle.std.specs.Prelude.{◌≡◌, ℕ, ◌^◌, ◌%◌, ◌/◌, ◌<◌, ◌≤◌, ◌++◌, List, [], length, if◌then◌else◌, IfOk, MatchOption};
-ghost use Rattle.std.specs.List.{flat_map, prefix_len};
-ghost use Rattle.text_scan.specs.VerilogTokens.{is_digit, is_unknown};
+ghost use Rattle.std.specs.Prelude.{◌≡◌, ℕ, ◌^◌, ◌%◌, ◌/◌, ◌<◌, ◌≤◌, ◌++◌, List, [], false, if◌then◌else◌, IfOk};
+ghost use Rattle.std.specs.List.{flat_map};
+ghost use Rattle.text_scan.specs.VerilogTokens.{is_unknown};
 ghost use Rattle.netlist_core.specs.declared.netlist.Bit.{Bit};
 ghost use Rattle.verilog_reader.specs.Values.{decimal_value};
-ghost use Rattle.verilog_reader.specs.Constants.{constant_size, constant_base, constant_digits, digit_width, digit_value, digit_bits, is_decimal_base, fill_of, bits_in, constant_bits};
+ghost use Rattle.verilog_reader.specs.Constants.{constant_base, constant_digits, digit_width, digit_value, digit_bits, is_decimal_base, fill_of, bits_in, constant_bits};
 ghost use Rattle.verilog_reader.specs.LastBits.{masked_bit, masked_bits, without_underscores, AreLastBits};
 ghost use Rattle.verilog_reader.specs.Faults.{is_bad_size};
 
-use crate::values::value_within;
+use crate::number::{constant_size, size_digits};
 use netlist_core::Bit;
 use std::alloc::Global;
 use text_scan::{NoMemory, Rows};
-
-fn size_len(text: &[u8]) -> usize
-    ensures value { result ≡ prefix_len is_digit text.now }
-    ensures within { result ≤ length text.now }
-{
-    text.iter().take_while(|b| b.is_ascii_digit()).count()
-}
-
-/// The size of a constant, None where it exceeds 128.
-pub(crate) fn size_of(text: &[u8]) -> Option<u32>
-    ensures value { MatchOption result (128 < constant_size text.now) (λ v. constant_size text.now ≡ v) }
-    ensures small { MatchOption result (length text.now ≡ length text.now) (λ v. v ≤ 128) }
-{
-    value_within(128, &text[..size_len(text)])
-}
-
-/// Whether the size of a constant is 0 or exceeds 128.
-pub(crate) fn is_bad_size(text: &[u8]) -> bool
-    ensures value { result ≡ is_bad_size text.now }
-{
-    match size_of(text) {
-        Some(size) => size == 0,
-        None => true,
-    }
-}
 
 fn is_unknown(digit: u8) -> bool
     ensures value { result ≡ is_unknown digit }
@@ -203,7 +178,7 @@ fn base_and_digits(text: &[u8]) -> (u8, &[u8])
     ensures base { result.0 ≡ constant_base text.now }
     ensures digits { without_underscores result.1.now ≡ constant_digits text.now }
 {
-    match &text[size_len(text)..] {
+    match &text[size_digits(text).len()..] {
         [_, base, digits @ ..] => (*base, digits),
         _ => (0, &[]),
     }
@@ -211,10 +186,10 @@ fn base_and_digits(text: &[u8]) -> (u8, &[u8])
 
 /// The bits of a constant, from the left.
 pub(crate) fn constant_bits(alloc: Global, text: &[u8]) -> Result<Rows<Bit>, NoMemory>
-    requires size { constant_size text.now ≤ 128 }
+    requires size { is_bad_size text.now ≡ false }
     ensures value { IfOk result (λ bits. bits ≡ constant_bits text.now) }
 {
-    let size = size_of(text).unwrap();
+    let size = constant_size(text);
     let (base, digits) = base_and_digits(text);
     bits_of(alloc, size, last_bits(base, digits))
 }

@@ -1,4 +1,5 @@
-use crate::constant::{constant_bits, is_bad_size};
+use crate::constant::constant_bits;
+use crate::number::is_bad_size;
 use netlist_core::Bit;
 use std::alloc::Global;
 use std::test::Fail;

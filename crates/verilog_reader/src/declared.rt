@@ -1,24 +1,30 @@
-//! What the statements declare, by name.
+//! What the statements declare, by name: what the first declaration of a name makes of it, and its nets.
 //!
-//! `declared_names` gives each name its first declaration of all the statements. A check that goes over the statements in
-//! turn begins with `DeclaredNames::new` and calls `add_statement` behind each: the names then keep the first declarations
-//! of the statements so far, as `first_more` of proofs/Firsts.antt says. A contract reads them at a name by `first_in`, and
-//! `bounds_is` and `declared_is` tie that to `bounds_in` and `is_declared`.
+//! A check that goes over the statements in turn begins with `DeclaredNames::with_room` and calls `add` for each declaration:
+//! the names are then `firsts_of` the declarations so far. The netlist goes on with the same table, and adds the names that
+//! are mentioned alone.
 //!
 //! Ranges must be small (`are_small`), since the code keeps them as `u32`: once `check_number` has passed, they are.
-ghost use Rattle.std.specs.Prelude.{◌≡◌, ◌≤◌, List, ℕ, true, false, None, Some, is_some, option_map, IfOk, OnOk};
-ghost use Rattle.std.specs.Option.{option_or};
+ghost use Rattle.std.specs.Prelude.{◌≡◌, ◌≤◌, ◌<◌, ◌^◌, List, ℕ, [], None, Some, false, option_map, OnOk, IfOk};
+ghost use Rattle.std.specs.Borrow.{Bor};
+ghost use Rattle.std.specs.Map.Iter.{ShowsInOrder, deref_pair};
+ghost use Rattle.verilog_reader.specs.declared.declared.Slot.{Slot as ghost_slot};
 ghost use Rattle.verilog_reader.specs.Values.{decimal_value, is_big_index};
-ghost use Rattle.verilog_reader.specs.Declarations.{bounds_of, declarations_in, declarations};
-ghost use Rattle.verilog_reader.specs.Faults.{is_bad_range, range_in};
-ghost use Rattle.verilog_reader.specs.Steps.{are_small, first_in, first_kept, first_named, only_at, kept_bounds};
+ghost use Rattle.verilog_reader.specs.Declarations.{bounds_of};
+ghost use Rattle.verilog_reader.specs.Faults.{is_bad_range};
+ghost use Rattle.verilog_reader.specs.NameTables.{bounded, first_at, first_in, firsts_in, kept_bounds, place, total, with_first};
 
 use crate::bounds::Bounds;
-use crate::name_hash::{NameMap, NameState};
-use crate::values::{index_value, plain_of};
+use crate::entry::Entry;
+use crate::name_hash::NameState;
+use crate::values::index_value;
+use crate::vector::width_or_one;
+use indexmap::IndexMap;
+use indexmap::map::Iter;
 use std::alloc::Global;
+use std::marker::Model;
 use text_scan::NoMemory;
-use verilog_syntax::{Declared, Placed, Range, Statement, Written};
+use verilog_syntax::{Declared, Range};
 
 /// What the first declaration of a name makes of it.
 #[derive(Clone, Copy, Debug)]
@@ -27,25 +33,62 @@ pub(crate) struct First {
     pub bounds: Option<Bounds>,
 }
 
-/// Names with their first declarations, which contracts read by `first_in`.
+/// What a table has of a name: its nets, and how it is declared first.
+#[derive(Clone, Copy, Debug)]
+pub(crate) struct Slot {
+    pub entry: Entry,
+    pub kind: Declared,
+}
+
+impl Slot {
+    fn first(self) -> First
+        ensures value { result ≡ first_at self }
+    {
+        First {
+            kind: self.kind,
+            bounds: self.entry.bounds,
+        }
+    }
+}
+
+/// Names in the order in which they were added, which contracts see as a list, each with its first declaration. Their nets
+/// are numbered in this order.
 #[derive(Drop)]
 pub(crate) struct DeclaredNames<'a> {
-    firsts: NameMap<'a, First>,
+    slots: IndexMap<&'a [u8], Slot, NameState>,
+    count: u32,
+}
+
+impl<'a> Model for DeclaredNames<'a> {
+    ghost use Rattle.std.specs.Prelude.{◌≡◌, ◌<◌, ◌^◌, List, ℕ};
+    ghost use Rattle.verilog_reader.specs.declared.declared.First.{First as ghost_first};
+    ghost use Rattle.verilog_reader.specs.NameTables.{bounded, firsts_in, total, IsNumbered};
+
+    ghost Value = { List (List ℕ × ghost_first) };
+
+    ghost view = { λ n. firsts_in n.slots.entries };
+
+    ghost invariant = { λ n. IsNumbered 0 n.slots.entries × (n.count ≡ total (bounded (firsts_in n.slots.entries))) × (n.count < 2 ^ 32) };
 }
 
 impl<'a> DeclaredNames<'a> {
-    pub(crate) fn new(alloc: Global) -> DeclaredNames<'a>
-        ensures value { (name : List ℕ) → first_in result name ≡ None }
+    /// No name, and room for so many.
+    pub(crate) fn with_room(alloc: Global, names: usize) -> Result<DeclaredNames<'a>, NoMemory>
+        ensures value { IfOk result (λ table. table ≡ []) }
     {
-        DeclaredNames {
-            firsts: NameMap::with_hasher(alloc, NameState::new()),
-        }
+        Ok(DeclaredNames {
+            slots: IndexMap::with_capacity_and_hasher(alloc, names, NameState::new())?,
+            count: 0,
+        })
     }
 
-    pub(crate) fn first_of(&self, name: &[u8]) -> Option<First>
+    fn first_of(&self, name: &[u8]) -> Option<First>
         ensures value { result ≡ first_in self.now name.now }
     {
-        self.firsts.get(&name).copied()
+        match self.slots.get(name) {
+            Some(slot) => Some(slot.first()),
+            None => None,
+        }
     }
 
     /// Where the name is a vector, its bounds.
@@ -58,54 +101,61 @@ impl<'a> DeclaredNames<'a> {
         }
     }
 
-    /// Whether the name has a declaration.
-    pub(crate) fn has(&self, name: &[u8]) -> bool
-        ensures value { result ≡ is_some (first_in self.now name.now) }
+    /// The nets of a name.
+    pub(crate) fn entry(&self, name: &[u8]) -> Option<Entry>
+        ensures value { result ≡ place (bounded self.now) name.now }
     {
-        self.firsts.contains_key(&name)
+        match self.slots.get(name) {
+            Some(slot) => Some(slot.entry),
+            None => None,
+        }
+    }
+
+    /// The names with what the table has of them, in their order.
+    pub(crate) fn iter(&self) -> Iter<'_, &'a [u8], Slot>
+        ensures names { firsts_in result ≡ self.now }
+        ensures runs { ShowsInOrder (deref_pair {K = Bor (List ℕ)} {X = ghost_slot}) }
+    {
+        self.slots.iter()
+    }
+
+    /// How many nets there are.
+    pub(crate) fn count(&self) -> u32
+        ensures value { result ≡ total (bounded self.now) }
+    {
+        self.count
     }
 
     /// Adds a declaration of a name, unless the name has one, which it then answers.
     pub(crate) fn add(&mut self, name: &'a [u8], first: First) -> Result<Option<First>, NoMemory>
         ensures before { IfOk result (λ known. known ≡ first_in self.old name.now) }
-        ensures ok { OnOk result ((q : List ℕ) → first_in self.new q ≡ option_or (first_in self.old q) (only_at name.now first q)) }
+        ensures ok { OnOk result (self.new ≡ with_first self.old name.now first) }
     {
-        let known = self.firsts.insert(name, first)?;
-        if let Some(known) = known {
-            self.firsts.insert(name, known)?;
+        if let Some(known) = self.first_of(name) {
+            return Ok(Some(known));
         }
-        Ok(known)
+        self.append(name, first)?;
+        Ok(None)
     }
 
-    /// Adds the declarations of a name list.
-    fn add_all(
-        &mut self,
-        kind: Declared,
-        bounds: Option<Bounds>,
-        names: &[Written<'a>],
-    ) -> Result<(), NoMemory>
-        ensures ok { OnOk result ((q : List ℕ) → first_in self.new q ≡ option_or (first_in self.old q) (first_named kind bounds names.now q)) }
+    /// Gives a new name its nets. Their numbers have 32 bits: more would not fit in memory.
+    pub(crate) fn append(&mut self, name: &'a [u8], first: First) -> Result<Entry, NoMemory>
+        requires { first_in self.old name.now ≡ None }
+        ensures ok { OnOk result (self.new ≡ with_first self.old name.now first) }
+        ensures found { IfOk result (λ entry. place (bounded self.new) name.now ≡ Some entry) }
+        ensures few { OnOk result (total (bounded self.new) < 2 ^ 32) }
     {
-        for name in names {
-            self.add(plain_of(name), First { kind, bounds })?;
-        }
-        Ok(())
-    }
-
-    /// Adds what a statement declares.
-    pub(crate) fn add_statement(&mut self, statement: &Statement<'a>) -> Result<(), NoMemory>
-        requires small { is_bad_range (range_in statement.now) ≡ false }
-        ensures ok { OnOk result ((q : List ℕ) → first_in self.new q ≡ option_or (first_in self.old q) (first_kept (declarations_in statement.now) q)) }
-    {
-        match statement {
-            Statement::Declare { kind, range, names } => {
-                self.add_all(*kind, range_bounds(range), names.as_slice())?;
-                Ok(())
-            }
-            Statement::Module { .. } | Statement::Assign { .. } | Statement::Instance { .. } => Ok(
-                (),
-            ),
-        }
+        let entry = Entry {
+            first: self.count,
+            bounds: first.bounds,
+        };
+        let Ok(count) = u32::try_from(u64::from(entry.first) + width_or_one(first.bounds)) else {
+            return Err(NoMemory);
+        };
+        let kind = first.kind;
+        self.slots.insert(name, Slot { entry, kind })?;
+        self.count = count;
+        Ok(entry)
     }
 }
 
@@ -141,19 +191,4 @@ pub(crate) fn range_bounds(range: &Option<Range>) -> Option<Bounds>
         Some(range) => Some(bounds_of(range)),
         None => None,
     }
-}
-
-/// The first declaration of each name that the statements declare.
-pub(crate) fn declared_names<'a>(
-    alloc: Global,
-    statements: &[Placed<'a>],
-) -> Result<DeclaredNames<'a>, NoMemory>
-    requires small { are_small statements.now ≡ true }
-    ensures value { IfOk result (λ names. (q : List ℕ) → first_in names q ≡ first_kept (declarations statements.now) q) }
-{
-    let mut names = DeclaredNames::new(alloc);
-    for placed in statements {
-        names.add_statement(&placed.statement)?;
-    }
-    Ok(names)
 }

@@ -3,17 +3,18 @@ ghost use Rattle.std.specs.Prelude.{◌≡◌, false, ◌+◌, ◌-◌, ◌<◌,
 ghost use Rattle.std.specs.List.{flat_map};
 ghost use Rattle.netlist_core.specs.Netlists.{IsNetlist};
 ghost use Rattle.verilog_reader.specs.Values.{plain_of};
-ghost use Rattle.verilog_reader.specs.Declarations.{declaration_of};
+ghost use Rattle.verilog_reader.specs.Declarations.{declaration_of, declarations};
 ghost use Rattle.verilog_reader.specs.Faults.{width_or_one, is_bad_range, range_in, check_number, check_twice, check_select};
 ghost use Rattle.verilog_reader.specs.Denoted.{directions_of, module_name, header_name, header_line, IsNetlistOf};
-ghost use Rattle.verilog_reader.specs.Numbering.{entries, numbered, place, port_bits, numbers_from, numbered_port, numbered_ports_of, numbered_ports_in, numbered_ports, numbered_connection, numbered_assigns_in, numbered_assigns, numbered_instances_in, numbered_instances, IsListed, AreListed, IsFineStatement};
+ghost use Rattle.verilog_reader.specs.NameTables.{place, firsts_of};
+ghost use Rattle.verilog_reader.specs.Numbering.{entries, numbered, port_bits, numbers_from, numbered_port, numbered_ports_of, numbered_ports_in, numbered_ports, numbered_connection, numbered_assigns_in, numbered_assigns, numbered_instances_in, numbered_instances, IsListed, AreListed, IsFineStatement};
 
+use crate::declared::DeclaredNames;
 use crate::entry::Entry;
-use crate::fill::declared_nets;
 use crate::nets::Nets;
 use crate::parts::parts_of;
 use crate::values::plain_of;
-use crate::vectors::width_or_one;
+use crate::vector::width_or_one;
 use netlist_core::{Direction, NetId, Netlist, Port};
 use std::alloc::Global;
 use text_scan::{Name, NoMemory, Rows};
@@ -123,8 +124,12 @@ fn header_line(statements: &[Placed]) -> u64
     }
 }
 
-fn folded(alloc: Global, statements: Rows<Placed<'_>>) -> Result<Netlist, NoMemory>
-    requires ranges { All (λ p. is_bad_range (range_in p.statement) ≡ false) statements }
+fn folded<'a>(
+    alloc: Global,
+    names: DeclaredNames<'a>,
+    statements: Rows<Placed<'a>>,
+) -> Result<Netlist, NoMemory>
+    requires names { names ≡ firsts_of (declarations statements) }
     requires fine { All (λ p. IsFineStatement (entries statements) p.statement) statements }
     ensures value { IfOk result (λ n. n ≡ numbered (entries statements.entry) statements.entry) }
     ensures few_nets { IfOk result (λ n. length n.nets < 2 ^ 32) }
@@ -132,7 +137,7 @@ fn folded(alloc: Global, statements: Rows<Placed<'_>>) -> Result<Netlist, NoMemo
 {
     let module = Name::copy(alloc, header_name(statements.as_slice()))?;
     let line = header_line(statements.as_slice());
-    let mut nets = declared_nets(alloc, statements.as_slice())?;
+    let mut nets = Nets::of(names);
     let declared = nets.count();
     let ports = ports_of(alloc, &nets, statements.as_slice())?;
     let (assigns, instances) = parts_of(alloc, &mut nets, statements)?;
@@ -148,12 +153,17 @@ fn folded(alloc: Global, statements: Rows<Placed<'_>>) -> Result<Netlist, NoMemo
 }
 
 /// The netlist of statements that have no fault.
-pub(crate) fn netlist_of(alloc: Global, statements: Rows<Placed<'_>>) -> Result<Netlist, NoMemory>
+pub(crate) fn netlist_of<'a>(
+    alloc: Global,
+    names: DeclaredNames<'a>,
+    statements: Rows<Placed<'a>>,
+) -> Result<Netlist, NoMemory>
+    requires names { names ≡ firsts_of (declarations statements) }
     requires number { check_number statements ≡ Ok tt }
     requires twice { check_twice statements ≡ Ok tt }
     requires select { check_select statements ≡ Ok tt }
     ensures value { IfOk result (λ n. IsNetlistOf statements.entry n) }
     ensures netlist { IfOk result (λ n. IsNetlist n) }
 {
-    folded(alloc, statements)
+    folded(alloc, names, statements)
 }

@@ -13,7 +13,6 @@ mod declared;
 mod entry;
 mod faults;
 mod few;
-mod fill;
 mod fold;
 mod laws;
 mod name_hash;
@@ -28,7 +27,6 @@ mod select;
 mod twice;
 mod values;
 mod vector;
-mod vectors;
 
 pub use bounds::Bounds;
 pub use laws::netlist_law;

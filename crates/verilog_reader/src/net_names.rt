@@ -5,7 +5,7 @@ ghost use Rattle.verilog_reader.specs.Denoted.{entry_nets, bit_text};
 
 use crate::bounds::Bounds;
 use crate::values::push_bit_name;
-use crate::vectors::{index_at, width};
+use crate::vector::{index_at, width};
 use netlist_core::NetName;
 use std::alloc::Global;
 use text_scan::{Name, NoMemory, Rows};

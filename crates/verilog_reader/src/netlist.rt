@@ -3,7 +3,6 @@ ghost use Rattle.std.specs.Prelude.{◌≡◌, ◌<◌, ◌^◌, length, IfOk};
 ghost use Rattle.verilog_reader.specs.Faults.{IsRefused, read_faultless};
 ghost use Rattle.verilog_reader.specs.Denoted.{DenotesNetlist};
 
-use crate::declared::declared_names;
 use crate::fold::netlist_of;
 use crate::number::check_number;
 use crate::select::check_select;
@@ -24,8 +23,7 @@ pub fn read_netlist(alloc: Global, bytes: &[u8]) -> Result<Netlist, ReadFault>
 {
     let statements = read_statements(alloc, bytes)?;
     check_number(alloc, statements.as_slice())?;
-    let names = declared_names(alloc, statements.as_slice())?;
-    check_twice(alloc, &names, statements.as_slice())?;
-    check_select(alloc, names, statements.as_slice())?;
-    Ok(netlist_of(alloc, statements)?)
+    let names = check_twice(alloc, statements.as_slice())?;
+    check_select(alloc, &names, statements.as_slice())?;
+    Ok(netlist_of(alloc, names, statements)?)
 }

@@ -33,7 +33,7 @@ fn digits_len(bytes: &[u8]) -> usize
 }
 
 /// The decimal in front of a constant's quote.
-fn size_digits(text: &[u8]) -> &[u8]
+pub(crate) fn size_digits(text: &[u8]) -> &[u8]
     ensures value { result.now ≡ size_digits text.now }
 {
     &text[..digits_len(text)]
@@ -54,7 +54,7 @@ fn is_big_index(digits: &[u8]) -> bool
     index_value(digits).is_none()
 }
 
-fn is_bad_size(text: &[u8]) -> bool
+pub(crate) fn is_bad_size(text: &[u8]) -> bool
     ensures value { result ≡ is_bad_size text.now }
 {
     match index_value(size_digits(text)) {

@@ -4,9 +4,9 @@ ghost use Rattle.std.specs.List.{list_any};
 ghost use Rattle.verilog_syntax.specs.Reading.{Answers};
 ghost use Rattle.verilog_reader.specs.Values.{is_big_index, plain_of};
 ghost use Rattle.verilog_reader.specs.Declarations.{declarations, is_port_kind, header_ports, has, connection_items, items_in};
-ghost use Rattle.verilog_reader.specs.Faults.{is_bad_number, selects, selects_part, part_of, is_bad_select, width_or_one, item_width, expression_width, differ_in_width, has_direction, check_select};
-ghost use Rattle.verilog_reader.specs.Seen.{Keeps};
-ghost use Rattle.verilog_reader.specs.Steps.{has_bad_number, are_small, known_bounds, has_key, listed_in, directed_in, AreKnown, is_bad_beside};
+ghost use Rattle.verilog_reader.specs.Faults.{is_bad_number, selects, selects_part, part_of, is_bad_select, item_width, expression_width, differ_in_width, has_direction, check_select};
+ghost use Rattle.verilog_reader.specs.NameTables.{firsts_of, known_bounds};
+ghost use Rattle.verilog_reader.specs.Steps.{has_bad_number, are_small, has_key, listed_in, directed_in, AreKnown, is_bad_beside};
 
 use crate::bounds::Bounds;
 use crate::declared::{DeclaredNames, small_value};
@@ -14,7 +14,7 @@ use crate::faults::fault_at;
 use crate::name_hash::{NameSet, NameState};
 use crate::number::constant_size;
 use crate::values::plain_of;
-use crate::vector::{has_index, has_part, width};
+use crate::vector::{has_index, has_part, width, width_or_one};
 use std::alloc::Global;
 use text_scan::{Kind, NoMemory, ReadFault};
 use verilog_syntax::{Connection, Declared, Expression, Item, Placed, Statement, Written};
@@ -104,16 +104,6 @@ fn has_bad_select(names: &DeclaredNames, statement: &Statement) -> bool
         Statement::Instance { connections, .. } => {
             has_bad_connection(names, connections.as_slice())
         }
-    }
-}
-
-fn width_or_one(bounds: Option<Bounds>) -> u64
-    ensures value { result ≡ width_or_one bounds }
-    ensures within { result ≤ 2 ^ 32 }
-{
-    match bounds {
-        Some(bounds) => width(bounds),
-        None => 1,
     }
 }
 
@@ -225,39 +215,29 @@ fn lacks_one<'a>(set: &NameSet<'a>, names: &[Written<'a>]) -> bool
     false
 }
 
-/// What the check needs to know of all the statements.
+/// What the check needs to know of the ports.
 #[derive(Drop)]
 struct Known<'a> {
-    names: DeclaredNames<'a>,
     /// Those that the header lists.
     ports: NameSet<'a>,
     /// Those that are declared with a direction.
     directed: NameSet<'a>,
 }
 
-fn gathered<'a>(
-    alloc: Global,
-    names: DeclaredNames<'a>,
-    statements: &[Placed<'a>],
-) -> Result<Known<'a>, NoMemory>
-    requires names { Keeps names (declarations statements.now) }
+fn gathered<'a>(alloc: Global, statements: &[Placed<'a>]) -> Result<Known<'a>, NoMemory>
     ensures value { IfOk result (λ known. AreKnown known statements.now) }
 {
     let ports = header_ports(alloc, statements)?;
     let directed = directed_names(alloc, statements)?;
-    Ok(Known {
-        names,
-        ports,
-        directed,
-    })
+    Ok(Known { ports, directed })
 }
 
-fn is_bad<'a>(known: &Known<'a>, statement: &Statement<'a>) -> bool
+fn is_bad<'a>(names: &DeclaredNames<'a>, known: &Known<'a>, statement: &Statement<'a>) -> bool
     requires small { has_bad_number statement.now ≡ false }
-    ensures value { result ≡ is_bad_beside known.now statement.now }
+    ensures value { result ≡ is_bad_beside names.now known.now statement.now }
 {
-    has_bad_select(&known.names, statement)
-        || differ_in_width(&known.names, statement)
+    has_bad_select(names, statement)
+        || differ_in_width(names, statement)
         || lacks_one(&known.directed, listed_in(statement))
         || lacks_one(&known.ports, directed_in(statement))
 }
@@ -266,16 +246,16 @@ fn is_bad<'a>(known: &Known<'a>, statement: &Statement<'a>) -> bool
 /// names with a direction.
 pub(crate) fn check_select<'a>(
     alloc: Global,
-    names: DeclaredNames<'a>,
+    names: &DeclaredNames<'a>,
     statements: &[Placed<'a>],
 ) -> Result<(), ReadFault>
     requires small { are_small statements.now ≡ true }
-    requires names { Keeps names (declarations statements.now) }
+    requires names { names.now ≡ firsts_of (declarations statements.now) }
     ensures value { Answers result (check_select statements.now) }
 {
-    let known = gathered(alloc, names, statements)?;
+    let known = gathered(alloc, statements)?;
     for placed in statements {
-        if is_bad(&known, &placed.statement) {
+        if is_bad(names, &known, &placed.statement) {
             return Err(fault_at(Kind::BadSelect, placed.line));
         }
     }

@@ -4,15 +4,15 @@
 //! maps and sets, a scalar net's only where it is closed: where it ends with a bracket, as the names of bits do. The bits of
 //! a vector are looked up one by one, but only at its first declaration, and only where a scalar net before has a closed
 //! name; so their number stays within what the number check allows.
-ghost use Rattle.std.specs.Prelude.{◌≡◌, ◌||◌, ◌++◌, [], List, ℕ, false, true, Some, map, IfOk};
+ghost use Rattle.std.specs.Prelude.{◌≡◌, ◌||◌, ◌++◌, [], List, ℕ, false, true, Ok, Some, map, IfOk, OnOk};
 ghost use Rattle.std.specs.List.{list_any};
 ghost use Rattle.verilog_syntax.specs.declared.reading.Placed.{Placed};
-ghost use Rattle.verilog_syntax.specs.Reading.{Answers};
 ghost use Rattle.verilog_reader.specs.Declarations.{Declaration, declarations, declarations_in, has, is_wire, ports_in};
-ghost use Rattle.verilog_reader.specs.Faults.{are_bits, check_twice, has_bit_in, has_twice, instances_named, is_bad_range, pins_in, range_in, same_bounds};
+ghost use Rattle.verilog_reader.specs.Faults.{are_bits, check_twice, has_bit_in, has_twice, instances_named, is_bad_range, pins_in, range_in, same_bounds, IsRefused};
+ghost use Rattle.verilog_reader.specs.NameTables.{firsts_of};
 ghost use Rattle.verilog_reader.specs.Steps.{are_small};
 ghost use Rattle.verilog_reader.specs.NameSets.{HasNames};
-ghost use Rattle.verilog_reader.specs.Seen.{AreNets, AreKnown, AddsOne, Adds, IsSeen, Tells, Keeps, declared_at, declared_as, have_small, may_stand_beside, is_bit, is_closed};
+ghost use Rattle.verilog_reader.specs.Seen.{AreClosed, AreNets, AreKnown, AddsOne, Adds, IsSeen, Tells, Keeps, declared_at, declared_as, have_small, may_stand_beside, is_bit, is_closed};
 
 use crate::bit_names::split_bit;
 use crate::bounds::Bounds;
@@ -20,7 +20,7 @@ use crate::declared::{DeclaredNames, First, range_bounds};
 use crate::faults::fault_at;
 use crate::name_hash::{NameSet, NameState};
 use crate::name_lists::{add_names, has_twice, ports_in, repeats_pin};
-use crate::scalars::closed_scalars_in;
+use crate::scalars::{closed_declared, closed_scalars_in};
 use crate::select::{is_port_kind, selects};
 use crate::values::{plain_of, push_bit_name};
 use crate::vector::{index_at, width};
@@ -217,28 +217,49 @@ struct Seen<'a> {
     nets: NameSet<'a>,
 }
 
-impl<'a> Seen<'a> {
-    fn new(alloc: Global) -> Seen<'a>
-        ensures value { (all : List Placed) → IsSeen all [] result }
-    {
-        Seen {
-            declared: DeclaredNames::new(alloc),
-            instances: NameSet::with_hasher(alloc, NameState::new()),
-            nets: NameSet::with_hasher(alloc, NameState::new()),
+/// How many names statements declare: one that is declared twice counts twice.
+fn declared_count(statements: &[Placed]) -> usize {
+    let mut count: usize = 0;
+    for placed in statements {
+        if let Statement::Declare { names, .. } = &placed.statement {
+            count = count.saturating_add(names.as_slice().len());
         }
+    }
+    count
+}
+
+fn is_instance(placed: &Placed) -> bool {
+    matches!(placed.statement, Statement::Instance { .. })
+}
+
+fn instance_count(statements: &[Placed]) -> usize {
+    statements.iter().filter(|placed| is_instance(placed)).count()
+}
+
+impl<'a> Seen<'a> {
+    /// Nothing yet, and room for the names of so many statements.
+    fn with_room(alloc: Global, statements: &[Placed<'a>]) -> Result<Seen<'a>, NoMemory>
+        ensures value { IfOk result (λ seen. (all : List Placed) → IsSeen all [] seen) }
+    {
+        let room = instance_count(statements);
+        Ok(Seen {
+            declared: DeclaredNames::with_room(alloc, declared_count(statements))?,
+            instances: NameSet::with_capacity_and_hasher(alloc, room, NameState::new())?,
+            nets: NameSet::with_hasher(alloc, NameState::new()),
+        })
     }
 
     /// Adds a statement, and says whether it is bad beside those so far.
     fn is_bad(
         &mut self,
         alloc: Global,
-        all: &DeclaredNames<'a>,
+        closed: &NameSet<'a>,
         statement: &Statement<'a>,
     ) -> Result<bool, NoMemory>
         requires small { is_bad_range (range_in statement.now) ≡ false }
-        ensures value { IfOk result (λ bad. (ps : List Placed) (before : List Placed) (p : Placed) → p.statement ≡ statement.now → Keeps all.now (declarations ps) → have_small (declarations before) ≡ true → IsSeen ps before self.old → Tells bad ps before p self.new) }
+        ensures value { IfOk result (λ bad. (ps : List Placed) (before : List Placed) (p : Placed) → p.statement ≡ statement.now → AreClosed closed.now (declarations ps) → have_small (declarations before) ≡ true → IsSeen ps before self.old → Tells bad ps before p self.new) }
     {
-        let scalars = closed_scalars_in(alloc, all, statement)?;
+        let scalars = closed_scalars_in(alloc, closed, statement)?;
         let itself = repeats_itself(alloc, statement)?;
         let bits = are_bits(&self.declared, scalars.as_slice());
         let stands = add_declarations(alloc, &mut self.declared, &self.nets, statement)?;
@@ -248,21 +269,23 @@ impl<'a> Seen<'a> {
     }
 }
 
-/// Answers the first statement that gives a name to something else than a statement before it, or twice.
+/// The declared names, unless a statement gives a name to something else than a statement before it, or twice: the first one
+/// that does is answered.
 pub(crate) fn check_twice<'a>(
     alloc: Global,
-    all: &DeclaredNames<'a>,
     statements: &[Placed<'a>],
-) -> Result<(), ReadFault>
+) -> Result<DeclaredNames<'a>, ReadFault>
     requires small { are_small statements.now ≡ true }
-    requires all { Keeps all.now (declarations statements.now) }
-    ensures value { Answers result (check_twice statements.now) }
+    ensures passed { OnOk result (check_twice statements.now ≡ Ok tt) }
+    ensures refused { IsRefused result (check_twice statements.now) }
+    ensures names { IfOk result (λ names. names ≡ firsts_of (declarations statements.now)) }
 {
-    let mut seen = Seen::new(alloc);
+    let closed = closed_declared(alloc, statements)?;
+    let mut seen = Seen::with_room(alloc, statements)?;
     for placed in statements {
-        if seen.is_bad(alloc, all, &placed.statement)? {
+        if seen.is_bad(alloc, &closed, &placed.statement)? {
             return Err(fault_at(Kind::VerilogTwice, placed.line));
         }
     }
-    Ok(())
+    Ok(seen.declared)
 }

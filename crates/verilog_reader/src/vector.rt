@@ -1,6 +1,8 @@
 //! The indexes of a vector.
-ghost use Rattle.std.specs.Prelude.{◌≡◌, ◌<◌, ◌≤◌, ◌^◌};
+ghost use Rattle.std.specs.Prelude.{◌≡◌, ◌<◌, ◌≤◌, ◌^◌, true};
 ghost use Rattle.verilog_reader.specs.Declarations.{width, has_index, offset, index_at, has_part};
+ghost use Rattle.verilog_reader.specs.Faults.{width_or_one, selects};
+ghost use Rattle.verilog_reader.specs.NameTables.{offset_in};
 
 use crate::bounds::Bounds;
 
@@ -9,8 +11,18 @@ pub(crate) fn width(bounds: Bounds) -> u64
     ensures value { result ≡ width bounds }
     ensures within { result ≤ 2 ^ 32 }
 {
-    let Bounds { left, right } = bounds;
-    u64::from(left.max(right) - left.min(right)) + 1
+    u64::from(bounds.left.abs_diff(bounds.right)) + 1
+}
+
+/// How many bits a name has.
+pub(crate) fn width_or_one(bounds: Option<Bounds>) -> u64
+    ensures value { result ≡ width_or_one bounds }
+    ensures within { result ≤ 2 ^ 32 }
+{
+    match bounds {
+        Some(bounds) => width(bounds),
+        None => 1,
+    }
 }
 
 pub(crate) fn has_index(bounds: Bounds, index: u32) -> bool
@@ -21,13 +33,23 @@ pub(crate) fn has_index(bounds: Bounds, index: u32) -> bool
 }
 
 /// The place of an index from the left.
-fn offset(bounds: Bounds, index: u32) -> u32
+pub(crate) fn offset(bounds: Bounds, index: u32) -> u32
+    requires { has_index bounds index ≡ true }
     ensures value { result ≡ offset bounds index }
+    ensures within { result < width bounds }
 {
-    if bounds.right <= bounds.left {
-        bounds.left.saturating_sub(index)
-    } else {
-        index.saturating_sub(bounds.left)
+    bounds.left.abs_diff(index)
+}
+
+/// The place of an index that a name has, from the left.
+pub(crate) fn offset_in(bounds: Option<Bounds>, index: u32) -> u32
+    requires { selects bounds index ≡ true }
+    ensures value { result ≡ offset_in bounds index }
+    ensures within { result < width_or_one bounds }
+{
+    match bounds {
+        Some(bounds) => offset(bounds, index),
+        None => 0,
     }
 }
 

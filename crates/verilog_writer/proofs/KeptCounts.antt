@@ -12,7 +12,8 @@ use Rattle.verilog_syntax.specs.declared.reading.Placed.{Placed}
 use Rattle.verilog_reader.specs.declared.bounds.Bounds.{Bounds}
 use Rattle.verilog_reader.specs.Declarations.{Declaration, declarations, is_declared, has, mentions, undeclared_in}
 use Rattle.verilog_reader.specs.Denoted.{first_declared, first_mentioned}
-use Rattle.verilog_reader.specs.Numbering.{total, entries}
+use Rattle.verilog_reader.specs.NameTables.{total}
+use Rattle.verilog_reader.specs.Numbering.{entries}
 use Rattle.verilog_reader.proofs.Distinct.{each_weaker}
 use Rattle.verilog_reader.proofs.Filling.{Entries}
 use Rattle.verilog_reader.proofs.Places.{same_bytes, bytes_same, bytes_swap, named, named_all, declared_first, declared_named, entries_are}

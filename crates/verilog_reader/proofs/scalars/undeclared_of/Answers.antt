@@ -2,7 +2,7 @@ use Rattle.std.proofs.Common.{◌≡◌, Bool, true, false, List, ℕ, Option, i
 use Rattle.verilog_reader.specs.declared.declared.First.{First}
 use Rattle.verilog_reader.specs.declared.declared.DeclaredNames.{DeclaredNames}
 use Rattle.verilog_reader.specs.Declarations.{Declaration, is_declared, mentions_of}
-use Rattle.verilog_reader.specs.Steps.{first_in}
+use Rattle.verilog_reader.specs.NameTables.{first_in}
 use Rattle.verilog_reader.specs.Seen.{Keeps}
 use Rattle.verilog_reader.proofs.Firsts.{declared_is}
 use Rattle.verilog_reader.proofs.Undeclared.{not_closed, no_undeclared, one_undeclared}

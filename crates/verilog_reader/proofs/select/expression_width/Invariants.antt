@@ -1,7 +1,7 @@
 use Rattle.std.proofs.Common.{◌≡◌, ◌≤◌, ◌*◌, take}
 use Rattle.std.specs.List.{sum_by}
 use Rattle.verilog_reader.specs.Faults.{item_width}
-use Rattle.verilog_reader.specs.Steps.{known_bounds}
+use Rattle.verilog_reader.specs.NameTables.{known_bounds}
 use Rattle.verilog_reader.proofs.select.expression_width.Given as goal
 
 abbrev pub invariant-loop-item : goal.invariant-loop-item

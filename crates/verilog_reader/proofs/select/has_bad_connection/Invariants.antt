@@ -2,7 +2,7 @@ use Rattle.std.proofs.Common.{◌≡◌, false, drop}
 use Rattle.std.specs.List.{list_any}
 use Rattle.verilog_reader.specs.Declarations.{connection_items}
 use Rattle.verilog_reader.specs.Faults.{is_bad_number, is_bad_select}
-use Rattle.verilog_reader.specs.Steps.{known_bounds}
+use Rattle.verilog_reader.specs.NameTables.{known_bounds}
 use Rattle.verilog_reader.proofs.select.has_bad_connection.Given as goal
 
 abbrev pub invariant-loop-connection : goal.invariant-loop-connection

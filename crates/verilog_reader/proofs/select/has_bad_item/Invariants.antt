@@ -1,7 +1,7 @@
 use Rattle.std.proofs.Common.{◌≡◌, drop}
 use Rattle.std.specs.List.{list_any}
 use Rattle.verilog_reader.specs.Faults.{is_bad_select}
-use Rattle.verilog_reader.specs.Steps.{known_bounds}
+use Rattle.verilog_reader.specs.NameTables.{known_bounds}
 use Rattle.verilog_reader.proofs.select.has_bad_item.Given as goal
 
 abbrev pub invariant-loop-item : goal.invariant-loop-item

@@ -2,7 +2,7 @@ use Rattle.std.proofs.Common.{◌≡◌, ◌++◌, List, [], ℕ, Bool, false, m
 use Rattle.std.proofs.lemmas.List.{take_all}
 use Rattle.verilog_reader.specs.Values.{plain_of}
 use Rattle.verilog_reader.specs.Declarations.{Declaration}
-use Rattle.verilog_reader.specs.Steps.{first_kept}
+use Rattle.verilog_reader.specs.NameTables.{first_kept}
 use Rattle.verilog_reader.specs.Seen.{AddsOne, IsClean, declared_at, declared_as}
 use Rattle.verilog_reader.proofs.Again.{both_passes, both_fails, both_passed, so_more}
 use Rattle.verilog_reader.proofs.twice.add_names_declared.Goals as goal

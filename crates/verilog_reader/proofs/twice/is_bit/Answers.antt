@@ -1,6 +1,6 @@
 use Rattle.std.proofs.Common.{sym, ap, ◌∙◌}
 use Rattle.verilog_reader.specs.Faults.{selects}
-use Rattle.verilog_reader.specs.Steps.{kept_bounds}
+use Rattle.verilog_reader.specs.NameTables.{kept_bounds}
 use Rattle.verilog_reader.specs.Seen.{is_bit}
 use Rattle.verilog_reader.proofs.Firsts.{bounds_is}
 use Rattle.verilog_reader.proofs.BitLookups.{is_no_bit, is_bit_of}

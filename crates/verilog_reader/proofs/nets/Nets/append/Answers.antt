@@ -2,7 +2,7 @@ use Rattle.std.proofs.Common.{◌≡◌, List, Bor, ℕ, None, ◌∙◌, arith}
 use Rattle.std.specs.Str.{bytes_eq}
 use Rattle.indexmap.proofs.CallerLemmas.{insert_entry-new}
 use Rattle.verilog_reader.specs.declared.entry.Entry.{Entry}
-use Rattle.verilog_reader.specs.Numbering.{entries_of, place}
+use Rattle.verilog_reader.specs.NameTables.{entries_of, place}
 use Rattle.verilog_reader.proofs.Tables.{added, absent, appended, found}
 use Rattle.verilog_reader.proofs.nets.Nets.append.Goals as goal
 

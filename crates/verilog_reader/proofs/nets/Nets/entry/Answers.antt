@@ -1,5 +1,5 @@
 use Rattle.std.proofs.Common.{sym, ap, ◌∙◌, arith}
-use Rattle.verilog_reader.specs.Numbering.{total}
+use Rattle.verilog_reader.specs.NameTables.{total}
 use Rattle.verilog_reader.proofs.Tables.{found, answers, copied, within}
 use Rattle.verilog_reader.proofs.nets.Nets.entry.Goals as goal
 

@@ -1,7 +1,7 @@
 use Rattle.std.proofs.Common.{◌≡◌, ◌++◌}
 use Rattle.std.specs.List.{flat_map}
 use Rattle.verilog_reader.specs.Denoted.{entry_nets}
-use Rattle.verilog_reader.specs.Numbering.{entries_of}
+use Rattle.verilog_reader.specs.NameTables.{entries_of}
 use Rattle.verilog_reader.proofs.nets.Nets.names.Given as goal
 
 abbrev pub invariant-loop-name : goal.invariant-loop-name
