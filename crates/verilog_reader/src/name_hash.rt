@@ -1,15 +1,23 @@
 //! Hashes of names.
 ghost use Rattle.std.specs.Prelude.{◌≡◌};
-ghost use Rattle.verilog_reader.specs.NameHashes.{initial, written, finished};
+ghost use Rattle.verilog_reader.specs.NameHashes.{initial, factor, written, finished};
 
 use std::collections::{HashMap, HashSet};
 use std::hash::{BuildHasherDefault, Hasher};
+use text_scan::is_digit;
 
 const MIXER: u64 = 0x9e37_79b9_7f4a_7c15;
 
+#[inline(always)]
+fn factor(byte: u8) -> u64
+    ensures value { result ≡ factor byte }
+{
+    if is_digit(byte) { 31 } else { MIXER }
+}
+
 /// Names that differ by their last digits get numbers that stand close together, so that tables of them are gone through
-/// in the order of a file, and not at random. What is written as more than one byte, as a length, leaves it as it was: the
-/// bytes of a name tell its length too.
+/// in the order of a file, and not at random. Other bytes are spread: else `Aa` and `BB` would have one number. What is
+/// written as more than one byte, as a length, leaves it as it was: the bytes of a name tell its length too.
 #[derive(Clone, Copy)]
 pub(crate) struct NameHasher {
     state: u64,
@@ -37,7 +45,7 @@ impl Hasher for NameHasher {
     #[inline(always)]
     fn write(&mut self, bytes: &[u8]) {
         if let [byte] = bytes {
-            self.state = self.state.wrapping_mul(31).wrapping_add(u64::from(*byte));
+            self.state = self.state.wrapping_mul(factor(*byte)).wrapping_add(u64::from(*byte));
         }
     }
 }
