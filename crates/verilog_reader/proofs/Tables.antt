@@ -1,12 +1,11 @@
 -- The table of names: what a look-up gives, and one name more.
-use Rattle.std.proofs.Common.{◌≡◌, ℕ, ◌+◌, ◌<◌, ◌≤◌, ◌^◌, Bool, true, false, cond, List, [], ◌∷◌, ◌++◌, Option, Some, None, Bor, refl, sym, ap, subst, ◌∙◌, arith}
+use Rattle.std.proofs.Common.{◌≡◌, ℕ, ◌+◌, ◌≤◌, Bool, true, false, cond, List, [], ◌∷◌, ◌++◌, Option, Some, None, Bor, refl, sym, ap, subst, ◌∙◌, arith}
 use Rattle.std.specs.Option.{is_some, option_map, option_copied}
 use Rattle.std.specs.Map.{lookup}
 use Rattle.std.specs.Str.{bytes_eq}
 use Rattle.std.proofs.lemmas.List.{map-append}
 use Rattle.std.proofs.lemmas.Option.{none-some, same_Some}
 use Rattle.std.proofs.lemmas.Slice.Eq.{bytes_eq-Decides}
-use Rattle.verilog_syntax.specs.declared.statement.Declared.{Declared}
 use Rattle.verilog_reader.specs.declared.bounds.Bounds.{Bounds}
 use Rattle.verilog_reader.specs.declared.entry.Entry.{Entry}
 use Rattle.verilog_reader.specs.declared.declared.First.{First}
@@ -14,14 +13,14 @@ use Rattle.verilog_reader.specs.declared.declared.Slot.{Slot}
 use Rattle.verilog_reader.specs.Faults.{width_or_one}
 use Rattle.verilog_reader.specs.NameTables.{first_in, with_first, bounded, total, place_from, place, first_at, firsts_in, IsNumbered}
 
-abbrev pub Table : Type 0
+abbrev Table : Type 0
 Table = List (Bor (List ℕ) × Slot)
 
 abbrev entry_at : Slot → Entry
 entry_at slot = slot.entry
 
 -- a look-up gives what is kept
-pub found_first : (q : List ℕ) (es : Table) → option_map first_at (lookup (λ (k : Bor (List ℕ)). bytes_eq q k.now) es) ≡ first_in (firsts_in es) q
+found_first : (q : List ℕ) (es : Table) → option_map first_at (lookup (λ (k : Bor (List ℕ)). bytes_eq q k.now) es) ≡ first_in (firsts_in es) q
 found_first q [] = refl
 found_first q (e ∷ es) = by (bytes_eq q e.0.now) (found_first q es)
   where
@@ -34,7 +33,7 @@ at_first : (e : Entry) (at : ℕ) → e.first ≡ at → ◌≡◌ {A = Entry} e
 at_first e at is = ap (λ (n : ℕ). let made : Entry = record { first = n; bounds = e.bounds } in made) is
 
 -- and the place
-pub found_place : (q : List ℕ) (at : ℕ) (es : Table) → IsNumbered at es → option_map entry_at (lookup (λ (k : Bor (List ℕ)). bytes_eq q k.now) es) ≡ place_from at (bounded (firsts_in es)) q
+found_place : (q : List ℕ) (at : ℕ) (es : Table) → IsNumbered at es → option_map entry_at (lookup (λ (k : Bor (List ℕ)). bytes_eq q k.now) es) ≡ place_from at (bounded (firsts_in es)) q
 found_place q at [] is = refl
 found_place q at (e ∷ es) is = by (bytes_eq q e.0.now) (found_place q (at + width_or_one e.1.entry.bounds) es is.1)
   where
@@ -65,7 +64,7 @@ numbered_push : (at : ℕ) (es : Table) (k : Bor (List ℕ)) (s : Slot) → IsNu
 numbered_push at [] k s is first = (omega (arith, first), tt)
 numbered_push at (x ∷ es) k s is first = (is.0, numbered_push (at + width_or_one x.1.entry.bounds) es k s is.1 (omega (arith, first)))
 
-pub total_push : (es : List (List ℕ × Option Bounds)) (name : List ℕ) (b : Option Bounds) → total (es ++ (name, b) ∷ []) ≡ total es + width_or_one b
+total_push : (es : List (List ℕ × Option Bounds)) (name : List ℕ) (b : Option Bounds) → total (es ++ (name, b) ∷ []) ≡ total es + width_or_one b
 total_push [] name b = omega arith
 total_push (e ∷ es) name b = omega (arith, total_push es name b)
 
