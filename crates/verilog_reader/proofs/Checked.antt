@@ -163,10 +163,6 @@ sound all before (p ∷ ps) number select =
     let u = or_parts (list_any (is_bad_select (bounds_in (declarations all))) (items_in p.statement)) (differ_in_width (bounds_in (declarations all)) p.statement) t.0 in
     (record { range = m.0; number = m.1; select = u.0; widths = u.1 }, sound all (before ++ p ∷ []) ps number.1 select.1)
 
-pub ranges : (all ps : List Placed) → Each (λ p. IsSound all p.statement) ps → All (λ (p : Placed). is_bad_range (range_in p.statement) ≡ false) ps
-ranges all [] sounds = All-nil (λ (p : Placed). is_bad_range (range_in p.statement) ≡ false)
-ranges all (p ∷ ps) sounds = All-cons (λ (p : Placed). is_bad_range (range_in p.statement) ≡ false) p ps sounds.0.range (ranges all ps sounds.1)
-
 fine_from : (all ps : List Placed) → Each (λ p. IsSound all p.statement) ps → Each (λ q. named (entries all) q ≡ true) (mentions ps) → Each (λ d. named (entries all) d.name ≡ true) (declarations ps)
     → All (λ (p : Placed). IsFineStatement (entries all) p.statement) ps
 fine_from all [] sounds listed declared = All-nil (λ (p : Placed). IsFineStatement (entries all) p.statement)

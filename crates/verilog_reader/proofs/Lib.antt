@@ -16,6 +16,7 @@ pub mod Passes
 pub mod Small
 pub mod Ports
 pub mod CheckLaw
+pub mod FirstNames
 pub mod Tables
 pub mod Filling
 pub mod DeclaredPorts

@@ -9,14 +9,14 @@ use Rattle.verilog_syntax.specs.declared.reading.Placed.{Placed}
 use Rattle.verilog_reader.specs.declared.bounds.Bounds.{Bounds}
 use Rattle.verilog_reader.specs.Declarations.{declarations}
 use Rattle.verilog_syntax.specs.Reading.{read_statements}
-use Rattle.verilog_reader.specs.Faults.{read_faultless, check_number, check_twice, check_select, bad_number, bad_twice, bad_select, is_bad_range, range_in, differ_in_width, has_twice, pins_in}
+use Rattle.verilog_reader.specs.Faults.{read_faultless, check_number, check_twice, check_select, bad_number, bad_twice, bad_select, differ_in_width, has_twice, pins_in}
 use Rattle.verilog_reader.specs.Declarations.{bounds_in, undeclared_in, mentions}
 use Rattle.verilog_reader.specs.Denoted.{IsNetlistOf, entry_nets, first_declared, first_mentioned, declared_nets}
 use Rattle.verilog_reader.specs.NameTables.{total}
 use Rattle.verilog_reader.specs.Numbering.{with_declared, entries, numbered, numbered_ports, numbered_assigns, numbered_instances, IsFineStatement}
 use Rattle.verilog_reader.proofs.Filling.{Entries}
 use Rattle.verilog_reader.proofs.Places.{bounds_are, entries_are, declared_first}
-use Rattle.verilog_reader.proofs.Checked.{Passes, passes, sound, ranges, fine, IsSound, declared_named}
+use Rattle.verilog_reader.proofs.Checked.{Passes, passes, sound, fine, IsSound, declared_named}
 use Rattle.verilog_reader.proofs.Seen.{seen_assigns, seen_instances}
 use Rattle.verilog_reader.proofs.PortNames.{apart, all_again, firsts, seen_ports}
 use Rattle.verilog_reader.proofs.NumberedLists.{length-nets}
@@ -28,9 +28,6 @@ use Rattle.verilog_reader.proofs.ScalarNames.{clear}
 
 pub sounds : (ps : List Placed) → check_number ps ≡ Ok tt → check_select ps ≡ Ok tt → Each (λ p. IsSound ps p.statement) ps
 sounds ps number select = sound ps [] ps (passes bad_number VerilogNumber [] ps number) (passes (λ (before : List Placed) p. bad_select ps p) BadSelect [] ps select)
-
-pub ranges_fit : (ps : List Placed) → check_number ps ≡ Ok tt → check_select ps ≡ Ok tt → All (λ (p : Placed). is_bad_range (range_in p.statement) ≡ false) ps
-ranges_fit ps number select = ranges ps ps (sounds ps number select)
 
 pub statements_fit : (ps : List Placed) → check_number ps ≡ Ok tt → check_select ps ≡ Ok tt → All (λ (p : Placed). IsFineStatement (entries ps) p.statement) ps
 statements_fit ps number select = fine ps (sounds ps number select)

@@ -7,12 +7,13 @@ use Rattle.netlist_core.specs.declared.netlist.Direction.{Direction}
 use Rattle.netlist_core.specs.declared.netlist.Port.{Port}
 use Rattle.netlist_core.specs.declared.netlist.NetName.{NetName}
 use Rattle.verilog_reader.specs.declared.bounds.Bounds.{Bounds}
-use Rattle.verilog_reader.specs.declared.entry.Entry.{Entry}
+use Rattle.verilog_reader.specs.declared.declared.First.{First}
+use Rattle.verilog_reader.specs.declared.declared.Slot.{Slot}
 use Rattle.verilog_reader.specs.Declarations.{index_at, indexes_from, indexes, width}
 use Rattle.verilog_reader.specs.Faults.{width_or_one}
 use Rattle.verilog_reader.specs.Values.{bit_name, name_text}
 use Rattle.verilog_reader.specs.Denoted.{entry_nets, bit_text}
-use Rattle.verilog_reader.specs.NameTables.{total, entries_of}
+use Rattle.verilog_reader.specs.NameTables.{total, bounded, firsts_in}
 use Rattle.verilog_reader.specs.Numbering.{numbers_from, net_bit, net_bits, numbered_port}
 
 -- one number more
@@ -73,13 +74,13 @@ length-nets (e ∷ es) =
     ∙ ap (λ (n : ℕ). n + length (flat_map (λ (e : List ℕ × Option Bounds). entry_nets e.0 e.1) es)) (length-entry e.0 e.1) ∙ ap (λ (n : ℕ). width_or_one e.1 + n) (length-nets es)
 
 -- the names of so many nets are as many
-pub names_few : (names : List NetName) (left all table : List (Bor (List ℕ) × Entry)) (count : ℕ) → left ≡ []
-    → names ++ flat_map (λ (e : List ℕ × Option Bounds). entry_nets e.0 e.1) (entries_of left) ≡ flat_map (λ (e : List ℕ × Option Bounds). entry_nets e.0 e.1) (entries_of all)
-    → all ≡ table → count ≡ total (entries_of table) → count < 2 ^ 32 → length names < 2 ^ 32
-names_few names left all table count done is same counted few =
-    let rest = ap (λ (es : List (Bor (List ℕ) × Entry)). names ++ flat_map (λ (e : List ℕ × Option Bounds). entry_nets e.0 e.1) (entries_of es)) done ∙ append-nil names in
-    let long = ap length (sym rest ∙ is) ∙ length-nets (entries_of all) ∙ ap (λ (es : List (Bor (List ℕ) × Entry)). total (entries_of es)) same in
-    omega (arith, long, counted, few)
+pub names_few : (names : List NetName) (left all : List (Bor (List ℕ) × Slot)) (table : List (List ℕ × First)) → left ≡ []
+    → names ++ flat_map (λ (e : List ℕ × Option Bounds). entry_nets e.0 e.1) (bounded (firsts_in left)) ≡ flat_map (λ (e : List ℕ × Option Bounds). entry_nets e.0 e.1) (bounded (firsts_in all))
+    → firsts_in all ≡ table → total (bounded table) < 2 ^ 32 → length names < 2 ^ 32
+names_few names left all table done is same few =
+    let rest = ap (λ (es : List (Bor (List ℕ) × Slot)). names ++ flat_map (λ (e : List ℕ × Option Bounds). entry_nets e.0 e.1) (bounded (firsts_in es))) done ∙ append-nil names in
+    let long = ap length (sym rest ∙ is) ∙ length-nets (bounded (firsts_in all)) ∙ ap (λ (es : List (List ℕ × First)). total (bounded es)) same in
+    omega (arith, long, few)
 
 -- the name of a bit, by the text of its vector
 pub bit_is : (net : NetName) (name text : List ℕ) (index at : ℕ) → net ≡ record { plain = bit_name name index; text = bit_name text index } → index ≡ at → text ≡ name_text name

@@ -126,6 +126,13 @@ impl<'a> DeclaredNames<'a> {
         self.count
     }
 
+    /// Their numbers have 32 bits, as the table keeps it so.
+    pub(crate) fn are_few(&self)
+        ensures few { total (bounded self.now) < 2 ^ 32 }
+    {
+        let _ = &self.count;
+    }
+
     /// Adds a declaration of a name, unless the name has one, which it then answers.
     pub(crate) fn add(&mut self, name: &'a [u8], first: First) -> Result<Option<First>, NoMemory>
         ensures before { IfOk result (λ known. known ≡ first_in self.old name.now) }

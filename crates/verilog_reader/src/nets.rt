@@ -53,6 +53,7 @@ impl<'a> Nets<'a> {
         ensures within { IfOk result (λ entry. entry.first + width_or_one entry.bounds ≤ total self.new) }
         ensures few { OnOk result (total self.new < 2 ^ 32) }
     {
+        self.names.are_few();
         match self.names.entry(name) {
             Some(entry) => Ok(entry),
             None => self.names.append(name, SCALAR),
@@ -71,6 +72,7 @@ impl<'a> Nets<'a> {
         ensures value { IfOk result (λ names. names ≡ flat_map (λ e. entry_nets e.0 e.1) self.now) }
         ensures few { IfOk result (λ names. length names < 2 ^ 32) }
     {
+        self.names.are_few();
         let mut names = Rows::new(alloc);
         for (name, slot) in self.names.iter() {
             push_names(alloc, &mut names, name, slot.entry.bounds)?;
@@ -85,6 +87,7 @@ impl<'a> Nets<'a> {
         ensures within { result.first + width_or_one result.bounds ≤ total self.now }
         ensures few { total self.now < 2 ^ 32 }
     {
+        self.names.are_few();
         self.names.entry(name).unwrap()
     }
 }

@@ -1,4 +1,4 @@
-use Rattle.std.proofs.Common.{ℕ, ◌≡◌, ◌≤◌, List, subst}
+use Rattle.std.proofs.Common.{ℕ, ◌≡◌, List, sym, subst}
 use Rattle.std.specs.Prelude.{IfOk}
 use Rattle.netlist_core.specs.declared.netlist.Bit.{Bit}
 use Rattle.verilog_reader.specs.Constants.{constant_size, constant_base, constant_digits, bits_in, constant_bits}
@@ -13,11 +13,9 @@ whole text digits size base bits are is base_is digits_are = rw (is, ← base_is
 pub returns : goal.returns
 returns c =
     let text = c.args.text.now in
-    let size = c.unwrap-size.result in
-    let is : constant_size text ≡ size = rw c.unwrap-size.ensures at c.size_of.ensures.value in
-    let within : size ≤ 128 = rw c.unwrap-size.ensures at c.size_of.ensures.small in
+    let size = c.constant_size-size.result in
     let last = c.last_bits.result in
     let base = c.base_and_digits-base.result.0 in
     let digits = c.base_and_digits-base.result.1.now in
-    let bits = whole text digits size base (masked_bits size last.ones last.unknown) (c.last_bits.ensures.value size within) is c.base_and_digits-base.ensures.base c.base_and_digits-base.ensures.digits in
+    let bits = whole text digits size base (masked_bits size last.ones last.unknown) (c.last_bits.ensures.value size c.constant_size-size.ensures.within) (sym c.constant_size-size.ensures.value) c.base_and_digits-base.ensures.base c.base_and_digits-base.ensures.digits in
     record { value = subst (λ (xs : List Bit). IfOk c.bits_of.result (λ read. read ≡ xs)) bits c.bits_of.ensures.value }

@@ -7,11 +7,8 @@ use Rattle.verilog_syntax.specs.declared.reading.Placed.{Placed}
 use Rattle.verilog_reader.specs.Faults.{check_number, check_twice, check_select}
 use Rattle.verilog_reader.specs.Denoted.{IsNetlistOf}
 use Rattle.verilog_reader.specs.Numbering.{entries, numbered}
-use Rattle.verilog_reader.proofs.NetlistOf.{ranges_fit, statements_fit, is_netlist_of, is_netlist}
+use Rattle.verilog_reader.proofs.NetlistOf.{statements_fit, is_netlist_of, is_netlist}
 use Rattle.verilog_reader.proofs.fold.netlist_of.Goals as goal
-
-pub folded-requires-clause-ranges : goal.folded-requires-clause-ranges
-folded-requires-clause-ranges c = ranges_fit c.args.statements c.requires.number c.requires.select
 
 pub folded-requires-clause-fine : goal.folded-requires-clause-fine
 folded-requires-clause-fine c = statements_fit c.args.statements c.requires.number c.requires.select
