@@ -31,6 +31,15 @@ impl Bits {
         }
     }
 
+    /// One bit; takes no memory.
+    pub fn one(alloc: Global, bit: Bit) -> Bits
+        ensures value { result ≡ bit ∷ [] }
+    {
+        Bits {
+            bits: SmallVec::from_buf_and_len(alloc, [bit, bit], 1),
+        }
+    }
+
     /// No bits, and room for so many.
     pub fn with_room(alloc: Global, count: usize) -> Result<Bits, NoMemory>
         ensures value { IfOk result (λ bits. bits ≡ []) }

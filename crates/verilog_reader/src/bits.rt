@@ -90,7 +90,11 @@ fn push_item<'a>(
     }
 }
 
-fn bits_of<'a>(alloc: Global, nets: &mut Nets<'a>, items: &[Item<'a>]) -> Result<Bits, NoMemory>
+fn bits_of_items<'a>(
+    alloc: Global,
+    nets: &mut Nets<'a>,
+    items: &[Item<'a>],
+) -> Result<Bits, NoMemory>
     requires { All (IsFineItem (with_items nets.old items.now)) items.now }
     ensures ok { OnOk result (nets.new ≡ with_items nets.old items.now) }
     ensures value { IfOk result (λ bits. bits ≡ numbered_items nets.new items.now) }
@@ -100,6 +104,47 @@ fn bits_of<'a>(alloc: Global, nets: &mut Nets<'a>, items: &[Item<'a>]) -> Result
         push_item(alloc, &mut bits, nets, item)?;
     }
     Ok(bits)
+}
+
+fn bits_of_entry(alloc: Global, entry: Entry) -> Result<Bits, NoMemory>
+    requires { entry.first + width_or_one entry.bounds < 2 ^ 32 }
+    ensures value { IfOk result (λ bits. bits ≡ all_bits (Some entry)) }
+{
+    if entry.bounds.is_none() {
+        return Ok(Bits::one(alloc, Bit::Net(NetId(entry.first))));
+    }
+    let mut bits = Bits::with_room(alloc, width_or_one(entry.bounds) as usize)?;
+    push_all(&mut bits, entry)?;
+    Ok(bits)
+}
+
+fn bits_of_item<'a>(
+    alloc: Global,
+    nets: &mut Nets<'a>,
+    item: &Item<'a>,
+) -> Result<Bits, NoMemory>
+    requires { IsFineItem (with_mentioned nets.old (mentions_of item.now)) item.now }
+    ensures ok { OnOk result (nets.new ≡ with_mentioned nets.old (mentions_of item.now)) }
+    ensures value { IfOk result (λ bits. bits ≡ numbered_item nets.new item.now) }
+{
+    if let Item::Name(name) = item {
+        return bits_of_entry(alloc, nets.entry_or_add(plain_of(name))?);
+    }
+    let mut bits = Bits::new(alloc);
+    push_item(alloc, &mut bits, nets, item)?;
+    Ok(bits)
+}
+
+/// The bits of pieces, which mostly are one name.
+fn bits_of<'a>(alloc: Global, nets: &mut Nets<'a>, items: &[Item<'a>]) -> Result<Bits, NoMemory>
+    requires { All (IsFineItem (with_items nets.old items.now)) items.now }
+    ensures ok { OnOk result (nets.new ≡ with_items nets.old items.now) }
+    ensures value { IfOk result (λ bits. bits ≡ numbered_items nets.new items.now) }
+{
+    match items {
+        [item] => bits_of_item(alloc, nets, item),
+        _ => bits_of_items(alloc, nets, items),
+    }
 }
 
 /// The bits of an expression, and where it stands. The nets that it is the first to mention are added.

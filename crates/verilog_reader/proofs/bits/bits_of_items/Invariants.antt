@@ -1,6 +1,6 @@
 use Rattle.std.proofs.Common.{◌≡◌, ◌++◌, drop}
 use Rattle.verilog_reader.specs.Numbering.{with_items, numbered_items}
-use Rattle.verilog_reader.proofs.bits.bits_of.Given as goal
+use Rattle.verilog_reader.proofs.bits.bits_of_items.Given as goal
 
 abbrev pub invariant-loop-item : goal.invariant-loop-item
 invariant-loop-item l = record {

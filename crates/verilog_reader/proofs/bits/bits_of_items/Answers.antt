@@ -2,7 +2,7 @@ use Rattle.std.proofs.Common.{drop, ◌+◌, ap, sym, ◌∙◌}
 use Rattle.std.proofs.lemmas.List.{drop_all}
 use Rattle.verilog_reader.specs.Numbering.{with_items, IsFineItem}
 use Rattle.verilog_reader.proofs.FoldingLoops.{left_is, at_index, item_fits, item_nets, item_bits}
-use Rattle.verilog_reader.proofs.bits.bits_of.Goals as goal
+use Rattle.verilog_reader.proofs.bits.bits_of_items.Goals as goal
 
 pub push_item-requires : goal.push_item-requires
 push_item-requires c =
