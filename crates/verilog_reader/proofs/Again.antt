@@ -1,9 +1,7 @@
 -- Declarations that stand again, as declarations are added one by one.
-use Rattle.std.proofs.Common.{◌≡◌, ℕ, ◌+◌, ◌<◌, ◌≤◌, Bool, true, false, cond, not, ◌||◌, List, [], ◌∷◌, ◌++◌, length, map, get_or, take, drop, Option, Some, None, option_map, Bor, refl, sym, ap, ◌∙◌, subst, append_assoc}
-use Rattle.std.specs.Option.{option_or}
+use Rattle.std.proofs.Common.{◌≡◌, ℕ, ◌+◌, ◌<◌, ◌≤◌, Bool, true, false, not, ◌||◌, List, [], ◌∷◌, ◌++◌, length, map, get_or, take, drop, Option, Some, None, option_map, Bor, refl, sym, ap, ◌∙◌, subst, append_assoc}
 use Rattle.std.specs.HashSet.{HashSet}
 use Rattle.std.specs.List.{list_any}
-use Rattle.std.specs.Str.{bytes_eq}
 use Rattle.std.proofs.lemmas.List.{take_more, drop_more, drop_all, map-append, append-nil}
 use Rattle.verilog_syntax.specs.declared.statement.Declared.{Declared}
 use Rattle.verilog_syntax.specs.declared.statement.Range.{Range}
@@ -11,26 +9,13 @@ use Rattle.verilog_syntax.specs.declared.statement.Statement.{Statement}
 use Rattle.verilog_syntax.specs.declared.statement.Statement.TheVariants as statements
 use Rattle.verilog_reader.specs.declared.bounds.Bounds.{Bounds}
 use Rattle.verilog_reader.specs.declared.declared.First.{First}
-use Rattle.verilog_reader.specs.declared.declared.DeclaredNames.{DeclaredNames}
 use Rattle.verilog_reader.specs.Declarations.{Declaration, bounds_of, first_of, declarations_in}
 use Rattle.verilog_reader.specs.Faults.{stands_again, any_again, has_bit_in, have_bits}
-use Rattle.verilog_reader.specs.NameTables.{first_in, first_kept, only_at, kept_of}
+use Rattle.verilog_reader.specs.NameTables.{first_in, kept_of, with_first, firsts_of}
 use Rattle.verilog_reader.specs.Seen.{Keeps, AddsOne, Adds, AreKnown, IsClean, declared_as, may_stand_beside}
 use Rattle.verilog_reader.proofs.AnyLemmas.{or_four}
 use Rattle.verilog_reader.proofs.Clean.{known_step, known_clean, new_clean}
-use Rattle.verilog_reader.proofs.Firsts.{first_kept-append}
-
--- one declaration behind others
-only_is : (d : Declaration) (q : List ℕ) → only_at d.name (kept_of d) q ≡ first_kept (d ∷ []) q
-only_is d q = cases (bytes_eq d.name q)
-  where
-    cases : (t : Bool) → cond t (Some (kept_of d)) None ≡ option_map kept_of (cond t (Some d) None)
-    cases true = refl
-    cases false = refl
-
-pub kept_more : (before : List Declaration) (d : Declaration) (q : List ℕ) (new old : Option First) → new ≡ option_or old (only_at d.name (kept_of d) q) → old ≡ first_kept before q → new ≡ first_kept (before ++ d ∷ []) q
-kept_more before d q new old is was =
-    is ∙ ap (λ o. option_or o (only_at d.name (kept_of d) q)) was ∙ ap (option_or (first_kept before q)) (only_is d q) ∙ sym (first_kept-append before (d ∷ []) q)
+use Rattle.verilog_reader.proofs.Firsts.{kept_at, keeps_more}
 
 -- a name that is known
 record KeptOf (o : Option Declaration) (k : First) : Type 0 where
@@ -46,24 +31,24 @@ kept_none : (o : Option Declaration) → option_map kept_of o ≡ None → o ≡
 kept_none None h = refl
 kept_none (Some f) h = absurd cc
 
-pub known_adds : (names old : DeclaredNames) (before : List Declaration) (d : Declaration) (all : List (List ℕ)) (k : First) → first_kept before d.name ≡ Some k
-    → ((q : List ℕ) → first_in names q ≡ option_or (first_in old q) (only_at d.name (kept_of d) q)) → Keeps old before → IsClean before all → AddsOne (not (may_stand_beside k d.kind d.bounds)) names before d all
+pub known_adds : (names old : List (List ℕ × First)) (before : List Declaration) (d : Declaration) (all : List (List ℕ)) (k : First) → first_in old d.name ≡ Some k
+    → names ≡ with_first old d.name (kept_of d) → Keeps old before → IsClean before all → AddsOne (not (may_stand_beside k d.kind d.bounds)) names before d all
 known_adds names old before d all k known adds keeps clean =
-    let f = kept_some (first_of d.name before) k known in
+    let f = kept_some (first_of d.name before) k (sym (kept_at old before d.name keeps) ∙ known) in
     record {
       is = sym (known_step before d f.declaration all f.is clean ∙ ap (λ o. stands_again o d) f.is ∙ ap (λ x. not (may_stand_beside x d.kind d.bounds)) f.same);
-      kept = λ e q. kept_more before d q (first_in names q) (first_in old q) (adds q) (keeps q);
+      kept = λ e. keeps_more names old before d adds keeps;
       clean = λ e. known_clean before d f.declaration all f.is clean;
     }
 
 -- a name that is new
-pub new_adds : (bad : Bool) (names old : DeclaredNames) (before : List Declaration) (d : Declaration) (all : List (List ℕ)) → first_kept before d.name ≡ None → bad ≡ list_any (has_bit_in d.name d.bounds) all
-    → ((q : List ℕ) → first_in names q ≡ option_or (first_in old q) (only_at d.name (kept_of d) q)) → Keeps old before → IsClean before all → AddsOne bad names before d all
+pub new_adds : (bad : Bool) (names old : List (List ℕ × First)) (before : List Declaration) (d : Declaration) (all : List (List ℕ)) → first_in old d.name ≡ None → bad ≡ list_any (has_bit_in d.name d.bounds) all
+    → names ≡ with_first old d.name (kept_of d) → Keeps old before → IsClean before all → AddsOne bad names before d all
 new_adds bad names old before d all new bits adds keeps clean =
-    let absent = kept_none (first_of d.name before) new in
+    let absent = kept_none (first_of d.name before) (sym (kept_at old before d.name keeps) ∙ new) in
     record {
       is = bits ∙ sym (ap (λ o. stands_again o d || list_any (has_bit_in d.name d.bounds) all) absent);
-      kept = λ e q. kept_more before d q (first_in names q) (first_in old q) (adds q) (keeps q);
+      kept = λ e. keeps_more names old before d adds keeps;
       clean = λ e. new_clean before d all absent clean (sym bits ∙ e);
     }
 
@@ -93,10 +78,10 @@ module _ (first : First) (before : List Declaration) (all : List (List ℕ)) (na
       ∙ ap (λ l. (stands_again (first_of it.name (So i)) it || any_again l (Rest (i + 1))) || (list_any (has_bit_in it.name it.bounds) all || have_bits (Rest (i + 1)) all)) (so_more lt)
       ∙ or_four (stands_again (first_of it.name (So i)) it) (any_again (So (i + 1)) (Rest (i + 1))) (list_any (has_bit_in it.name it.bounds) all) (have_bits (Rest (i + 1)) all)
 
-  pub both_passes : (kept : DeclaredNames) → i < length names → AddsOne false kept (So i) it all → Both i ≡ total → Both (i + 1) ≡ total
+  pub both_passes : (kept : List (List ℕ × First)) → i < length names → AddsOne false kept (So i) it all → Both i ≡ total → Both (i + 1) ≡ total
   both_passes kept lt one so_far = sym (both_turn lt ∙ ap (λ t. t || Both (i + 1)) (sym one.is)) ∙ so_far
 
-  pub both_fails : (kept : DeclaredNames) → i < length names → AddsOne true kept (So i) it all → Both i ≡ total → true ≡ total
+  pub both_fails : (kept : List (List ℕ × First)) → i < length names → AddsOne true kept (So i) it all → Both i ≡ total → true ≡ total
   both_fails kept lt one so_far = sym (both_turn lt ∙ ap (λ t. t || Both (i + 1)) (sym one.is)) ∙ so_far
 
   pub both_passed : length names ≤ i → Both i ≡ total → false ≡ total
@@ -104,13 +89,13 @@ module _ (first : First) (before : List Declaration) (all : List (List ℕ)) (na
   both_passed le so_far = sym (ap (λ l. any_again (So i) (map (declared_as first) l) || have_bits (map (declared_as first) l) all) (drop_all i names le)) ∙ so_far
 
 -- a statement declares nothing
-pub adds_none : {S : Type 0} (names : DeclaredNames) (nets : HashSet (Bor (List ℕ)) S) (before ds : List Declaration) (all : List (List ℕ)) → ds ≡ [] → AreKnown names nets before all → Adds false names before ds all
+pub adds_none : {S : Type 0} (names : List (List ℕ × First)) (nets : HashSet (Bor (List ℕ)) S) (before ds : List Declaration) (all : List (List ℕ)) → ds ≡ [] → AreKnown names nets before all → Adds false names before ds all
 unfolding any_again
 adds_none names nets before ds all none known =
     let same : before ≡ before ++ ds = sym (ap (λ l. before ++ l) none ∙ append-nil before) in
     record {
       is = sym (ap (λ l. any_again before l || have_bits l all) none);
-      kept = λ e q. known.keeps q ∙ ap (λ l. first_kept l q) same;
+      kept = λ e. known.keeps ∙ ap firsts_of same;
       clean = λ e. subst (λ l. IsClean l all) same known.clean;
     }
 

@@ -1,102 +1,74 @@
--- The first declaration of a name, as declarations are added one by one.
-use Rattle.std.proofs.Common.{◌≡◌, ℕ, ◌+◌, ◌<◌, Bool, true, false, cond, ◌||◌, List, [], ◌∷◌, ◌++◌, length, map, get_or, take, Option, Some, None, option_map, is_some, refl, sym, ap, ◌∙◌}
+-- The first declarations of names, as a table keeps them.
+use Rattle.std.proofs.Common.{◌≡◌, ℕ, ◌+◌, ◌<◌, Bool, true, false, cond, ◌||◌, List, [], ◌∷◌, ◌++◌, length, get_or, take, Option, Some, None, option_map, is_some, refl, sym, ap, ◌∙◌}
 use Rattle.std.specs.Option.{option_or}
-use Rattle.std.specs.List.{find, list_any}
 use Rattle.std.specs.Str.{bytes_eq}
 use Rattle.std.proofs.lemmas.List.{take_more, append-nil}
 use Rattle.std.proofs.lemmas.List.Concat.{flat_map-append}
-use Rattle.std.proofs.lemmas.List.Folds.{find-append, list_any_more}
 use Rattle.std.proofs.lemmas.Slice.Eq.{bytes_eq-Decides}
-use Rattle.verilog_syntax.specs.declared.statement.Declared.{Declared}
-use Rattle.verilog_syntax.specs.declared.statement.Range.{Range}
-use Rattle.verilog_syntax.specs.declared.statement.Statement.{Statement}
-use Rattle.verilog_syntax.specs.declared.statement.Statement.TheVariants as statements
 use Rattle.verilog_syntax.specs.declared.reading.Placed.{Placed}
-use Rattle.verilog_reader.specs.declared.bounds.Bounds.{Bounds}
 use Rattle.verilog_reader.specs.declared.declared.First.{First}
-use Rattle.verilog_reader.specs.Values.{plain_of}
-use Rattle.verilog_reader.specs.Declarations.{Declaration, declaration_of, bounds_of, is_named, first_of, bounds_or_none, bounds_in, is_declared, declarations_in, declarations}
-use Rattle.verilog_reader.specs.NameTables.{kept_of, first_kept, first_named, only_at, kept_bounds}
+use Rattle.verilog_reader.specs.Declarations.{Declaration, is_named, first_of, bounds_or_none, bounds_in, is_declared, declarations_in, declarations}
+use Rattle.verilog_reader.specs.NameTables.{kept_of, first_kept, first_in, with_first, with_firsts, kept_bounds}
+use Rattle.verilog_reader.specs.Seen.{Keeps}
+use Rattle.verilog_reader.proofs.NameLists.{name_symm}
 
 or_none : {X : Type 0} (o : Option X) → option_or o None ≡ o
 or_none None = refl
 or_none (Some x) = refl
 
--- a name that was new
-pub added : (name q : List ℕ) (first : First) (new old : Option First) → new ≡ cond (bytes_eq name q) (Some first) old → (bytes_eq name q ≡ true → old ≡ None) → new ≡ option_or old (only_at name first q)
-added name q first new old is absent =
-    let cases : (t : Bool) → (t ≡ true → old ≡ None) → cond t (Some first) old ≡ option_or old (cond t (Some first) None)
-    = λ t. elim t as (λ t. (t ≡ true → old ≡ None) → cond t (Some first) old ≡ option_or old (cond t (Some first) None)) [
-      | true ↦ λ h. sym (ap (λ (o : Option First). option_or o (Some first)) (h refl))
-      | false ↦ λ h. sym (or_none old)
-    ]
-    in is ∙ cases (bytes_eq name q) absent
-
--- a name that was there, and whose first declaration was put back
-pub put_back : (name q : List ℕ) (first known : First) (new mid old : Option First) → new ≡ cond (bytes_eq name q) (Some known) mid → mid ≡ cond (bytes_eq name q) (Some first) old
-    → (bytes_eq name q ≡ true → old ≡ Some known) → new ≡ option_or old (only_at name first q)
-put_back name q first known new mid old is was there = is ∙ ap (λ (o : Option First). cond (bytes_eq name q) (Some known) o) was ∙ cases (bytes_eq name q) there
-  where
-    cases : (t : Bool) → (t ≡ true → old ≡ Some known) → cond t (Some known) (cond t (Some first) old) ≡ option_or old (cond t (Some first) None)
-    cases true h = sym (ap (λ (o : Option First). option_or o (Some first)) (h refl))
-    cases false h = sym (or_none old)
-
--- whether a name is kept is told by what is kept
-pub absent_is : {X : Type 0} (o : Option X) → is_some o ≡ false → o ≡ None
-absent_is None h = refl
-absent_is (Some x) h = cc
-
--- equal names are kept alike
-pub at_name : {X : Type 0} (f : List ℕ → X) (name q : List ℕ) (x : X) → f name ≡ x → bytes_eq name q ≡ true → f q ≡ x
-at_name f name q x is same = sym (ap f ((bytes_eq-Decides name q).0 same)) ∙ is
-
-map_or : {X Y : Type 0} (f : X → Y) (o p : Option X) → option_map f (option_or o p) ≡ option_or (option_map f o) (option_map f p)
-map_or f None p = refl
-map_or f (Some x) p = refl
-
 or_assoc : {X : Type 0} (o p r : Option X) → option_or (option_or o p) r ≡ option_or o (option_or p r)
 or_assoc None p r = refl
 or_assoc (Some x) p r = refl
 
-pub first_kept-append : (ds es : List Declaration) (q : List ℕ) → first_kept (ds ++ es) q ≡ option_or (first_kept ds q) (first_kept es q)
-first_kept-append ds es q = ap (option_map kept_of) (find-append (is_named q) ds es) ∙ map_or kept_of (find (is_named q) ds) (find (is_named q) es)
+-- a table with another behind it
+in-append : (es fs : List (List ℕ × First)) (q : List ℕ) → first_in (es ++ fs) q ≡ option_or (first_in es q) (first_in fs q)
+in-append [] fs q = refl
+in-append (e ∷ es) fs q =
+    elim (bytes_eq q e.0) as (λ t. cond t (Some e.1) (first_in (es ++ fs) q) ≡ option_or (cond t (Some e.1) (first_in es q)) (first_in fs q)) [ true ↦ refl | false ↦ in-append es fs q ]
 
--- more names are kept, and then more again
-pub then_more : (new mid old p r : Option First) → new ≡ option_or mid r → mid ≡ option_or old p → new ≡ option_or old (option_or p r)
-then_more new mid old p r is was = is ∙ ap (λ (o : Option First). option_or o r) was ∙ or_assoc old p r
+-- what stands there hides what is behind it
+hides : {X : Type 0} (o : Option X) (x : X) → is_some o ≡ true → o ≡ option_or o (Some x)
+hides None x there = cc
+hides (Some y) x there = refl
 
-module _ (kind : Declared) (bounds : Option Bounds) where
-  abbrev it : First
-  it = record { kind = kind; bounds = bounds }
+-- one name more
+in_with : (es : List (List ℕ × First)) (name : List ℕ) (first : First) (q : List ℕ) → first_in (with_first es name first) q ≡ option_or (first_in es q) (first_in ((name, first) ∷ []) q)
+in_with es name first q = by (is_some (first_in es name)) refl
+  where
+    there : is_some (first_in es name) ≡ true → (t : Bool) → bytes_eq q name ≡ t → first_in es q ≡ option_or (first_in es q) (cond t (Some first) None)
+    there known true same = hides (first_in es q) first (ap (λ n. is_some (first_in es n)) ((bytes_eq-Decides q name).0 same) ∙ known)
+    there known false other = sym (or_none (first_in es q))
 
-  named_or : (s t : Bool) → cond (s || t) (Some it) None ≡ option_or (cond s (Some it) None) (cond t (Some it) None)
-  named_or true t = refl
-  named_or false t = refl
+    by : (t : Bool) → is_some (first_in es name) ≡ t → first_in (cond t es (es ++ (name, first) ∷ [])) q ≡ option_or (first_in es q) (first_in ((name, first) ∷ []) q)
+    by true known = there known (bytes_eq q name) refl
+    by false new = in-append es ((name, first) ∷ []) q
 
-  -- one name of a list more
-  pub named_more : (names : List (List ℕ)) (i : ℕ) (d q : List ℕ) → i < length names
-      → option_or (first_named kind bounds (take i names) q) (only_at (plain_of (get_or names i d)) it q) ≡ first_named kind bounds (take (i + 1) names) q
-  named_more names i d q lt =
-      sym (ap (λ (t : Bool). cond t (Some it) None) (list_any_more (λ other. bytes_eq (plain_of other) q) names i d lt)
-      ∙ named_or (list_any (λ other. bytes_eq (plain_of other) q) (take i names)) (bytes_eq (plain_of (get_or names i d)) q))
+kept_first : (d : Declaration) (ds : List Declaration) (q : List ℕ) → option_or (first_in ((d.name, kept_of d) ∷ []) q) (first_kept ds q) ≡ first_kept (d ∷ ds) q
+kept_first d ds q = ap (λ t. option_or (cond t (Some (kept_of d)) None) (first_kept ds q)) (name_symm q d.name) ∙ by (bytes_eq d.name q)
+  where
+    by : (t : Bool) → option_or (cond t (Some (kept_of d)) None) (first_kept ds q) ≡ option_map kept_of (cond t (Some d) (first_of q ds))
+    by true = refl
+    by false = refl
 
--- what a list of names declares
-pub named_is : (kind : Declared) (range : Option Range) (names : List (List ℕ)) (q : List ℕ) → first_kept (map (declaration_of kind range) names) q ≡ first_named kind (option_map bounds_of range) names q
-named_is kind range [] q = refl
-named_is kind range (name ∷ names) q =
-    let first : First = record { kind = kind; bounds = option_map bounds_of range } in
-    let front : (t : Bool) → option_map kept_of (cond t (Some (declaration_of kind range name)) (find (is_named q) (map (declaration_of kind range) names))) ≡ cond (t || list_any (λ other. bytes_eq (plain_of other) q) names) (Some first) None
-    = λ t. elim t as (λ t. option_map kept_of (cond t (Some (declaration_of kind range name)) (find (is_named q) (map (declaration_of kind range) names))) ≡ cond (t || list_any (λ other. bytes_eq (plain_of other) q) names) (Some first) None) [
-      | true ↦ refl
-      | false ↦ named_is kind range names q
-    ]
-    in front (bytes_eq (plain_of name) q)
+in_firsts : (es : List (List ℕ × First)) (ds : List Declaration) (q : List ℕ) → first_in (with_firsts es ds) q ≡ option_or (first_in es q) (first_kept ds q)
+in_firsts es [] q = sym (or_none (first_in es q))
+in_firsts es (d ∷ ds) q =
+    in_firsts (with_first es d.name (kept_of d)) ds q
+    ∙ ap (λ o. option_or o (first_kept ds q)) (in_with es d.name (kept_of d) q)
+    ∙ or_assoc (first_in es q) (first_in ((d.name, kept_of d) ∷ []) q) (first_kept ds q)
+    ∙ ap (option_or (first_in es q)) (kept_first d ds q)
 
-pub declare_is : (s : Statement) (kind : Declared) (range : Option Range) (names listed : List (List ℕ)) (bounds : Option Bounds) (q : List ℕ) → s ≡ statements.Declare kind range names → bounds ≡ option_map bounds_of range → listed ≡ names
-    → first_named kind bounds listed q ≡ first_kept (declarations_in s) q
-declare_is s kind range names listed bounds q is b l =
-    ap (λ (x : Option Bounds). first_named kind x listed q) b ∙ ap (λ (x : List (List ℕ)). first_named kind (option_map bounds_of range) x q) l ∙ sym (named_is kind range names q)
-    ∙ sym (ap (λ (x : Statement). first_kept (declarations_in x) q) is)
+-- at each name a table keeps the first declaration
+pub kept_at : (names : List (List ℕ × First)) (ds : List Declaration) (q : List ℕ) → Keeps names ds → first_in names q ≡ first_kept ds q
+kept_at names ds q keeps = ap (λ es. first_in es q) keeps ∙ in_firsts [] ds q
+
+firsts_last : (es : List (List ℕ × First)) (ds : List Declaration) (d : Declaration) → with_firsts es (ds ++ d ∷ []) ≡ with_first (with_firsts es ds) d.name (kept_of d)
+firsts_last es [] d = refl
+firsts_last es (e ∷ ds) d = firsts_last (with_first es e.name (kept_of e)) ds d
+
+-- a declaration more
+pub keeps_more : (names old : List (List ℕ × First)) (ds : List Declaration) (d : Declaration) → names ≡ with_first old d.name (kept_of d) → Keeps old ds → Keeps names (ds ++ d ∷ [])
+keeps_more names old ds d is was = is ∙ ap (λ es. with_first es d.name (kept_of d)) was ∙ sym (firsts_last [] ds d)
 
 pub declarations-append : (ps qs : List Placed) → declarations (ps ++ qs) ≡ declarations ps ++ declarations qs
 declarations-append ps qs = flat_map-append (λ (p : Placed). declarations_in p.statement) ps qs
@@ -106,11 +78,6 @@ pub declarations_more : (ps : List Placed) (i : ℕ) (d : Placed) → i < length
 declarations_more ps i d lt =
     ap declarations (take_more ps i d lt) ∙ declarations-append (take i ps) (get_or ps i d ∷ [])
     ∙ ap (λ (ds : List Declaration). declarations (take i ps) ++ ds) (append-nil (declarations_in (get_or ps i d).statement))
-
-pub first_more : (ps : List Placed) (i : ℕ) (d : Placed) (q : List ℕ) → i < length ps
-    → option_or (first_kept (declarations (take i ps)) q) (first_kept (declarations_in (get_or ps i d).statement) q) ≡ first_kept (declarations (take (i + 1) ps)) q
-first_more ps i d q lt =
-    sym (ap (λ (ds : List Declaration). first_kept ds q) (declarations_more ps i d lt) ∙ first_kept-append (declarations (take i ps)) (declarations_in (get_or ps i d).statement) q)
 
 -- the bounds of a name
 pub bounds_is : (ds : List Declaration) (q : List ℕ) → kept_bounds (first_kept ds q) ≡ bounds_in ds q

@@ -12,10 +12,6 @@ use Rattle.verilog_reader.specs.Faults.{has_twice}
 abbrev pub now_of : List (Bor (List ℕ)) → List (List ℕ)
 now_of names = map (λ name. name.now) names
 
-pub or_assoc : (a b c : Bool) → (a || (b || c)) ≡ ((a || b) || c)
-or_assoc true b c = refl
-or_assoc false b c = refl
-
 pub or_cond : (a b : Bool) → (a || b) ≡ cond b true a
 or_cond true true = refl
 or_cond true false = refl

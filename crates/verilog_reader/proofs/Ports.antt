@@ -10,13 +10,15 @@ use Rattle.verilog_syntax.specs.declared.statement.Range.{Range}
 use Rattle.verilog_syntax.specs.declared.statement.Statement.{Statement}
 use Rattle.verilog_syntax.specs.declared.statement.Statement.TheVariants as statements
 use Rattle.verilog_syntax.specs.declared.reading.Placed.{Placed}
+use Rattle.verilog_reader.specs.declared.declared.First.{First}
 use Rattle.verilog_reader.specs.declared.select.Known.{Known}
 use Rattle.verilog_reader.specs.Values.{plain_of}
 use Rattle.verilog_reader.specs.Declarations.{Declaration, declaration_of, is_named, is_port_kind, bounds_in, declarations_in, declarations, ports_in, header_ports, has, items_in}
 use Rattle.verilog_reader.specs.Faults.{BoundsAt, is_bad_select, differ_in_width, has_direction, is_badly_listed, bad_select}
 use Rattle.verilog_reader.specs.NameTables.{kept_bounds, known_bounds}
 use Rattle.verilog_reader.specs.Steps.{has_key, listed_in, directed_in, AreKnown, is_bad_beside}
-use Rattle.verilog_reader.proofs.Firsts.{bounds_is, declarations_more}
+use Rattle.verilog_reader.specs.Seen.{Keeps}
+use Rattle.verilog_reader.proofs.Firsts.{bounds_is, kept_at, declarations_more}
 
 or_last : (b s h : Bool) → cond b true (s || h) ≡ (s || (h || (b || false)))
 or_last true true h = refl
@@ -114,9 +116,9 @@ any_map : {X Y : Type 0} (f : Y → Bool) (h : X → Y) (xs : List X) → list_a
 any_map f h [] = refl
 any_map f h (x ∷ xs) = ap (λ (t : Bool). f (h x) || t) (any_map f h xs)
 
-module _ (known : Known) (ps : List Placed) (is : AreKnown known ps) where
-  bounds_known : known_bounds known.names ≡ bounds_in (declarations ps)
-  bounds_known = λ i q. (ap kept_bounds (is.names q) ∙ bounds_is (declarations ps) q) i
+module _ (names : List (List ℕ × First)) (known : Known) (ps : List Placed) (keeps : Keeps names (declarations ps)) (is : AreKnown known ps) where
+  bounds_known : known_bounds names ≡ bounds_in (declarations ps)
+  bounds_known = λ i q. (ap kept_bounds (kept_at names (declarations ps) q keeps) ∙ bounds_is (declarations ps) q) i
 
   lacks_direction : (s : Statement) → list_any (λ name. not (has_key known.directed (plain_of name))) (listed_in s) ≡ list_any (λ port. not (has_direction (declarations ps) port)) (ports_in s)
   lacks_direction s =
@@ -129,7 +131,7 @@ module _ (known : Known) (ps : List Placed) (is : AreKnown known ps) where
       any_same (λ name. not (has_key known.ports (plain_of name))) (λ name. not (has (header_ports ps) (plain_of name))) (λ name. ap not (is.ports (plain_of name))) (directed_in s)
       ∙ badly_is s (header_ports ps)
 
-  pub bad_is : (p : Placed) → is_bad_beside known p.statement ≡ bad_select ps p
+  pub bad_is : (p : Placed) → is_bad_beside names known p.statement ≡ bad_select ps p
   unfolding bad_select
   bad_is p =
       ap (λ (bounds : BoundsAt). list_any (is_bad_select bounds) (items_in p.statement) || differ_in_width bounds p.statement

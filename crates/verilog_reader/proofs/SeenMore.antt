@@ -13,7 +13,7 @@ use Rattle.verilog_syntax.specs.declared.reading.Placed.{Placed}
 use Rattle.verilog_reader.specs.declared.twice.Seen.{Seen}
 use Rattle.verilog_reader.specs.Declarations.{Declaration, declaration_of, bounds_of, declarations_in, declarations, has, ports_in, items_in}
 use Rattle.verilog_reader.specs.Faults.{has_twice, any_again, instances_named, instance_names, pins_in, scalars_in, scalars, are_bits, have_bits, bad_twice, is_bad_number, is_bad_range, range_in}
-use Rattle.verilog_reader.specs.NameTables.{first_kept}
+use Rattle.verilog_reader.specs.NameTables.{firsts_of}
 use Rattle.verilog_reader.specs.Steps.{has_bad_number, are_small}
 use Rattle.verilog_reader.specs.NameSets.{HasNames}
 use Rattle.verilog_reader.specs.Seen.{is_small, have_small, is_bit, is_closed, IsClean, Adds, IsSeen, Tells}
@@ -111,7 +111,7 @@ module _ (itself bits stands again : Bool) (all before : List Placed) (names : L
       record {
         instances = λ q. a.instances q ∙ ap (λ l. has l q.now) (flat_last (λ x. instances_named x.statement) before p);
         known = record {
-          keeps = λ q. a.adds.kept good q ∙ ap (λ l. first_kept l q) declared_more;
+          keeps = a.adds.kept good ∙ ap firsts_of declared_more;
           are_nets = λ q. a.nets q ∙ ap (λ l. has l q.now) (closed_more a);
           clean = clean_more a none good;
         };

@@ -233,7 +233,10 @@ fn is_instance(placed: &Placed) -> bool {
 }
 
 fn instance_count(statements: &[Placed]) -> usize {
-    statements.iter().filter(|placed| is_instance(placed)).count()
+    statements
+        .iter()
+        .filter(|placed| is_instance(placed))
+        .count()
 }
 
 impl<'a> Seen<'a> {

@@ -11,7 +11,7 @@ returns-then-is_bad c =
     let p = c.placed-item.result in
     record {
       value = rw c.fault_at.ensures.value (fails (λ before q. bad_select ps q) BadSelect ps c.loop-placed.placed-index p c.loop-placed-test.true c.placed-item.is
-          (sym (bad_is c.in_ok-known.known ps c.in_ok-known.ensures.value p) ∙ sym c.if-is_bad.ensures.value) c.loop-placed.invariant);
+          (sym (bad_is c.args.names.now c.in_ok-known.known ps c.requires.names c.in_ok-known.ensures.value p) ∙ sym c.if-is_bad.ensures.value) c.loop-placed.invariant);
     }
 
 pub loop-placed-preserved : goal.loop-placed-preserved
@@ -19,7 +19,7 @@ loop-placed-preserved c =
     let ps = c.args.statements.now in
     let p = c.placed-item.result in
     passes (λ before q. bad_select ps q) BadSelect ps c.loop-placed.placed-index p c.loop-placed-test.true c.placed-item.is
-    (sym (bad_is c.in_ok-known.known ps c.in_ok-known.ensures.value p) ∙ sym c.if-is_bad.ensures.value) c.loop-placed.invariant
+    (sym (bad_is c.args.names.now c.in_ok-known.known ps c.requires.names c.in_ok-known.ensures.value p) ∙ sym c.if-is_bad.ensures.value) c.loop-placed.invariant
 
 pub returns : goal.returns
 returns c =

@@ -2,7 +2,7 @@ use Rattle.std.proofs.Common.{◌≡◌, ◌++◌, List, [], ℕ, Bool, false, m
 use Rattle.std.proofs.lemmas.List.{take_all}
 use Rattle.verilog_reader.specs.Values.{plain_of}
 use Rattle.verilog_reader.specs.Declarations.{Declaration}
-use Rattle.verilog_reader.specs.NameTables.{first_kept}
+use Rattle.verilog_reader.specs.NameTables.{firsts_of}
 use Rattle.verilog_reader.specs.Seen.{AddsOne, IsClean, declared_at, declared_as}
 use Rattle.verilog_reader.proofs.Again.{both_passes, both_fails, both_passed, so_more}
 use Rattle.verilog_reader.proofs.twice.add_names_declared.Goals as goal
@@ -37,7 +37,7 @@ loop-name-preserved c = λ before all known.
     record {
       same = both_passes first before all xs i d _ c.add_name.new.declared c.loop-name-test.true one inv.same;
       known = record {
-        keeps = λ q. one.kept refl q ∙ ap (λ (l : List Declaration). first_kept l q) more;
+        keeps = one.kept refl ∙ ap firsts_of more;
         are_nets = known.are_nets;
         clean = subst (λ (l : List Declaration). IsClean l all) more (one.clean refl);
       };
@@ -53,7 +53,7 @@ returns c = record {
       let whole = take_all i xs c.loop-name-test.false in
       record {
         is = both_passed first before all xs i [] _ c.loop-name-test.false inv.same;
-        kept = λ e q. inv.known.keeps q ∙ ap (λ (l : List (List ℕ)). first_kept (before ++ map (declared_as first) l) q) whole;
+        kept = λ e. inv.known.keeps ∙ ap (λ (l : List (List ℕ)). firsts_of (before ++ map (declared_as first) l)) whole;
         clean = λ e. subst (λ (l : List (List ℕ)). IsClean (before ++ map (declared_as first) l) all) whole inv.known.clean;
       };
 }

@@ -2,7 +2,7 @@ use Rattle.std.proofs.Common.{sym, ap, ◌∙◌}
 use Rattle.verilog_reader.specs.Faults.{selects}
 use Rattle.verilog_reader.specs.NameTables.{kept_bounds}
 use Rattle.verilog_reader.specs.Seen.{is_bit}
-use Rattle.verilog_reader.proofs.Firsts.{bounds_is}
+use Rattle.verilog_reader.proofs.Firsts.{bounds_is, kept_at}
 use Rattle.verilog_reader.proofs.BitLookups.{is_no_bit, is_bit_of}
 use Rattle.verilog_reader.proofs.twice.is_bit.Goals as goal
 
@@ -13,7 +13,7 @@ returns-in-Some c = record {
       let base = c.in-Some.vector.now in
       let i = c.in-Some.index in
       c.selects.ensures.value
-      ∙ ap (λ o. selects o i) (c.bounds.ensures.value ∙ ap kept_bounds (keeps base) ∙ bounds_is ds base)
+      ∙ ap (λ o. selects o i) (c.bounds.ensures.value ∙ ap kept_bounds (kept_at c.args.declared.now ds base keeps) ∙ bounds_is ds base)
       ∙ sym (is_bit_of ds base i low bit.0)
       ∙ sym (ap (is_bit ds) bit.1);
 }
