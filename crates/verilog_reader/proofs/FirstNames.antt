@@ -4,7 +4,6 @@ use Rattle.std.specs.Option.{is_some}
 use Rattle.std.specs.Str.{bytes_eq}
 use Rattle.std.proofs.lemmas.List.{map-append}
 use Rattle.verilog_reader.specs.declared.bounds.Bounds.{Bounds}
-use Rattle.verilog_reader.specs.declared.entry.Entry.{Entry}
 use Rattle.verilog_reader.specs.declared.declared.First.{First}
 use Rattle.verilog_reader.specs.Declarations.{Declaration}
 use Rattle.verilog_reader.specs.Faults.{width_or_one}

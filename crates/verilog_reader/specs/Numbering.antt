@@ -1,9 +1,7 @@
 -- The netlist of statements by its net numbers: the nets of a name stand in a row, and the names in the order of the
 -- entries. Meaning: Denoted.
 use Rattle.std.specs.Prelude.{◌≡◌, ℕ, zero, suc, ◌+◌, true, false, if◌then◌else◌, List, [], ◌∷◌, ◌++◌, map, All, Option, Some, None, IsSome, is_some}
-use Rattle.std.specs.Borrow.{Bor}
 use Rattle.std.specs.List.{flat_map}
-use Rattle.std.specs.Str.{bytes_eq}
 use Rattle.netlist_core.specs.declared.netlist.Bit.{Bit}
 use Rattle.netlist_core.specs.declared.netlist.Bit.TheVariants.{Net}
 use Rattle.netlist_core.specs.declared.netlist.Direction.{Direction}
@@ -24,7 +22,7 @@ use Rattle.verilog_reader.specs.declared.bounds.Bounds.{Bounds}
 use Rattle.verilog_reader.specs.declared.entry.Entry.{Entry}
 use Rattle.verilog_reader.specs.Values.{plain_of, decimal_value, is_big_index}
 use Rattle.verilog_reader.specs.Constants.{constant_bits}
-use Rattle.verilog_reader.specs.Declarations.{width, offset, Declaration, declarations_in, declarations, mentions_of, mentions}
+use Rattle.verilog_reader.specs.Declarations.{width, Declaration, declarations_in, declarations, mentions_of, mentions}
 use Rattle.verilog_reader.specs.Faults.{width_or_one, part_of, is_bad_size, is_bad_range, selects, selects_part}
 use Rattle.verilog_reader.specs.NameTables.{total, place, offset_in}
 use Rattle.verilog_reader.specs.Denoted.{directions_of, header_name, header_line, entry_nets}

@@ -1,20 +1,17 @@
 -- What the checks know on their way over the statements: which numbers are small, and what was declared so far.
-use Rattle.std.specs.Prelude.{◌≡◌, ℕ, ◌<◌, Bool, true, false, ◌&&◌, ◌||◌, not, if◌then◌else◌, List, [], ◌++◌, Option, Some, None, option_map}
+use Rattle.std.specs.Prelude.{◌≡◌, ℕ, ◌<◌, Bool, true, false, ◌&&◌, ◌||◌, not, if◌then◌else◌, List, [], ◌++◌}
 use Rattle.std.specs.List.{list_any, list_all}
-use Rattle.std.specs.HashMap.{get_by}
 use Rattle.std.specs.HashSet.{HashSet, contains_by}
 use Rattle.std.specs.Borrow.{Bor}
 use Rattle.std.specs.Str.{bytes_eq}
-use Rattle.verilog_syntax.specs.declared.statement.Declared.{Declared}
 use Rattle.verilog_syntax.specs.declared.statement.Statement.{Statement}
 use Rattle.verilog_syntax.specs.declared.statement.Statement.TheVariants as statements
 use Rattle.verilog_syntax.specs.declared.reading.Placed.{Placed}
-use Rattle.verilog_reader.specs.declared.bounds.Bounds.{Bounds}
 use Rattle.verilog_reader.specs.declared.declared.First.{First}
 use Rattle.verilog_reader.specs.declared.number.Vectors.{Vectors}
 use Rattle.verilog_reader.specs.declared.select.Known.{Known}
 use Rattle.verilog_reader.specs.Values.{plain_of}
-use Rattle.verilog_reader.specs.Declarations.{Declaration, is_named, items_in, first_of, is_port_kind, declarations, has, header_ports}
+use Rattle.verilog_reader.specs.Declarations.{Declaration, is_named, items_in, is_port_kind, declarations, has, header_ports}
 use Rattle.verilog_reader.specs.NameTables.{known_bounds}
 use Rattle.verilog_reader.specs.Faults.{is_bad_number, is_bad_range, range_in, is_vector, vector_bits, is_bad_select, differ_in_width, has_direction}
 

@@ -41,7 +41,7 @@ const SCALAR: First = First {
 impl<'a> Nets<'a> {
     /// The nets of the names that are declared.
     pub(crate) fn of(names: DeclaredNames<'a>) -> Nets<'a>
-        ensures value { result ≡ bounded names }
+        ensures value { result ≡ bounded names.entry }
     {
         Nets { names }
     }

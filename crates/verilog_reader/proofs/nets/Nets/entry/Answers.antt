@@ -1,5 +1,5 @@
-use Rattle.std.proofs.Common.{sym, ap, ◌∙◌}
-use Rattle.verilog_reader.specs.NameTables.{bounded, place}
+use Rattle.std.proofs.Common.{sym, ◌∙◌}
+use Rattle.verilog_reader.specs.NameTables.{bounded}
 use Rattle.verilog_reader.proofs.Tables.{within}
 use Rattle.verilog_reader.proofs.nets.Nets.entry.Goals as goal
 
