@@ -7,7 +7,7 @@ use Rattle.netlist_core.specs.declared.netlist.NetId.{NetId}
 use Rattle.netlist_core.specs.declared.netlist.Direction.{Direction}
 use Rattle.netlist_core.specs.declared.netlist.Netlist.{Netlist}
 use Rattle.netlist_core.specs.Netlists.{plain_of, IsNetlist}
-use Rattle.verilog_reader.specs.Faults.{IsRefused, read_faultless}
+use Rattle.verilog_checks.specs.Faults.{IsRefused, read_faultless}
 use Rattle.verilog_reader.specs.Denoted.{DenotesNetlist, OneNetlistLaw}
 use Rattle.verilog_reader.proofs.OneNetlist.{net_tells}
 use Rattle.cell_table.specs.Cells.{Cells}

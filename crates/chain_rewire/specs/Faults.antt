@@ -10,7 +10,7 @@ use Rattle.text_scan.specs.declared.kind.Kind.TheVariants.{NoPort, WrongPort, No
 use Rattle.netlist_core.specs.declared.netlist.NetId.{NetId}
 use Rattle.netlist_core.specs.declared.netlist.Netlist.{Netlist}
 use Rattle.netlist_core.specs.Netlists.{plain_of}
-use Rattle.verilog_reader.specs.Faults.{read_faultless}
+use Rattle.verilog_checks.specs.Faults.{read_faultless}
 use Rattle.verilog_reader.specs.Denoted.{DenotesNetlist}
 use Rattle.chain_trace.specs.declared.path.Path.{Path}
 use Rattle.chain_trace.specs.Paths.{drives, is_driven, IsScanPath}

@@ -6,7 +6,7 @@ use Rattle.text_scan.specs.declared.fault.ReadFault.TheVariants as faults
 use Rattle.netlist_core.specs.declared.netlist.NetId.{NetId}
 use Rattle.netlist_core.specs.declared.netlist.Netlist.{Netlist}
 use Rattle.netlist_core.specs.Netlists.{IsNetlist}
-use Rattle.verilog_reader.specs.Faults.{IsRefused, read_faultless}
+use Rattle.verilog_checks.specs.Faults.{IsRefused, read_faultless}
 use Rattle.verilog_reader.proofs.OneNetlist.{one_netlist, net_tells}
 use Rattle.cell_table.specs.Cells.{Cells, table_of}
 use Rattle.chain_trace.specs.declared.path.Path.{Path}

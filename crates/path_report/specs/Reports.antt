@@ -9,7 +9,7 @@ use Rattle.netlist_core.specs.declared.netlist.NetId.{NetId}
 use Rattle.netlist_core.specs.declared.netlist.Instance.{Instance}
 use Rattle.netlist_core.specs.declared.netlist.Netlist.{Netlist}
 use Rattle.netlist_core.specs.Netlists.{plain_of}
-use Rattle.verilog_reader.specs.Faults.{read_faultless}
+use Rattle.verilog_checks.specs.Faults.{read_faultless}
 use Rattle.verilog_reader.specs.Denoted.{DenotesNetlist}
 use Rattle.cell_table.specs.declared.paths.ScanPath.{ScanPath}
 use Rattle.cell_table.specs.declared.paths.OutPin.{OutPin}

@@ -5,9 +5,9 @@ use Rattle.std.proofs.lemmas.Fmt.{decimal_by_steps, decimal_injective}
 use Rattle.std.proofs.lemmas.Bool.{leb-true, leb-false}
 use Rattle.std.proofs.lemmas.List.{append_assoc, same_from_push}
 use Rattle.text_scan.specs.Each.{Each}
-use Rattle.verilog_reader.specs.declared.bounds.Bounds.{Bounds}
-use Rattle.verilog_reader.specs.Values.{bit_name}
-use Rattle.verilog_reader.specs.Declarations.{width, index_at, indexes_from, indexes}
+use Rattle.verilog_names.specs.declared.bounds.Bounds.{Bounds}
+use Rattle.verilog_names.specs.Values.{bit_name}
+use Rattle.verilog_names.specs.Declarations.{width, index_at, indexes_from, indexes}
 use Rattle.verilog_reader.proofs.Distinct.{IsApartFrom, Distinct, each_append, each_map}
 
 abbrev IsNoBracket : ℕ → Type 0

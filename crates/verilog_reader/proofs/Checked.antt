@@ -19,12 +19,12 @@ use Rattle.verilog_syntax.specs.declared.statement.Statement.{Statement}
 use Rattle.verilog_syntax.specs.declared.statement.Statement.TheVariants as statements
 use Rattle.verilog_syntax.specs.declared.reading.Placed.{Placed}
 use Rattle.verilog_syntax.specs.Reading.{fault_at}
-use Rattle.verilog_reader.specs.declared.bounds.Bounds.{Bounds}
-use Rattle.verilog_reader.specs.Values.{plain_of, decimal_value, is_big_index}
-use Rattle.verilog_reader.specs.Declarations.{Declaration, declaration_of, declarations_in, declarations, bounds_in, mentions_of, mentions_in, mentions, connection_items, items_in, header_ports, ports_in}
-use Rattle.verilog_reader.specs.Faults.{check_from, is_bad_number, is_bad_range, range_in, bad_number, vector_bits, selects, selects_part, part_of, is_bad_select, differ_in_width, has_direction, is_badly_listed, bad_select}
-use Rattle.verilog_reader.specs.NameTables.{place}
-use Rattle.verilog_reader.specs.Numbering.{bounds_or, with_declared, entries, IsListed, IsFineItem, IsFineExpression, IsFineStatement}
+use Rattle.verilog_names.specs.declared.bounds.Bounds.{Bounds}
+use Rattle.verilog_names.specs.Values.{plain_of, decimal_value, is_big_index}
+use Rattle.verilog_names.specs.Declarations.{Declaration, declaration_of, declarations_in, declarations, bounds_in, mentions_of, mentions_in, mentions, connection_items, items_in, header_ports, ports_in, selects, selects_part, part_of}
+use Rattle.verilog_checks.specs.Faults.{check_from, is_bad_number, is_bad_range, range_in, bad_number, vector_bits, is_bad_select, differ_in_width, has_direction, is_badly_listed, bad_select}
+use Rattle.verilog_names.specs.NameTables.{place, with_declared}
+use Rattle.verilog_reader.specs.Numbering.{bounds_or, entries, IsListed, IsFineItem, IsFineExpression, IsFineStatement}
 use Rattle.verilog_reader.proofs.Filling.{Entries}
 use Rattle.verilog_reader.proofs.Places.{named, placed, named_all, bytes_same, bounds_are}
 

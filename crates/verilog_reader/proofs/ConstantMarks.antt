@@ -7,8 +7,9 @@ use Rattle.netlist_core.specs.declared.netlist.Bit.{Bit}
 use Rattle.netlist_core.specs.declared.netlist.Bit.TheVariants.{Net, Zero, One, Unknown}
 use Rattle.netlist_core.specs.declared.netlist.NetName.{NetName}
 use Rattle.netlist_core.specs.Netlists.{NamedBit, named_bit}
-use Rattle.verilog_reader.specs.Values.{decimal_value}
-use Rattle.verilog_reader.specs.Constants.{bit_of, value_bits, digit_bits, digit_value, digit_width, fill_of, fitted, is_decimal_base, constant_base, constant_size, constant_digits, constant_bits}
+use Rattle.verilog_names.specs.Values.{decimal_value}
+use Rattle.verilog_checks.specs.ConstantSizes.{constant_size}
+use Rattle.verilog_reader.specs.Constants.{bit_of, value_bits, digit_bits, digit_value, digit_width, fill_of, fitted, is_decimal_base, constant_base, constant_digits, constant_bits}
 
 abbrev pub IsMark : Bit → Type 0
 IsMark (Net net) = ⊥

@@ -8,11 +8,11 @@ use Rattle.verilog_syntax.specs.declared.statement.Declared.{Declared}
 use Rattle.verilog_syntax.specs.declared.statement.Range.{Range}
 use Rattle.verilog_syntax.specs.declared.statement.Statement.{Statement}
 use Rattle.verilog_syntax.specs.declared.statement.Statement.TheVariants as statements
-use Rattle.verilog_reader.specs.declared.bounds.Bounds.{Bounds}
-use Rattle.verilog_reader.specs.Values.{plain_of}
-use Rattle.verilog_reader.specs.Declarations.{declaration_of}
+use Rattle.verilog_names.specs.declared.bounds.Bounds.{Bounds}
+use Rattle.verilog_names.specs.Values.{plain_of}
+use Rattle.verilog_names.specs.Declarations.{declaration_of}
 use Rattle.verilog_reader.specs.Denoted.{directions_of}
-use Rattle.verilog_reader.specs.NameTables.{place}
+use Rattle.verilog_names.specs.NameTables.{place}
 use Rattle.verilog_reader.specs.Numbering.{port_bits, numbered_ports_of, numbered_ports_in}
 
 module _ (es : List (List ℕ × Option Bounds)) (line : ℕ) (kind : Declared) (range : Option Range) where

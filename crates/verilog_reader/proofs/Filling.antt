@@ -1,8 +1,8 @@
 -- Lists of names with their bounds that are filled name by name.
 use Rattle.std.proofs.Common.{◌≡◌, ℕ, List, [], ◌∷◌, ◌++◌, map, Option, None, refl}
 use Rattle.std.proofs.lemmas.List.{map-append}
-use Rattle.verilog_reader.specs.declared.bounds.Bounds.{Bounds}
-use Rattle.verilog_reader.specs.Numbering.{with_entry, with_entries}
+use Rattle.verilog_names.specs.declared.bounds.Bounds.{Bounds}
+use Rattle.verilog_names.specs.NameTables.{with_entry, with_entries}
 
 abbrev pub Entries : Type 0
 Entries = List (List ℕ × Option Bounds)

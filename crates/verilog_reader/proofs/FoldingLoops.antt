@@ -13,8 +13,9 @@ use Rattle.verilog_syntax.specs.declared.statement.Item.{Item}
 use Rattle.verilog_syntax.specs.declared.statement.Expression.{Expression}
 use Rattle.verilog_syntax.specs.declared.statement.Connection.{Connection}
 use Rattle.verilog_syntax.specs.declared.reading.Placed.{Placed}
-use Rattle.verilog_reader.specs.Declarations.{mentions_of, mentions_in, mentions, connection_items}
-use Rattle.verilog_reader.specs.Numbering.{with_entries, with_mentioned, with_items, numbered_item, numbered_items, numbered_expression, numbered_connection, numbered_assign, numbered_assigns_in, numbered_assigns, numbered_instances_in, numbered_instances, IsFineItem, IsFineExpression, HasFineItems}
+use Rattle.verilog_names.specs.Declarations.{mentions_of, mentions_in, mentions, connection_items}
+use Rattle.verilog_names.specs.NameTables.{with_entries}
+use Rattle.verilog_reader.specs.Numbering.{with_mentioned, with_items, numbered_item, numbered_items, numbered_expression, numbered_connection, numbered_assign, numbered_assigns_in, numbered_assigns, numbered_instances_in, numbered_instances, IsFineItem, IsFineExpression, HasFineItems}
 use Rattle.verilog_reader.proofs.Filling.{Entries, with_entries-append, mentioned_entries, mentions-append}
 use Rattle.verilog_reader.proofs.FoldingPlaces.{Agree, settled, same_item, fine_item, same_expression, same_connection, fine_items, same_assigns, same_instances, has_fine_items}
 

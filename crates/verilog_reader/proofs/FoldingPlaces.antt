@@ -18,13 +18,12 @@ use Rattle.verilog_syntax.specs.declared.statement.Expression.{Expression}
 use Rattle.verilog_syntax.specs.declared.statement.Connection.{Connection}
 use Rattle.verilog_syntax.specs.declared.statement.Statement.{Statement}
 use Rattle.verilog_syntax.specs.declared.statement.Statement.TheVariants as statements
-use Rattle.verilog_reader.specs.declared.bounds.Bounds.{Bounds}
-use Rattle.verilog_reader.specs.declared.entry.Entry.{Entry}
-use Rattle.verilog_reader.specs.Values.{plain_of, decimal_value}
-use Rattle.verilog_reader.specs.Declarations.{mentions_of, mentions_in, connection_items}
-use Rattle.verilog_reader.specs.Faults.{width_or_one, part_of, selects, selects_part}
-use Rattle.verilog_reader.specs.NameTables.{place_from, place}
-use Rattle.verilog_reader.specs.Numbering.{bounds_or, with_entry, with_entries, with_mentioned, all_bits, one_bit, part_bits, numbered_item, numbered_items, numbered_expression, numbered_connection, numbered_assigns_in, numbered_instances_in, IsFineItem, IsFineExpression, IsFineStatement, HasFineItems}
+use Rattle.verilog_names.specs.declared.bounds.Bounds.{Bounds}
+use Rattle.verilog_names.specs.declared.entry.Entry.{Entry}
+use Rattle.verilog_names.specs.Values.{plain_of, decimal_value}
+use Rattle.verilog_names.specs.Declarations.{mentions_of, mentions_in, connection_items, width_or_one, part_of, selects, selects_part}
+use Rattle.verilog_names.specs.NameTables.{place_from, place, with_entry, with_entries}
+use Rattle.verilog_reader.specs.Numbering.{bounds_or, with_mentioned, all_bits, one_bit, part_bits, numbered_item, numbered_items, numbered_expression, numbered_connection, numbered_assigns_in, numbered_instances_in, IsFineItem, IsFineExpression, IsFineStatement, HasFineItems}
 use Rattle.verilog_reader.proofs.Filling.{Entries}
 use Rattle.verilog_reader.proofs.Places.{bytes_same, named, named_more, named_all}
 

@@ -14,13 +14,13 @@ use Rattle.verilog_syntax.specs.declared.statement.Range.{Range}
 use Rattle.verilog_syntax.specs.declared.statement.Statement.{Statement}
 use Rattle.verilog_syntax.specs.declared.statement.Statement.TheVariants as statements
 use Rattle.verilog_syntax.specs.declared.reading.Placed.{Placed}
-use Rattle.verilog_reader.specs.declared.bounds.Bounds.{Bounds}
-use Rattle.verilog_reader.specs.declared.entry.Entry.{Entry}
-use Rattle.verilog_reader.specs.Values.{plain_of}
-use Rattle.verilog_reader.specs.Declarations.{Declaration, declaration_of, declarations_in, declarations, is_declared, mentions}
+use Rattle.verilog_names.specs.declared.bounds.Bounds.{Bounds}
+use Rattle.verilog_names.specs.declared.entry.Entry.{Entry}
+use Rattle.verilog_names.specs.Values.{plain_of}
+use Rattle.verilog_names.specs.Declarations.{Declaration, declaration_of, declarations_in, declarations, is_declared, mentions}
 use Rattle.verilog_reader.specs.Denoted.{directions_of, header_name, header_line, entry_nets}
-use Rattle.verilog_reader.specs.NameTables.{total}
-use Rattle.verilog_reader.specs.Numbering.{with_entries, with_declared, with_mentioned, entries, port_bits, numbered_ports_of, numbered_ports_in, numbered_ports, numbered_assigns, numbered_instances, numbered, IsListed, AreListed, IsFineStatement, HasFineItems}
+use Rattle.verilog_names.specs.NameTables.{total, with_entries, with_declared}
+use Rattle.verilog_reader.specs.Numbering.{with_mentioned, entries, port_bits, numbered_ports_of, numbered_ports_in, numbered_ports, numbered_assigns, numbered_instances, numbered, IsListed, AreListed, IsFineStatement, HasFineItems}
 use Rattle.verilog_reader.proofs.Distinct.{all_of}
 use Rattle.verilog_reader.proofs.Filling.{Entries, mentioned_entries}
 use Rattle.verilog_reader.proofs.FoldingPlaces.{kept, each_left, each_right, items_of_fine}

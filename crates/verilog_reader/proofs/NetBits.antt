@@ -7,13 +7,12 @@ use Rattle.std.proofs.lemmas.Option.{none-some, same_Some}
 use Rattle.std.proofs.lemmas.List.{append_assoc, get_or_append_left, get_or-append-add, get_or-map, length-append}
 use Rattle.netlist_core.specs.declared.netlist.NetName.{NetName}
 use Rattle.netlist_core.specs.Netlists.{NamedBit, Named, named_bit, plain_of as net_plain}
-use Rattle.verilog_reader.specs.declared.bounds.Bounds.{Bounds}
-use Rattle.verilog_reader.specs.declared.entry.Entry.{Entry}
-use Rattle.verilog_reader.specs.Values.{bit_name}
-use Rattle.verilog_reader.specs.Declarations.{width, has_index, has_part, offset, index_at, indexes_from, indexes}
-use Rattle.verilog_reader.specs.Faults.{width_or_one}
+use Rattle.verilog_names.specs.declared.bounds.Bounds.{Bounds}
+use Rattle.verilog_names.specs.declared.entry.Entry.{Entry}
+use Rattle.verilog_names.specs.Values.{bit_name}
+use Rattle.verilog_names.specs.Declarations.{width, has_index, has_part, offset, index_at, indexes_from, indexes, width_or_one}
 use Rattle.verilog_reader.specs.Denoted.{entry_nets, name_bits, named_of, bit_text}
-use Rattle.verilog_reader.specs.NameTables.{place_from, place}
+use Rattle.verilog_names.specs.NameTables.{place_from, place}
 use Rattle.verilog_reader.specs.Numbering.{net_bits}
 use Rattle.verilog_reader.proofs.Filling.{Entries}
 use Rattle.verilog_reader.proofs.Places.{same_bytes}

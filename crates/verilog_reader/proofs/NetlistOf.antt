@@ -6,14 +6,13 @@ use Rattle.text_scan.specs.declared.kind.Kind.TheVariants.{VerilogNumber, Verilo
 use Rattle.netlist_core.specs.declared.netlist.Port.{Port}
 use Rattle.netlist_core.specs.Netlists.{IsAssign, IsInstance, IsNetlist}
 use Rattle.verilog_syntax.specs.declared.reading.Placed.{Placed}
-use Rattle.verilog_reader.specs.declared.bounds.Bounds.{Bounds}
-use Rattle.verilog_reader.specs.Declarations.{declarations}
+use Rattle.verilog_names.specs.declared.bounds.Bounds.{Bounds}
+use Rattle.verilog_names.specs.Declarations.{declarations, bounds_in, undeclared_in, mentions}
 use Rattle.verilog_syntax.specs.Reading.{read_statements}
-use Rattle.verilog_reader.specs.Faults.{read_faultless, check_number, check_twice, check_select, bad_number, bad_twice, bad_select, differ_in_width, has_twice, pins_in}
-use Rattle.verilog_reader.specs.Declarations.{bounds_in, undeclared_in, mentions}
+use Rattle.verilog_checks.specs.Faults.{read_faultless, check_number, check_twice, check_select, bad_number, bad_twice, bad_select, differ_in_width, has_twice, pins_in}
 use Rattle.verilog_reader.specs.Denoted.{IsNetlistOf, entry_nets, first_declared, first_mentioned, declared_nets}
-use Rattle.verilog_reader.specs.NameTables.{total}
-use Rattle.verilog_reader.specs.Numbering.{with_declared, entries, numbered, numbered_ports, numbered_assigns, numbered_instances, IsFineStatement}
+use Rattle.verilog_names.specs.NameTables.{total, with_declared}
+use Rattle.verilog_reader.specs.Numbering.{entries, numbered, numbered_ports, numbered_assigns, numbered_instances, IsFineStatement}
 use Rattle.verilog_reader.proofs.Filling.{Entries}
 use Rattle.verilog_reader.proofs.Places.{bounds_are, entries_are, declared_first}
 use Rattle.verilog_reader.proofs.Checked.{Passes, passes, sound, fine, IsSound, declared_named}

@@ -6,14 +6,13 @@ use Rattle.netlist_core.specs.declared.netlist.Bit.{Bit}
 use Rattle.netlist_core.specs.declared.netlist.Direction.{Direction}
 use Rattle.netlist_core.specs.declared.netlist.Port.{Port}
 use Rattle.netlist_core.specs.declared.netlist.NetName.{NetName}
-use Rattle.verilog_reader.specs.declared.bounds.Bounds.{Bounds}
-use Rattle.verilog_reader.specs.declared.declared.First.{First}
-use Rattle.verilog_reader.specs.declared.declared.Slot.{Slot}
-use Rattle.verilog_reader.specs.Declarations.{index_at, indexes_from, indexes, width}
-use Rattle.verilog_reader.specs.Faults.{width_or_one}
-use Rattle.verilog_reader.specs.Values.{bit_name, name_text}
+use Rattle.verilog_names.specs.declared.bounds.Bounds.{Bounds}
+use Rattle.verilog_names.specs.declared.declared.First.{First}
+use Rattle.verilog_names.specs.declared.declared.Slot.{Slot}
+use Rattle.verilog_names.specs.Declarations.{index_at, indexes_from, indexes, width, width_or_one}
+use Rattle.verilog_names.specs.Values.{bit_name, name_text}
 use Rattle.verilog_reader.specs.Denoted.{entry_nets, bit_text}
-use Rattle.verilog_reader.specs.NameTables.{total, bounded, firsts_in}
+use Rattle.verilog_names.specs.NameTables.{total, bounded, firsts_in}
 use Rattle.verilog_reader.specs.Numbering.{numbers_from, net_bit, net_bits, numbered_port}
 
 -- one number more

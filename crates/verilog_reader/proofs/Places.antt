@@ -8,13 +8,12 @@ use Rattle.std.proofs.lemmas.List.{append-nil, append_assoc}
 use Rattle.std.proofs.lemmas.List.Folds.{list_any-append}
 use Rattle.std.proofs.lemmas.Slice.Eq.{bytes_eq-Decides}
 use Rattle.verilog_syntax.specs.declared.reading.Placed.{Placed}
-use Rattle.verilog_reader.specs.declared.bounds.Bounds.{Bounds}
-use Rattle.verilog_reader.specs.declared.entry.Entry.{Entry}
-use Rattle.verilog_reader.specs.Declarations.{Declaration, declarations, is_named, first_of, is_declared, bounds_or_none, bounds_in, has, mentions, undeclared_in}
-use Rattle.verilog_reader.specs.Faults.{width_or_one}
+use Rattle.verilog_names.specs.declared.bounds.Bounds.{Bounds}
+use Rattle.verilog_names.specs.declared.entry.Entry.{Entry}
+use Rattle.verilog_names.specs.Declarations.{Declaration, declarations, is_named, first_of, is_declared, bounds_or_none, bounds_in, has, mentions, undeclared_in, width_or_one}
 use Rattle.verilog_reader.specs.Denoted.{first_declared, first_mentioned, net_entries}
-use Rattle.verilog_reader.specs.NameTables.{place_from, place}
-use Rattle.verilog_reader.specs.Numbering.{bounds_or, with_entry, with_entries, with_declared, with_mentioned, entries}
+use Rattle.verilog_names.specs.NameTables.{place_from, place, with_entry, with_entries, with_declared}
+use Rattle.verilog_reader.specs.Numbering.{bounds_or, with_mentioned, entries}
 use Rattle.verilog_reader.proofs.Filling.{Entries}
 
 pub same_bytes : (a b : List ℕ) → bytes_eq a b ≡ true → a ≡ b

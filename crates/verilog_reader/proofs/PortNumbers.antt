@@ -16,16 +16,16 @@ use Rattle.verilog_syntax.specs.declared.statement.Declared.TheVariants.{Input, 
 use Rattle.verilog_syntax.specs.declared.statement.Statement.{Statement}
 use Rattle.verilog_syntax.specs.declared.statement.Statement.TheVariants as statements
 use Rattle.verilog_syntax.specs.declared.reading.Placed.{Placed}
-use Rattle.verilog_reader.specs.declared.bounds.Bounds.{Bounds}
-use Rattle.verilog_reader.specs.declared.entry.Entry.{Entry}
-use Rattle.verilog_reader.specs.Values.{plain_of}
-use Rattle.verilog_reader.specs.Declarations.{Declaration, declarations_in, declarations, is_named, first_of, is_declared, is_port_kind, has}
-use Rattle.verilog_reader.specs.Faults.{width_or_one, stands_again, any_again, instances_named, instance_names, bad_twice}
+use Rattle.verilog_names.specs.declared.bounds.Bounds.{Bounds}
+use Rattle.verilog_names.specs.declared.entry.Entry.{Entry}
+use Rattle.verilog_names.specs.Values.{plain_of}
+use Rattle.verilog_names.specs.Declarations.{Declaration, declarations_in, declarations, is_named, first_of, is_declared, is_port_kind, has, width_or_one}
+use Rattle.verilog_checks.specs.Faults.{stands_again, any_again, instances_named, instance_names, bad_twice}
 use Rattle.verilog_reader.specs.Denoted.{directions_of}
-use Rattle.verilog_reader.specs.NameTables.{total, place_from, place}
+use Rattle.verilog_names.specs.NameTables.{total, place_from, place}
 use Rattle.verilog_reader.specs.Numbering.{numbers_from, numbered_port, port_bits, numbered_ports_of, numbered_ports_in, numbered_ports, numbered_instances_in, numbered_instances}
 use Rattle.verilog_reader.proofs.Filling.{Entries}
-use Rattle.verilog_reader.proofs.Tables.{within}
+use Rattle.verilog_names.proofs.Tables.{within}
 use Rattle.verilog_reader.proofs.Places.{bytes_same, same_bytes}
 use Rattle.verilog_reader.proofs.Checked.{Passes}
 use Rattle.verilog_reader.proofs.PortNames.{apart, first_port, find_any}

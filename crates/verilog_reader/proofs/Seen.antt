@@ -13,14 +13,13 @@ use Rattle.verilog_syntax.specs.declared.statement.Connection.{Connection}
 use Rattle.verilog_syntax.specs.declared.statement.Statement.{Statement}
 use Rattle.verilog_syntax.specs.declared.statement.Statement.TheVariants as statements
 use Rattle.verilog_syntax.specs.declared.reading.Placed.{Placed}
-use Rattle.verilog_reader.specs.declared.bounds.Bounds.{Bounds}
-use Rattle.verilog_reader.specs.declared.entry.Entry.{Entry}
-use Rattle.verilog_reader.specs.Values.{plain_of, decimal_value, bit_name}
+use Rattle.verilog_names.specs.declared.bounds.Bounds.{Bounds}
+use Rattle.verilog_names.specs.declared.entry.Entry.{Entry}
+use Rattle.verilog_names.specs.Values.{plain_of, decimal_value, bit_name}
 use Rattle.verilog_reader.specs.Constants.{constant_bits}
-use Rattle.verilog_reader.specs.Declarations.{Declaration, width, bounds_in}
-use Rattle.verilog_reader.specs.Faults.{selects, selects_part, part_of}
+use Rattle.verilog_names.specs.Declarations.{Declaration, width, bounds_in, selects, selects_part, part_of}
 use Rattle.verilog_reader.specs.Denoted.{SeenExpression, SeenAssign, SeenConnection, SeenInstance, item_bits, name_bits, named_of, said_expression, said_assigns_in, said_connection, said_instances_in, seen_expression, seen_assign, seen_connection, seen_instance}
-use Rattle.verilog_reader.specs.NameTables.{place, offset_in}
+use Rattle.verilog_names.specs.NameTables.{place, offset_in}
 use Rattle.verilog_reader.specs.Numbering.{bounds_or, net_bits, all_bits, one_bit, part_bits, numbered_item, numbered_items, numbered_expression, numbered_connection, numbered_assigns_in, numbered_instances_in, numbered_assigns, numbered_instances, IsFineItem, IsFineExpression, IsFineStatement}
 use Rattle.verilog_reader.proofs.Filling.{Entries}
 use Rattle.verilog_reader.proofs.NetBits.{nets_of, all_named, one_named, part_named}

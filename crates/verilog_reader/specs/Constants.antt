@@ -1,17 +1,11 @@
 -- The bits of a constant (IEEE 1364-2005, 3.5.1).
-use Rattle.std.specs.Prelude.{ℕ, zero, suc, ◌+◌, ◌-◌, ◌/◌, ◌%◌, Bool, ◌||◌, not, nat_le, ◌==◌, if◌then◌else◌, List, [], ◌∷◌, ◌++◌, length, take, drop, replicate, filter}
+use Rattle.std.specs.Prelude.{ℕ, zero, suc, ◌+◌, ◌-◌, ◌/◌, ◌%◌, Bool, ◌||◌, not, nat_le, ◌==◌, if◌then◌else◌, List, [], ◌∷◌, ◌++◌, length, drop, replicate, filter}
 use Rattle.std.specs.List.{flat_map, prefix_len}
 use Rattle.text_scan.specs.VerilogTokens.{is_digit, is_unknown}
 use Rattle.netlist_core.specs.declared.netlist.Bit.{Bit}
 use Rattle.netlist_core.specs.declared.netlist.Bit.TheVariants.{Zero, One, Unknown}
-use Rattle.verilog_reader.specs.Values.{decimal_value}
-
--- the decimal in front of the quote
-abbrev pub size_digits : List ℕ → List ℕ
-size_digits text = take (prefix_len is_digit text) text
-
-abbrev pub constant_size : List ℕ → ℕ
-constant_size text = decimal_value (size_digits text)
+use Rattle.verilog_names.specs.Values.{decimal_value}
+use Rattle.verilog_checks.specs.ConstantSizes.{constant_size}
 
 -- behind the quote: the base letter, or 0 where none stands
 abbrev pub letter_of : List ℕ → ℕ

@@ -22,11 +22,11 @@ use Rattle.verilog_syntax.specs.declared.statement.Connection.{Connection}
 use Rattle.verilog_syntax.specs.declared.statement.Statement.{Statement}
 use Rattle.verilog_syntax.specs.declared.statement.Statement.TheVariants as statements
 use Rattle.verilog_syntax.specs.declared.reading.Placed.{Placed}
-use Rattle.verilog_reader.specs.declared.bounds.Bounds.{Bounds}
-use Rattle.verilog_reader.specs.Values.{plain_of, decimal_value, bit_name, name_text}
+use Rattle.verilog_names.specs.declared.bounds.Bounds.{Bounds}
+use Rattle.verilog_names.specs.Values.{plain_of, decimal_value, bit_name, name_text}
 use Rattle.verilog_reader.specs.Constants.{constant_bits}
-use Rattle.verilog_reader.specs.Declarations.{indexes, Declaration, declarations_in, declarations, is_declared, bounds_in, has, mentions, undeclared_in}
-use Rattle.verilog_reader.specs.Faults.{part_of, read_faultless}
+use Rattle.verilog_names.specs.Declarations.{indexes, Declaration, declarations_in, declarations, is_declared, bounds_in, has, mentions, undeclared_in, part_of}
+use Rattle.verilog_checks.specs.Faults.{read_faultless}
 
 -- the net bits of a name, from the left
 abbrev pub name_bits : List ℕ → Option Bounds → List (List ℕ)

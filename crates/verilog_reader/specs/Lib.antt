@@ -1,12 +1,4 @@
-pub mod Values
 pub mod Constants
-pub mod Declarations
-pub mod Faults
-pub mod NameTables
-pub mod Steps
 pub mod Denoted
 pub mod LastBits
-pub mod NameSets
-pub mod Seen
 pub mod Numbering
-pub mod NameHashes

@@ -1,6 +1,6 @@
 -- The netlist of statements by its net numbers: the nets of a name stand in a row, and the names in the order of the
 -- entries. Meaning: Denoted.
-use Rattle.std.specs.Prelude.{◌≡◌, ℕ, zero, suc, ◌+◌, true, false, if◌then◌else◌, List, [], ◌∷◌, ◌++◌, map, All, Option, Some, None, IsSome, is_some}
+use Rattle.std.specs.Prelude.{◌≡◌, ℕ, zero, suc, ◌+◌, true, false, List, [], ◌∷◌, map, All, Option, Some, None, IsSome}
 use Rattle.std.specs.List.{flat_map}
 use Rattle.netlist_core.specs.declared.netlist.Bit.{Bit}
 use Rattle.netlist_core.specs.declared.netlist.Bit.TheVariants.{Net}
@@ -18,29 +18,18 @@ use Rattle.verilog_syntax.specs.declared.statement.Connection.{Connection}
 use Rattle.verilog_syntax.specs.declared.statement.Statement.{Statement}
 use Rattle.verilog_syntax.specs.declared.statement.Statement.TheVariants as statements
 use Rattle.verilog_syntax.specs.declared.reading.Placed.{Placed}
-use Rattle.verilog_reader.specs.declared.bounds.Bounds.{Bounds}
-use Rattle.verilog_reader.specs.declared.entry.Entry.{Entry}
-use Rattle.verilog_reader.specs.Values.{plain_of, decimal_value, is_big_index}
+use Rattle.verilog_names.specs.declared.bounds.Bounds.{Bounds}
+use Rattle.verilog_names.specs.declared.entry.Entry.{Entry}
+use Rattle.verilog_names.specs.Values.{plain_of, decimal_value, is_big_index}
 use Rattle.verilog_reader.specs.Constants.{constant_bits}
-use Rattle.verilog_reader.specs.Declarations.{width, Declaration, declarations_in, declarations, mentions_of, mentions}
-use Rattle.verilog_reader.specs.Faults.{width_or_one, part_of, is_bad_size, is_bad_range, selects, selects_part}
-use Rattle.verilog_reader.specs.NameTables.{total, place, offset_in}
+use Rattle.verilog_names.specs.Declarations.{width, Declaration, declarations_in, declarations, mentions_of, mentions, width_or_one, part_of, selects, selects_part}
+use Rattle.verilog_checks.specs.Faults.{is_bad_size, is_bad_range}
+use Rattle.verilog_names.specs.NameTables.{total, place, offset_in, with_entries, with_declared}
 use Rattle.verilog_reader.specs.Denoted.{directions_of, header_name, header_line, entry_nets}
 
 abbrev pub bounds_or : Option Entry → Option Bounds
 bounds_or None = None
 bounds_or (Some e) = e.bounds
-
--- with a name, unless it stands there
-abbrev pub with_entry : List (List ℕ × Option Bounds) → List ℕ → Option Bounds → List (List ℕ × Option Bounds)
-with_entry es name bounds = if is_some (place es name) then es else es ++ (name, bounds) ∷ []
-
-abbrev pub with_entries : List (List ℕ × Option Bounds) → List (List ℕ × Option Bounds) → List (List ℕ × Option Bounds)
-with_entries es [] = es
-with_entries es (x ∷ xs) = with_entries (with_entry es x.0 x.1) xs
-
-abbrev pub with_declared : List (List ℕ × Option Bounds) → List Declaration → List (List ℕ × Option Bounds)
-with_declared es ds = with_entries es (map (λ d. (d.name, d.bounds)) ds)
 
 abbrev pub with_mentioned : List (List ℕ × Option Bounds) → List (List ℕ) → List (List ℕ × Option Bounds)
 with_mentioned es names = with_entries es (map (λ name. (name, None)) names)

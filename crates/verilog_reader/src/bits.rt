@@ -1,20 +1,17 @@
 //! The bits of expressions.
 ghost use Rattle.std.specs.Prelude.{◌≡◌, ◌+◌, ◌-◌, ◌<◌, ◌^◌, ◌++◌, true, false, All, Some, OnOk, IfOk};
-ghost use Rattle.verilog_reader.specs.Faults.{width_or_one, is_bad_size, selects, selects_part};
+ghost use Rattle.verilog_names.specs.Declarations.{width_or_one, selects, selects_part, mentions_of};
+ghost use Rattle.verilog_checks.specs.Faults.{is_bad_size};
 ghost use Rattle.verilog_reader.specs.Constants.{constant_bits};
 ghost use Rattle.verilog_reader.specs.Numbering.{net_bits, all_bits, one_bit, part_bits, numbered_item, numbered_items, numbered_expression, IsFineItem, IsFineExpression, with_mentioned, with_items};
-ghost use Rattle.verilog_reader.specs.Declarations.{mentions_of};
 
-use crate::bounds::Bounds;
 use crate::constant::constant_bits;
-use crate::declared::small_value;
-use crate::entry::Entry;
 use crate::nets::Nets;
-use crate::values::plain_of;
-use crate::vector::{offset_in, width, width_or_one};
 use netlist_core::{Bit, Bits, Expr, NetId};
 use std::alloc::Global;
 use text_scan::NoMemory;
+use verilog_checks::small_value;
+use verilog_names::{Bounds, Entry, offset_in, plain_of, width, width_or_one};
 use verilog_syntax::{Expression, Item};
 
 fn push_nets(bits: &mut Bits, first: u32, end: u32) -> Result<(), NoMemory>
@@ -118,11 +115,7 @@ fn bits_of_entry(alloc: Global, entry: Entry) -> Result<Bits, NoMemory>
     Ok(bits)
 }
 
-fn bits_of_item<'a>(
-    alloc: Global,
-    nets: &mut Nets<'a>,
-    item: &Item<'a>,
-) -> Result<Bits, NoMemory>
+fn bits_of_item<'a>(alloc: Global, nets: &mut Nets<'a>, item: &Item<'a>) -> Result<Bits, NoMemory>
     requires { IsFineItem (with_mentioned nets.old (mentions_of item.now)) item.now }
     ensures ok { OnOk result (nets.new ≡ with_mentioned nets.old (mentions_of item.now)) }
     ensures value { IfOk result (λ bits. bits ≡ numbered_item nets.new item.now) }

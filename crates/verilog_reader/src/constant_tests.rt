@@ -1,9 +1,9 @@
 use crate::constant::constant_bits;
-use crate::number::is_bad_size;
 use netlist_core::Bit;
 use std::alloc::Global;
 use std::test::Fail;
 use text_scan::NoMemory;
+use verilog_checks::is_bad_size;
 
 fn letter(bit: Bit) -> u8 {
     match bit {

@@ -2,22 +2,19 @@
 ghost use Rattle.std.specs.Prelude.{◌≡◌, false, ◌+◌, ◌-◌, ◌<◌, ◌^◌, ◌++◌, All, Ok, Some, IsSome, length, map, option_to_list, OnOk, IfOk};
 ghost use Rattle.std.specs.List.{flat_map};
 ghost use Rattle.netlist_core.specs.Netlists.{IsNetlist};
-ghost use Rattle.verilog_reader.specs.Values.{plain_of};
-ghost use Rattle.verilog_reader.specs.Declarations.{declaration_of, declarations};
-ghost use Rattle.verilog_reader.specs.Faults.{width_or_one, is_bad_range, range_in, check_number, check_twice, check_select};
+ghost use Rattle.verilog_names.specs.Values.{plain_of};
+ghost use Rattle.verilog_names.specs.Declarations.{declaration_of, declarations, width_or_one};
+ghost use Rattle.verilog_checks.specs.Faults.{is_bad_range, range_in, check_number, check_twice, check_select};
 ghost use Rattle.verilog_reader.specs.Denoted.{directions_of, module_name, header_name, header_line, IsNetlistOf};
-ghost use Rattle.verilog_reader.specs.NameTables.{place, firsts_of};
+ghost use Rattle.verilog_names.specs.NameTables.{place, firsts_of};
 ghost use Rattle.verilog_reader.specs.Numbering.{entries, numbered, port_bits, numbers_from, numbered_port, numbered_ports_of, numbered_ports_in, numbered_ports, numbered_connection, numbered_assigns_in, numbered_assigns, numbered_instances_in, numbered_instances, IsListed, AreListed, IsFineStatement};
 
-use crate::declared::DeclaredNames;
-use crate::entry::Entry;
 use crate::nets::Nets;
 use crate::parts::parts_of;
-use crate::values::plain_of;
-use crate::vector::width_or_one;
 use netlist_core::{Direction, NetId, Netlist, Port};
 use std::alloc::Global;
 use text_scan::{Name, NoMemory, Rows};
+use verilog_names::{DeclaredNames, Entry, plain_of, width_or_one};
 use verilog_syntax::{Declared, Placed, Statement, Written};
 
 fn direction_of(kind: Declared) -> Option<Direction>

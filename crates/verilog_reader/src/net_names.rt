@@ -1,14 +1,12 @@
 //! How nets are named.
 ghost use Rattle.std.specs.Prelude.{◌≡◌, ◌++◌, ◌∷◌, [], Option, Some, None, IfOk, OnOk};
-ghost use Rattle.verilog_reader.specs.Values.{bit_name, name_text};
+ghost use Rattle.verilog_names.specs.Values.{bit_name, name_text};
 ghost use Rattle.verilog_reader.specs.Denoted.{entry_nets, bit_text};
 
-use crate::bounds::Bounds;
-use crate::values::push_bit_name;
-use crate::vector::{index_at, width};
 use netlist_core::NetName;
 use std::alloc::Global;
 use text_scan::{Name, NoMemory, Rows};
+use verilog_names::{Bounds, index_at, push_bit_name, width};
 use verilog_syntax::{is_identifier, is_reserved};
 
 /// A name as it stands in a text.

@@ -1,21 +1,19 @@
 //! The netlist of a text.
 ghost use Rattle.std.specs.Prelude.{◌≡◌, ◌<◌, ◌^◌, length, IfOk};
-ghost use Rattle.verilog_reader.specs.Faults.{IsRefused, read_faultless};
+ghost use Rattle.verilog_checks.specs.Faults.{IsRefused, read_faultless};
 ghost use Rattle.verilog_reader.specs.Denoted.{DenotesNetlist};
 
 use crate::fold::netlist_of;
-use crate::number::check_number;
-use crate::select::check_select;
-use crate::twice::check_twice;
 use netlist_core::Netlist;
 use std::alloc::Global;
 use text_scan::ReadFault;
+use verilog_checks::{check_number, check_select, check_twice};
 use verilog_syntax::read_statements;
 
 /// The netlist of a Verilog text of less than 4 GiB, or its first fault: VerilogSyntax at the first statement that matches no
 /// form, or where the module isn't closed; SecondModule; then VerilogNumber, VerilogTwice and BadSelect, each at the first
 /// statement that has it; or want of memory (IEEE 1364-2005, in this profile).
-#[tactic(auto, unfolding(crate::specs::Faults::read_faultless))]
+#[tactic(auto, unfolding(verilog_checks::specs::Faults::read_faultless))]
 pub fn read_netlist(alloc: Global, bytes: &[u8]) -> Result<Netlist, ReadFault>
     requires size { length bytes.now < 2 ^ 32 }
     ensures value { IfOk result (DenotesNetlist bytes.now) }

@@ -2,17 +2,15 @@
 ghost use Rattle.std.specs.Prelude.{◌≡◌, ◌+◌, ◌≤◌, ◌<◌, ◌^◌, length, None, Some, IsSome, OnOk, IfOk};
 ghost use Rattle.std.specs.List.{flat_map};
 ghost use Rattle.verilog_reader.specs.Denoted.{entry_nets};
-ghost use Rattle.verilog_reader.specs.Faults.{width_or_one};
-ghost use Rattle.verilog_reader.specs.NameTables.{bounded, total, place};
-ghost use Rattle.verilog_reader.specs.Numbering.{with_entry};
+ghost use Rattle.verilog_names.specs.Declarations.{width_or_one};
+ghost use Rattle.verilog_names.specs.NameTables.{bounded, total, place, with_entry};
 
-use crate::declared::{DeclaredNames, First};
-use crate::entry::Entry;
 use crate::net_names::push_names;
 use netlist_core::NetName;
 use std::alloc::Global;
 use std::marker::Model;
 use text_scan::{NoMemory, Rows};
+use verilog_names::{DeclaredNames, Entry, First};
 use verilog_syntax::Declared;
 
 /// Names in the order of their nets, which contracts see as a list, each with the bounds of a vector: those that are declared,
@@ -24,8 +22,8 @@ pub(crate) struct Nets<'a> {
 
 impl<'a> Model for Nets<'a> {
     ghost use Rattle.std.specs.Prelude.{List, ℕ, Option};
-    ghost use Rattle.verilog_reader.specs.declared.bounds.Bounds.{Bounds as ghost_bounds};
-    ghost use Rattle.verilog_reader.specs.NameTables.{bounded};
+    ghost use Rattle.verilog_names.specs.declared.bounds.Bounds.{Bounds as ghost_bounds};
+    ghost use Rattle.verilog_names.specs.NameTables.{bounded};
 
     ghost Value = { List (List ℕ × Option ghost_bounds) };
 
@@ -53,7 +51,6 @@ impl<'a> Nets<'a> {
         ensures within { IfOk result (λ entry. entry.first + width_or_one entry.bounds ≤ total self.new) }
         ensures few { OnOk result (total self.new < 2 ^ 32) }
     {
-        self.names.are_few();
         match self.names.entry(name) {
             Some(entry) => Ok(entry),
             None => self.names.append(name, SCALAR),
@@ -72,7 +69,6 @@ impl<'a> Nets<'a> {
         ensures value { IfOk result (λ names. names ≡ flat_map (λ e. entry_nets e.0 e.1) self.now) }
         ensures few { IfOk result (λ names. length names < 2 ^ 32) }
     {
-        self.names.are_few();
         let mut names = Rows::new(alloc);
         for (name, slot) in self.names.iter() {
             push_names(alloc, &mut names, name, slot.entry.bounds)?;
@@ -87,7 +83,6 @@ impl<'a> Nets<'a> {
         ensures within { result.first + width_or_one result.bounds ≤ total self.now }
         ensures few { total self.now < 2 ^ 32 }
     {
-        self.names.are_few();
         self.names.entry(name).unwrap()
     }
 }

@@ -1,14 +1,14 @@
 //! The assigns and instances of statements, whose expressions add the nets that no statement declares.
 ghost use Rattle.std.specs.Prelude.{◌≡◌, ◌<◌, ◌^◌, ◌++◌, [], ◌∷◌, All, length, map, OnOk, IfOk};
-ghost use Rattle.verilog_reader.specs.Declarations.{items_in, connection_items, mentions};
+ghost use Rattle.verilog_names.specs.Declarations.{items_in, connection_items, mentions};
 ghost use Rattle.verilog_reader.specs.Numbering.{with_mentioned, with_items, numbered_connection, numbered_assign, numbered_assigns_in, numbered_assigns, numbered_instances_in, numbered_instances, IsFineExpression, HasFineItems};
 
 use crate::bits::expression_of;
 use crate::nets::Nets;
-use crate::values::plain_of;
 use netlist_core::{Assign, Connection as Pin, Instance};
 use std::alloc::Global;
 use text_scan::{Name, NoMemory, Rows};
+use verilog_names::plain_of;
 use verilog_syntax::{Connection, Expression, Placed, Statement};
 
 fn assign_of<'a>(

@@ -12,8 +12,8 @@ use Rattle.text_scan.proofs.NameTokens.{plain_law, plain_bit_law, escaped_law, e
 use Rattle.verilog_syntax.specs.Words.{is_name, is_reserved}
 use Rattle.verilog_syntax.specs.Words as words
 use Rattle.verilog_syntax.specs.Grammar.{IsName, IsDecimal, item_texts, IsOperand}
-use Rattle.verilog_reader.specs.Values.{decimal_value}
-use Rattle.verilog_reader.proofs.Indexes.{with_digit}
+use Rattle.verilog_names.specs.Values.{decimal_value}
+use Rattle.verilog_names.proofs.Indexes.{with_digit}
 use Rattle.verilog_writer.specs.VerilogText.{NetBit, indexed_text, indexed_item, net_text, net_item, IsIndex, IsNetBit}
 
 pub first_part : (a b : Bool) → (a && b) ≡ true → a ≡ true

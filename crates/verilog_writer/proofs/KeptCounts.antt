@@ -9,10 +9,10 @@ use Rattle.std.proofs.lemmas.List.Folds.{list_any-append}
 use Rattle.std.proofs.lemmas.Map.Made.{length-le_from_is_member}
 use Rattle.text_scan.specs.Each.{Each}
 use Rattle.verilog_syntax.specs.declared.reading.Placed.{Placed}
-use Rattle.verilog_reader.specs.declared.bounds.Bounds.{Bounds}
-use Rattle.verilog_reader.specs.Declarations.{Declaration, declarations, is_declared, has, mentions, undeclared_in}
+use Rattle.verilog_names.specs.declared.bounds.Bounds.{Bounds}
+use Rattle.verilog_names.specs.Declarations.{Declaration, declarations, is_declared, has, mentions, undeclared_in}
 use Rattle.verilog_reader.specs.Denoted.{first_declared, first_mentioned}
-use Rattle.verilog_reader.specs.NameTables.{total}
+use Rattle.verilog_names.specs.NameTables.{total}
 use Rattle.verilog_reader.specs.Numbering.{entries}
 use Rattle.verilog_reader.proofs.Distinct.{each_weaker}
 use Rattle.verilog_reader.proofs.Filling.{Entries}

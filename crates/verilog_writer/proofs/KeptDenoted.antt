@@ -20,11 +20,11 @@ use Rattle.verilog_syntax.specs.declared.statement.Statement.{Statement}
 use Rattle.verilog_syntax.specs.declared.reading.Placed.{Placed}
 use Rattle.verilog_syntax.specs.Laws.{bare}
 use Rattle.verilog_syntax.specs.Reading.{read_statements}
-use Rattle.verilog_reader.specs.declared.bounds.Bounds.{Bounds}
-use Rattle.verilog_reader.specs.Declarations.{Declaration, declarations_in, declarations, bounds_in, mentions, undeclared_in}
+use Rattle.verilog_names.specs.declared.bounds.Bounds.{Bounds}
+use Rattle.verilog_names.specs.Declarations.{Declaration, declarations_in, declarations, bounds_in, mentions, undeclared_in}
 use Rattle.verilog_reader.specs.Denoted.{SeenPort, name_bits, directions_of, said_port, said_ports_of, said_ports, seen_port, first_declared, first_mentioned, entry_nets, declared_nets, said_nets, IsNetlistOf, DenotesNetlist}
-use Rattle.verilog_reader.specs.Faults.{check_number, check_twice, check_select, differ_in_width}
-use Rattle.verilog_reader.specs.NameTables.{total}
+use Rattle.verilog_checks.specs.Faults.{check_number, check_twice, check_select, differ_in_width}
+use Rattle.verilog_names.specs.NameTables.{total}
 use Rattle.verilog_reader.specs.Numbering.{entries, numbered}
 use Rattle.verilog_reader.proofs.Checked.{IsSound, mentioned_named}
 use Rattle.verilog_reader.proofs.Filling.{Entries}

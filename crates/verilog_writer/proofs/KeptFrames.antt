@@ -8,9 +8,9 @@ use Rattle.verilog_syntax.specs.declared.statement.Statement.{Statement}
 use Rattle.verilog_syntax.specs.declared.statement.Statement.TheVariants as statements
 use Rattle.verilog_syntax.specs.declared.reading.Placed.{Placed}
 use Rattle.verilog_syntax.specs.Laws.{nowhere, bare_connection, bare_statement, bare}
-use Rattle.verilog_reader.specs.Values.{plain_of}
-use Rattle.verilog_reader.specs.Declarations.{declarations_in, declarations, ports_in, header_ports, connection_items, items_in}
-use Rattle.verilog_reader.specs.Faults.{BoundsAt, range_in, instances_named, instance_names, pins_in, differ_in_width}
+use Rattle.verilog_names.specs.Values.{plain_of}
+use Rattle.verilog_names.specs.Declarations.{declarations_in, declarations, ports_in, header_ports, connection_items, items_in}
+use Rattle.verilog_checks.specs.Faults.{BoundsAt, range_in, instances_named, instance_names, pins_in, differ_in_width}
 use Rattle.verilog_reader.specs.Denoted.{module_name, header_name}
 use Rattle.verilog_writer.specs.VerilogText.{BitEdit, changed_connection, changed_statement, changed_statements}
 

@@ -28,12 +28,12 @@ use Rattle.verilog_syntax.specs.declared.statement.Statement.{Statement}
 use Rattle.verilog_syntax.specs.declared.statement.Statement.TheVariants as statements
 use Rattle.verilog_syntax.specs.declared.reading.Placed.{Placed}
 use Rattle.verilog_syntax.specs.Laws.{bare_connection, bare_statement}
-use Rattle.verilog_reader.specs.declared.bounds.Bounds.{Bounds}
-use Rattle.verilog_reader.specs.Values.{plain_of, bit_name}
+use Rattle.verilog_names.specs.declared.bounds.Bounds.{Bounds}
+use Rattle.verilog_names.specs.Values.{plain_of, bit_name}
 use Rattle.verilog_reader.specs.Constants.{constant_bits}
-use Rattle.verilog_reader.specs.Declarations.{width, indexes, Declaration, declarations, bounds_in}
+use Rattle.verilog_names.specs.Declarations.{width, indexes, Declaration, declarations, bounds_in, part_of, width_or_one}
 use Rattle.verilog_reader.specs.Denoted.{SeenAssign, SeenConnection, SeenInstance, name_bits, named_of, item_bits, seen_assign, seen_connection, seen_instance, said_expression, said_connection, said_assigns_in, said_instances_in}
-use Rattle.verilog_reader.specs.Faults.{part_of, width_or_one, item_width, expression_width, differ_in_width}
+use Rattle.verilog_checks.specs.Faults.{item_width, expression_width, differ_in_width}
 use Rattle.verilog_reader.proofs.NumberedLists.{length-indexes_from}
 use Rattle.verilog_reader.proofs.Within.{length-constant}
 use Rattle.verilog_writer.specs.NetTexts.{net_name, IsScalarWithout}

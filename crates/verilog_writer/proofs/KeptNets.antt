@@ -16,11 +16,10 @@ use Rattle.netlist_core.specs.declared.netlist.Netlist.{Netlist}
 use Rattle.netlist_core.specs.Netlists.{plain_of as net_plain}
 use Rattle.verilog_syntax.specs.declared.reading.Placed.{Placed}
 use Rattle.verilog_syntax.specs.Grammar.{item_texts}
-use Rattle.verilog_reader.specs.declared.bounds.Bounds.{Bounds}
-use Rattle.verilog_reader.specs.Values.{plain_of, name_text, bit_name, decimal_value}
-use Rattle.verilog_reader.specs.Declarations.{width, indexes, Declaration, declarations, is_named, first_of, is_declared, bounds_or_none, bounds_in, has, mentions, undeclared_in}
+use Rattle.verilog_names.specs.declared.bounds.Bounds.{Bounds}
+use Rattle.verilog_names.specs.Values.{plain_of, name_text, bit_name, decimal_value}
+use Rattle.verilog_names.specs.Declarations.{width, indexes, Declaration, declarations, is_named, first_of, is_declared, bounds_or_none, bounds_in, has, mentions, undeclared_in, selects}
 use Rattle.verilog_reader.specs.Denoted.{first_declared, first_mentioned, net_entries, entry_nets, bit_text, DenotesNetlist}
-use Rattle.verilog_reader.specs.Faults.{selects}
 use Rattle.verilog_reader.specs.Numbering.{entries}
 use Rattle.verilog_reader.proofs.BitNaming.{IsSmall, indexes_within}
 use Rattle.verilog_reader.proofs.BitNaming as naming

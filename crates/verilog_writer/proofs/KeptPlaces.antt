@@ -17,7 +17,7 @@ use Rattle.netlist_core.specs.declared.netlist.NetName.{NetName}
 use Rattle.netlist_core.specs.declared.netlist.Assign.{Assign}
 use Rattle.netlist_core.specs.declared.netlist.Connection.{Connection as NetConnection}
 use Rattle.netlist_core.specs.declared.netlist.Instance.{Instance}
-use Rattle.verilog_reader.specs.Declarations.{Declaration}
+use Rattle.verilog_names.specs.Declarations.{Declaration}
 use Rattle.verilog_reader.specs.Denoted.{SeenAssign, SeenConnection, SeenInstance, seen_assign, seen_connection, seen_instance, said_connection, said_assigns_in, said_instances_in}
 use Rattle.verilog_writer.specs.VerilogText.{places_in, IsOneOf, IsPlaceIn}
 use Rattle.verilog_writer.proofs.Edited.{slot_edits}

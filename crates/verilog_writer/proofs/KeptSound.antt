@@ -12,10 +12,10 @@ use Rattle.verilog_syntax.specs.declared.statement.Statement.{Statement}
 use Rattle.verilog_syntax.specs.declared.statement.Statement.TheVariants as statements
 use Rattle.verilog_syntax.specs.declared.reading.Placed.{Placed}
 use Rattle.verilog_syntax.specs.Laws.{bare_statement, bare}
-use Rattle.verilog_reader.specs.declared.bounds.Bounds.{Bounds}
-use Rattle.verilog_reader.specs.Values.{plain_of, decimal_value, name_text}
-use Rattle.verilog_reader.specs.Declarations.{declarations, bounds_in, mentions_of, mentions_in, mentions, connection_items, items_in}
-use Rattle.verilog_reader.specs.Faults.{is_bad_number, is_bad_range, is_bad_select, selects, differ_in_width}
+use Rattle.verilog_names.specs.declared.bounds.Bounds.{Bounds}
+use Rattle.verilog_names.specs.Values.{plain_of, decimal_value, name_text}
+use Rattle.verilog_names.specs.Declarations.{declarations, bounds_in, mentions_of, mentions_in, mentions, connection_items, items_in, selects}
+use Rattle.verilog_checks.specs.Faults.{is_bad_number, is_bad_range, is_bad_select, differ_in_width}
 use Rattle.verilog_reader.specs.Numbering.{entries}
 use Rattle.verilog_reader.proofs.Checked.{IsSound, each_left, each_right}
 use Rattle.verilog_reader.proofs.Distinct.{each_append}

@@ -11,7 +11,7 @@ use Rattle.net_edit.specs.declared.edits.Edits.{Edits}
 use Rattle.net_edit.specs.Edited.{AreEdits}
 use Rattle.verilog_syntax.specs.Laws.{module_parts}
 use Rattle.verilog_syntax.proofs.SpelledLaw.{spelled_law}
-use Rattle.verilog_reader.specs.Declarations.{declarations}
+use Rattle.verilog_names.specs.Declarations.{declarations}
 use Rattle.verilog_reader.specs.Denoted.{DenotesNetlist}
 use Rattle.verilog_reader.proofs.Distinct.{each_any}
 use Rattle.verilog_writer.specs.Written.{edit_texts}

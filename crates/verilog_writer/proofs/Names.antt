@@ -11,8 +11,8 @@ use Rattle.text_scan.proofs.NameTokens.{no_blank_start}
 use Rattle.netlist_core.specs.Netlists.{Named}
 use Rattle.verilog_syntax.specs.Words.{is_name}
 use Rattle.verilog_syntax.specs.Grammar.{IsName}
-use Rattle.verilog_reader.specs.Values.{plain_of, name_text}
-use Rattle.verilog_reader.specs.Declarations.{Declaration}
+use Rattle.verilog_names.specs.Values.{plain_of, name_text}
+use Rattle.verilog_names.specs.Declarations.{Declaration}
 use Rattle.verilog_reader.specs.Denoted.{item_bits}
 use Rattle.verilog_writer.specs.VerilogText.{indexed_item, IsIndex}
 use Rattle.verilog_writer.specs.NetTexts.{indexed_name, IsScalarWithout, BitLaw}

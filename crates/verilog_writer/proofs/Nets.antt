@@ -19,15 +19,15 @@ use Rattle.verilog_syntax.specs.Grammar.{IsName, IsExpression, IsAnyExpression, 
 use Rattle.verilog_syntax.specs.Reading.{result_and_then, read_statements}
 use Rattle.verilog_syntax.proofs.SpelledLaw.{spelled_law}
 use Rattle.verilog_syntax.proofs.Trees.{Begins, Behind, expression_begins}
-use Rattle.verilog_reader.specs.declared.bounds.Bounds.{Bounds}
-use Rattle.verilog_reader.specs.Values.{decimal_value, is_big_index, bit_name}
-use Rattle.verilog_reader.specs.Declarations.{indexes, width, Declaration, declaration_of, declarations_in, declarations, is_declared, bounds_of, has, mentions_of, connection_items, items_in, mentions_in, mentions, undeclared_in}
+use Rattle.verilog_names.specs.declared.bounds.Bounds.{Bounds}
+use Rattle.verilog_names.specs.Values.{decimal_value, is_big_index, bit_name}
+use Rattle.verilog_names.specs.Declarations.{indexes, width, Declaration, declaration_of, declarations_in, declarations, is_declared, bounds_of, has, mentions_of, connection_items, items_in, mentions_in, mentions, undeclared_in}
 use Rattle.verilog_reader.specs.Denoted.{first_declared, first_mentioned, net_entries, entry_nets, bit_text}
-use Rattle.verilog_reader.specs.Faults.{is_bad_range, range_in, is_bad_number, check_number, check_twice, check_select, read_faultless}
-use Rattle.verilog_reader.specs.Steps.{has_bad_number, are_small}
+use Rattle.verilog_checks.specs.Faults.{is_bad_range, range_in, is_bad_number, check_number, check_twice, check_select, read_faultless}
+use Rattle.verilog_checks.specs.Steps.{has_bad_number, are_small}
 use Rattle.verilog_reader.proofs.BitNaming.{IsSmall, indexes_within}
 use Rattle.verilog_reader.proofs.BitNaming as naming
-use Rattle.verilog_reader.proofs.Small.{small_passed}
+use Rattle.verilog_checks.proofs.Small.{small_passed}
 use Rattle.verilog_writer.specs.NetTexts.{IsNetText, NetsLaw}
 use Rattle.verilog_writer.proofs.Bits.{first_part, second_part}
 use Rattle.verilog_writer.proofs.Names.{plain_escapable}

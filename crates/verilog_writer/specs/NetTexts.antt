@@ -3,8 +3,8 @@ use Rattle.std.specs.Prelude.{◌≡◌, ℕ, List, [], ◌∷◌, Option, Some,
 use Rattle.text_scan.specs.Each.{Each}
 use Rattle.netlist_core.specs.declared.netlist.Netlist.{Netlist}
 use Rattle.netlist_core.specs.Netlists.{Named}
-use Rattle.verilog_reader.specs.Values.{bit_name}
-use Rattle.verilog_reader.specs.Declarations.{Declaration, bounds_in}
+use Rattle.verilog_names.specs.Values.{bit_name}
+use Rattle.verilog_names.specs.Declarations.{Declaration, bounds_in}
 use Rattle.verilog_reader.specs.Denoted.{item_bits, DenotesNetlist}
 use Rattle.verilog_writer.specs.VerilogText.{NetBit, net_text, net_item, IsNetBit}
 

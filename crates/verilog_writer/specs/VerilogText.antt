@@ -14,7 +14,7 @@ use Rattle.verilog_syntax.specs.declared.statement.Statement.TheVariants as stat
 use Rattle.verilog_syntax.specs.declared.reading.Placed.{Placed}
 use Rattle.verilog_syntax.specs.Reading.{read_statements}
 use Rattle.verilog_syntax.specs.Laws.{AreRead}
-use Rattle.verilog_reader.specs.Values.{name_text}
+use Rattle.verilog_names.specs.Values.{name_text}
 use Rattle.verilog_reader.specs.Denoted.{bit_text}
 
 -- a net bit: a scalar net, or the bit of a vector at an index, by the plain name of the net or the vector

@@ -1,7 +1,8 @@
 use Rattle.std.proofs.Common.{ℕ, ◌≡◌, List, sym, subst}
 use Rattle.std.specs.Prelude.{IfOk}
 use Rattle.netlist_core.specs.declared.netlist.Bit.{Bit}
-use Rattle.verilog_reader.specs.Constants.{constant_size, constant_base, constant_digits, bits_in, constant_bits}
+use Rattle.verilog_checks.specs.ConstantSizes.{constant_size}
+use Rattle.verilog_reader.specs.Constants.{constant_base, constant_digits, bits_in, constant_bits}
 use Rattle.verilog_reader.specs.LastBits.{masked_bits, without_underscores}
 use Rattle.verilog_reader.proofs.constant.constant_bits.Goals as goal
 

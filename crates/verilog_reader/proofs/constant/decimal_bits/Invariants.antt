@@ -1,5 +1,5 @@
 use Rattle.std.proofs.Common.{◌≡◌, ◌%◌, ◌^◌, take}
-use Rattle.verilog_reader.specs.Values.{decimal_value}
+use Rattle.verilog_names.specs.Values.{decimal_value}
 use Rattle.verilog_reader.specs.LastBits.{without_underscores}
 use Rattle.verilog_reader.proofs.constant.decimal_bits.Given as goal
 

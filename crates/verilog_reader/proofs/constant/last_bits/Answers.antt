@@ -1,5 +1,5 @@
 use Rattle.std.proofs.Common.{◌∙◌}
-use Rattle.verilog_reader.specs.Values.{decimal_value}
+use Rattle.verilog_names.specs.Values.{decimal_value}
 use Rattle.verilog_reader.specs.LastBits.{without_underscores}
 use Rattle.verilog_reader.proofs.LastBits.{masked_bits-mod_at, masked_bits-known}
 use Rattle.verilog_reader.proofs.constant.last_bits.Goals as goal

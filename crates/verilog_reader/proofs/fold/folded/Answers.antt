@@ -1,11 +1,11 @@
 use Rattle.std.proofs.Common.{ap, ◌∙◌}
 use Rattle.std.proofs.lemmas.List.Elements.{All-same}
 use Rattle.verilog_syntax.specs.declared.reading.Placed.{Placed}
-use Rattle.verilog_reader.specs.Declarations.{declarations}
+use Rattle.verilog_names.specs.Declarations.{declarations}
 use Rattle.verilog_reader.specs.Denoted.{header_name, header_line}
-use Rattle.verilog_reader.specs.NameTables.{bounded}
+use Rattle.verilog_names.specs.NameTables.{bounded}
 use Rattle.verilog_reader.specs.Numbering.{numbered_ports, AreListed}
-use Rattle.verilog_reader.proofs.FirstNames.{bounded_firsts}
+use Rattle.verilog_names.proofs.FirstNames.{bounded_firsts}
 use Rattle.verilog_reader.proofs.FoldingPorts.{all_listed, all_fine, folded_is}
 use Rattle.verilog_reader.proofs.fold.folded.Goals as goal
 

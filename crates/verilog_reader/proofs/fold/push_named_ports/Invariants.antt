@@ -1,7 +1,7 @@
 use Rattle.std.proofs.Common.{◌≡◌, ◌++◌, drop}
 use Rattle.std.specs.List.{flat_map}
-use Rattle.verilog_reader.specs.Values.{plain_of}
-use Rattle.verilog_reader.specs.NameTables.{place}
+use Rattle.verilog_names.specs.Values.{plain_of}
+use Rattle.verilog_names.specs.NameTables.{place}
 use Rattle.verilog_reader.specs.Numbering.{port_bits}
 use Rattle.verilog_reader.proofs.fold.push_named_ports.Given as goal
 

@@ -1,5 +1,5 @@
 use Rattle.std.proofs.Common.{◌≡◌, ◌+◌, ◌-◌, ◌++◌, ℕ, map, ap, ◌∙◌, arith}
-use Rattle.verilog_reader.specs.Faults.{width_or_one}
+use Rattle.verilog_names.specs.Declarations.{width_or_one}
 use Rattle.verilog_reader.specs.Numbering.{numbers_from, numbered_port}
 use Rattle.verilog_reader.proofs.NumberedLists.{port_more, port_end}
 use Rattle.verilog_reader.proofs.fold.push_ports.Goals as goal

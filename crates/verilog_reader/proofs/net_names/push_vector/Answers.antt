@@ -1,6 +1,6 @@
 use Rattle.std.proofs.Common.{◌∙◌, arith}
-use Rattle.verilog_reader.specs.Values.{bit_name}
-use Rattle.verilog_reader.specs.Declarations.{index_at, width}
+use Rattle.verilog_names.specs.Values.{bit_name}
+use Rattle.verilog_names.specs.Declarations.{index_at, width}
 use Rattle.verilog_reader.specs.Denoted.{bit_text}
 use Rattle.verilog_reader.proofs.NumberedLists.{name_more, bit_is, pushed}
 use Rattle.verilog_reader.proofs.net_names.push_vector.Goals as goal

@@ -1,6 +1,6 @@
 use Rattle.std.proofs.Common.{◌≡◌, ◌-◌, ◌++◌, map, Some}
-use Rattle.verilog_reader.specs.Values.{bit_name}
-use Rattle.verilog_reader.specs.Declarations.{indexes_from, width}
+use Rattle.verilog_names.specs.Values.{bit_name}
+use Rattle.verilog_names.specs.Declarations.{indexes_from, width}
 use Rattle.verilog_reader.specs.Denoted.{bit_text, entry_nets}
 use Rattle.verilog_reader.proofs.net_names.push_vector.Given as goal
 

@@ -1,7 +1,7 @@
 use Rattle.std.specs.Vec.Iter.{into_iter_items}
 use Rattle.std.proofs.lemmas.List.Elements.{All-rest}
 use Rattle.verilog_syntax.specs.declared.reading.Placed.{Placed}
-use Rattle.verilog_reader.specs.Declarations.{mentions}
+use Rattle.verilog_names.specs.Declarations.{mentions}
 use Rattle.verilog_reader.specs.Numbering.{with_mentioned, HasFineItems}
 use Rattle.verilog_reader.proofs.FoldingLoops.{first_of_all, statement_fits, statement_nets, statement_assigns, statement_instances}
 use Rattle.verilog_reader.proofs.parts.parts_of.Goals as goal

@@ -1,7 +1,7 @@
 use Rattle.std.proofs.Common.{◌≡◌, ◌++◌}
 use Rattle.std.specs.List.{All}
 use Rattle.std.specs.Vec.Iter.{into_iter_items}
-use Rattle.verilog_reader.specs.Declarations.{mentions}
+use Rattle.verilog_names.specs.Declarations.{mentions}
 use Rattle.verilog_reader.specs.Numbering.{with_mentioned, numbered_assigns, numbered_instances, HasFineItems}
 use Rattle.verilog_reader.proofs.parts.parts_of.Given as goal
 

@@ -1,6 +1,6 @@
 use Rattle.std.proofs.Common.{◌+◌, drop}
 use Rattle.verilog_syntax.specs.declared.statement.Connection.{Connection}
-use Rattle.verilog_reader.specs.Declarations.{connection_items}
+use Rattle.verilog_names.specs.Declarations.{connection_items}
 use Rattle.verilog_reader.specs.Numbering.{with_items, IsFineExpression}
 use Rattle.verilog_reader.proofs.FoldingLoops.{left_is, at_index, connection_fits, connection_nets, connection_pins}
 use Rattle.verilog_reader.proofs.parts.pins_of.Goals as goal

@@ -1,5 +1,5 @@
 use Rattle.std.proofs.Common.{◌≡◌, ◌++◌, drop, map}
-use Rattle.verilog_reader.specs.Declarations.{connection_items}
+use Rattle.verilog_names.specs.Declarations.{connection_items}
 use Rattle.verilog_reader.specs.Numbering.{with_items, numbered_connection}
 use Rattle.verilog_reader.proofs.parts.pins_of.Given as goal
 

@@ -1,6 +1,6 @@
 use Rattle.std.proofs.Common.{sym, ◌∙◌}
-use Rattle.verilog_reader.specs.NameTables.{bounded}
-use Rattle.verilog_reader.proofs.Tables.{within}
+use Rattle.verilog_names.specs.NameTables.{bounded}
+use Rattle.verilog_names.proofs.Tables.{within}
 use Rattle.verilog_reader.proofs.nets.Nets.entry.Goals as goal
 
 pub returns-clause-within : goal.returns-clause-within

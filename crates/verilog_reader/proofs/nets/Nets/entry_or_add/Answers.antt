@@ -1,8 +1,8 @@
 use Rattle.std.proofs.Common.{sym, ◌∙◌}
 use Rattle.std.proofs.lemmas.Result.{IfOk-weaker}
-use Rattle.verilog_reader.specs.NameTables.{bounded}
-use Rattle.verilog_reader.proofs.Tables.{within}
-use Rattle.verilog_reader.proofs.FirstNames.{no_first}
+use Rattle.verilog_names.specs.NameTables.{bounded}
+use Rattle.verilog_names.proofs.Tables.{within}
+use Rattle.verilog_names.proofs.FirstNames.{no_first}
 use Rattle.verilog_reader.proofs.nets.Nets.entry_or_add.Goals as goal
 
 pub append-requires : goal.append-requires

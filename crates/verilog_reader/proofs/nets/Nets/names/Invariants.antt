@@ -1,7 +1,7 @@
 use Rattle.std.proofs.Common.{◌≡◌, ◌++◌}
 use Rattle.std.specs.List.{flat_map}
 use Rattle.verilog_reader.specs.Denoted.{entry_nets}
-use Rattle.verilog_reader.specs.NameTables.{bounded, firsts_in}
+use Rattle.verilog_names.specs.NameTables.{bounded, firsts_in}
 use Rattle.verilog_reader.proofs.nets.Nets.names.Given as goal
 
 abbrev pub invariant-loop-name : goal.invariant-loop-name

@@ -1,0 +1,72 @@
+-- What a check answers, by places: the first statement that fails its test.
+use Rattle.std.proofs.Common.{◌≡◌, ℕ, zero, suc, ◌<◌, Bool, true, false, cond, List, [], ◌∷◌, ◌++◌, take, Some, Ok, Err, refl, sym, ap, ◌∙◌, subst, append_assoc, arith}
+use Rattle.std.specs.Prelude.{slice_get}
+use Rattle.std.proofs.lemmas.List.{append-nil}
+use Rattle.text_scan.specs.declared.fault.Fault.{Fault}
+use Rattle.text_scan.specs.declared.kind.Kind.{Kind}
+use Rattle.verilog_syntax.specs.declared.reading.Placed.{Placed}
+use Rattle.verilog_syntax.specs.Reading.{fault_at}
+use Rattle.verilog_checks.specs.Faults.{check_from, check, IsFirstBad}
+
+-- the same where more statements stand before
+record IsFirstBehind (bad : List Placed → Placed → Bool) (before ps : List Placed) (i : ℕ) (p : Placed) : Type 0 where
+  there : slice_get ps i ≡ Some p
+  fails : bad (before ++ take i ps) p ≡ true
+  first : (j : ℕ) (q : Placed) → j < i → slice_get ps j ≡ Some q → bad (before ++ take j ps) q ≡ false
+
+module _ (bad : List Placed → Placed → Bool) (kind : Kind) where
+  abbrev Found : List Placed → List Placed → Fault → Type 0
+  Found before ps f = (i : ℕ) × (p : Placed) × IsFirstBehind bad before ps i p × (f ≡ fault_at kind p.line)
+
+  regroup : (before : List Placed) (q : Placed) (i : ℕ) (qs : List Placed) (p : Placed) (b : Bool) → bad ((before ++ q ∷ []) ++ take i qs) p ≡ b → bad (before ++ (q ∷ take i qs)) p ≡ b
+  regroup before q i qs p b h = ap (λ (l : List Placed). bad l p) (sym (append_assoc before (q ∷ []) (take i qs))) ∙ h
+
+  at_first : (before : List Placed) (q : Placed) (b : Bool) → bad before q ≡ b → bad (before ++ []) q ≡ b
+  at_first before q b h = ap (λ (l : List Placed). bad l q) (append-nil before) ∙ h
+
+  behind : (before : List Placed) (q : Placed) (qs : List Placed) (f : Fault) → bad before q ≡ false → Found (before ++ q ∷ []) qs f → Found before (q ∷ qs) f
+  behind before q qs f good found =
+      let w = found.2 in
+      let each : (j : ℕ) (r : Placed) → j < suc found.0 → slice_get (q ∷ qs) j ≡ Some r → bad (before ++ take j (q ∷ qs)) r ≡ false
+      = λ j r. elim j as (λ j. j < suc found.0 → slice_get (q ∷ qs) j ≡ Some r → bad (before ++ take j (q ∷ qs)) r ≡ false) [
+        | zero ↦ λ lt is. let same : q ≡ r = cc in subst (λ (x : Placed). bad (before ++ []) x ≡ false) same (at_first before q false good)
+        | suc j ↦ λ lt is. regroup before q j qs r false (w.first j r (omega arith) is)
+      ]
+      in
+      (suc found.0, found.1, record { there = w.there; fails = regroup before q found.0 qs found.1 true w.fails; first = each }, found.3)
+
+  found_from : (ps before : List Placed) (f : Fault) → check_from bad kind before ps ≡ Err f → Found before ps f
+  unfolding check_from
+  found_from [] before f h = absurd cc
+  found_from (q ∷ qs) before f h =
+      let cases : (t : Bool) → bad before q ≡ t → cond t (Err (fault_at kind q.line)) (check_from bad kind (before ++ q ∷ []) qs) ≡ Err f → Found before (q ∷ qs) f
+      = λ t. elim t as (λ t. bad before q ≡ t → cond t (Err (fault_at kind q.line)) (check_from bad kind (before ++ q ∷ []) qs) ≡ Err f → Found before (q ∷ qs) f) [
+        | true ↦ λ e k. (0, q, record { there = refl; fails = at_first before q true e; first = λ j r lt is. absurd (omega arith) }, cc)
+        | false ↦ λ e k. behind before q qs f e (found_from qs (before ++ q ∷ []) f k)
+      ]
+      in cases (bad before q) refl h
+
+  -- a fault is that of the first bad statement
+  pub check-first : (ps : List Placed) (f : Fault) → check bad kind ps ≡ Err f → (i : ℕ) × (p : Placed) × IsFirstBad bad ps i p × (f ≡ fault_at kind p.line)
+  check-first ps f h =
+      let found = found_from ps [] f h in
+      let w = found.2 in
+      (found.0, found.1, record { there = w.there; fails = w.fails; first = w.first }, found.3)
+
+  good_from : (ps before : List Placed) → check_from bad kind before ps ≡ Ok tt → (j : ℕ) (r : Placed) → slice_get ps j ≡ Some r → bad (before ++ take j ps) r ≡ false
+  unfolding check_from
+  good_from [] before h = λ j r is. absurd cc
+  good_from (q ∷ qs) before h =
+      let cases : (t : Bool) → bad before q ≡ t → cond t (Err (fault_at kind q.line)) (check_from bad kind (before ++ q ∷ []) qs) ≡ Ok tt → (j : ℕ) (r : Placed) → slice_get (q ∷ qs) j ≡ Some r → bad (before ++ take j (q ∷ qs)) r ≡ false
+      = λ t. elim t as (λ t. bad before q ≡ t → cond t (Err (fault_at kind q.line)) (check_from bad kind (before ++ q ∷ []) qs) ≡ Ok tt → (j : ℕ) (r : Placed) → slice_get (q ∷ qs) j ≡ Some r → bad (before ++ take j (q ∷ qs)) r ≡ false) [
+        | true ↦ λ e k j r is. absurd cc
+        | false ↦ λ e k j r. elim j as (λ j. slice_get (q ∷ qs) j ≡ Some r → bad (before ++ take j (q ∷ qs)) r ≡ false) [
+          | zero ↦ λ is. let same : q ≡ r = cc in subst (λ (x : Placed). bad (before ++ []) x ≡ false) same (at_first before q false e)
+          | suc j ↦ λ is. regroup before q j qs r false (good_from qs (before ++ q ∷ []) k j r is)
+        ]
+      ]
+      in cases (bad before q) refl h
+
+  -- where there is no fault, no statement is bad
+  pub check-good : (ps : List Placed) → check bad kind ps ≡ Ok tt → (j : ℕ) (r : Placed) → slice_get ps j ≡ Some r → bad (take j ps) r ≡ false
+  check-good ps h j r is = good_from ps [] h j r is

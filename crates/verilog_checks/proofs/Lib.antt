@@ -1,0 +1,15 @@
+pub mod Again
+pub mod AnyLemmas
+pub mod BitLookups
+pub mod BitNames
+pub mod CheckLaw
+pub mod Clean
+pub mod ClosedNames
+pub mod Counting
+pub mod Firsts
+pub mod NameLists
+pub mod Passes
+pub mod Ports
+pub mod SeenMore
+pub mod Small
+pub mod Undeclared

@@ -1,0 +1,7 @@
+use Rattle.std.proofs.Common.{◌≡◌, take, drop}
+use Rattle.text_scan.specs.declared.kind.Kind.TheVariants.{BadSelect}
+use Rattle.verilog_checks.specs.Faults.{check_from, bad_select, check_select}
+use Rattle.verilog_checks.proofs.select.check_select.Given as goal
+
+abbrev pub invariant-loop-placed : goal.invariant-loop-placed
+invariant-loop-placed l = check_from (λ before p. bad_select l.statements p) BadSelect (take l.placed-index l.statements) (drop l.placed-index l.statements) ≡ check_select l.statements

@@ -1,0 +1,217 @@
+-- The faults of a Verilog text beyond its form: each kind is a test of a statement beside those before it, and beside all.
+-- Of the kinds that occur the least is answered, and of that the first statement that fails its test.
+use Rattle.std.specs.Prelude.{◌≡◌, ℕ, ◌+◌, ◌<◌, Bool, true, false, ◌&&◌, ◌||◌, not, nat_lt, ◌==◌, if◌then◌else◌, List, [], ◌∷◌, ◌++◌, map, filter, take, slice_get, Option, Some, None, is_some, Result, Ok, Err}
+use Rattle.std.specs.List.{flat_map, list_any, sum_by}
+use Rattle.std.specs.Str.{bytes_eq}
+use Rattle.text_scan.specs.declared.fault.Fault.{Fault}
+use Rattle.text_scan.specs.declared.fault.ReadFault.{ReadFault}
+use Rattle.text_scan.specs.declared.fault.ReadFault.TheVariants as faults
+use Rattle.text_scan.specs.declared.kind.Kind.{Kind}
+use Rattle.text_scan.specs.declared.kind.Kind.TheVariants.{VerilogNumber, VerilogTwice, BadSelect}
+use Rattle.verilog_syntax.specs.declared.statement.Range.{Range}
+use Rattle.verilog_syntax.specs.declared.statement.Item.{Item}
+use Rattle.verilog_syntax.specs.declared.statement.Item.TheVariants as items
+use Rattle.verilog_syntax.specs.declared.statement.Expression.{Expression}
+use Rattle.verilog_syntax.specs.declared.statement.Statement.{Statement}
+use Rattle.verilog_syntax.specs.declared.statement.Statement.TheVariants as statements
+use Rattle.verilog_syntax.specs.declared.reading.Placed.{Placed}
+use Rattle.verilog_syntax.specs.Reading.{fault_at, result_and_then, read_statements}
+use Rattle.verilog_names.specs.declared.bounds.Bounds.{Bounds}
+use Rattle.verilog_names.specs.Values.{plain_of, decimal_value, is_big_index, bit_name}
+use Rattle.verilog_checks.specs.ConstantSizes.{constant_size}
+use Rattle.verilog_names.specs.Declarations.{width, indexes, Declaration, declarations_in, declarations, is_named, first_of, bounds_in, is_port_kind, is_wire, ports_in, header_ports, has, items_in, mentions_in, undeclared_in, width_or_one, selects, selects_part, part_of}
+
+-- the first statement that fails a test beside those before it
+unfoldable pub check_from : (List Placed → Placed → Bool) → Kind → List Placed → List Placed → Result (Unit {0}) Fault
+check_from bad kind before [] = Ok tt
+check_from bad kind before (p ∷ ps) = if bad before p then Err (fault_at kind p.line) else check_from bad kind (before ++ p ∷ []) ps
+
+abbrev pub check : (List Placed → Placed → Bool) → Kind → List Placed → Result (Unit {0}) Fault
+check bad kind ps = check_from bad kind [] ps
+
+-- in plain words: the statement at a place fails, and none before it does
+pub record IsFirstBad (bad : List Placed → Placed → Bool) (ps : List Placed) (i : ℕ) (p : Placed) : Type 0 where
+  pub there : slice_get ps i ≡ Some p
+  pub fails : bad (take i ps) p ≡ true
+  pub first : (j : ℕ) (q : Placed) → j < i → slice_get ps j ≡ Some q → bad (take j ps) q ≡ false
+
+-- VerilogNumber: an index beyond 65535, a constant's size of 0 or beyond 128, or with this statement the declared vectors
+-- have more than 16777216 bits together
+
+abbrev pub is_bad_size : List ℕ → Bool
+is_bad_size text = constant_size text == 0 || nat_lt 128 (constant_size text)
+
+abbrev pub is_bad_number : Item → Bool
+is_bad_number items.Open = false
+is_bad_number items.Comma = false
+is_bad_number items.Close = false
+is_bad_number (items.Name name) = false
+is_bad_number (items.Bit name index) = is_big_index index
+is_bad_number (items.Part name left right) = is_big_index left || is_big_index right
+is_bad_number (items.Constant text) = is_bad_size text
+
+abbrev pub is_bad_range : Option Range → Bool
+is_bad_range None = false
+is_bad_range (Some range) = is_big_index range.left || is_big_index range.right
+
+abbrev pub range_in : Statement → Option Range
+range_in (statements.Module name ports) = None
+range_in (statements.Declare kind range names) = range
+range_in (statements.Assign left right) = None
+range_in (statements.Instance cell name connections) = None
+
+abbrev pub is_vector : Declaration → Bool
+is_vector d = is_some d.bounds
+
+-- a name is counted once, by its first declaration with a range
+abbrev pub added_bits : List Declaration → Declaration → Option Bounds → ℕ
+added_bits before d None = 0
+added_bits before d (Some b) = if list_any (λ e. is_named d.name e && is_vector e) before then 0 else width b
+
+unfoldable pub vector_bits_from : List Declaration → List Declaration → ℕ
+vector_bits_from before [] = 0
+vector_bits_from before (d ∷ ds) = added_bits before d d.bounds + vector_bits_from (before ++ d ∷ []) ds
+
+abbrev pub vector_bits : List Declaration → ℕ
+vector_bits ds = vector_bits_from [] ds
+
+unfoldable pub bad_number : List Placed → Placed → Bool
+bad_number before p =
+    is_bad_range (range_in p.statement) || list_any is_bad_number (items_in p.statement)
+    || nat_lt 16777216 (vector_bits (declarations (before ++ p ∷ [])))
+
+-- VerilogTwice: an instance, a pin of one instance, a header port or a declared net has a name that stood before, or a
+-- scalar net and a bit of a declared vector have one name, at the later of the two
+
+abbrev pub has_twice : List (List ℕ) → Bool
+has_twice [] = false
+has_twice (name ∷ names) = has names name || has_twice names
+
+abbrev pub same_bounds : Option Bounds → Option Bounds → Bool
+same_bounds None None = true
+same_bounds None (Some b) = false
+same_bounds (Some a) None = false
+same_bounds (Some a) (Some b) = a.left == b.left && a.right == b.right
+
+-- a port declared again as wire with the same range is no fault
+abbrev pub may_stand_again : Declaration → Declaration → Bool
+may_stand_again first d = is_port_kind first.kind && is_wire d.kind && same_bounds first.bounds d.bounds
+
+abbrev pub stands_again : Option Declaration → Declaration → Bool
+stands_again None d = false
+stands_again (Some first) d = not (may_stand_again first d)
+
+unfoldable pub any_again : List Declaration → List Declaration → Bool
+any_again before [] = false
+any_again before (d ∷ ds) = stands_again (first_of d.name before) d || any_again (before ++ d ∷ []) ds
+
+abbrev pub instances_named : Statement → List (List ℕ)
+instances_named (statements.Module name ports) = []
+instances_named (statements.Declare kind range names) = []
+instances_named (statements.Assign left right) = []
+instances_named (statements.Instance cell name connections) = plain_of name ∷ []
+
+abbrev pub instance_names : List Placed → List (List ℕ)
+instance_names ps = flat_map (λ p. instances_named p.statement) ps
+
+abbrev pub pins_in : Statement → List (List ℕ)
+pins_in (statements.Module name ports) = []
+pins_in (statements.Declare kind range names) = []
+pins_in (statements.Assign left right) = []
+pins_in (statements.Instance cell name connections) = map (λ c. plain_of c.pin) connections
+
+-- a vector has a bit of this name
+abbrev pub has_bit_in : List ℕ → Option Bounds → List ℕ → Bool
+has_bit_in vector None name = false
+has_bit_in vector (Some b) name = list_any (λ i. bytes_eq (bit_name vector i) name) (indexes b)
+
+-- the scalar nets that a statement declares, or mentions where no statement declares them
+abbrev pub scalars_in : List Declaration → Statement → List (List ℕ)
+scalars_in all statement = map (λ d. d.name) (filter (λ d. not (is_vector d)) (declarations_in statement)) ++ undeclared_in all (mentions_in statement)
+
+abbrev pub scalars : List Declaration → List Placed → List (List ℕ)
+scalars all ps = flat_map (λ p. scalars_in all p.statement) ps
+
+-- one of the names is a bit of a vector that is declared here, with the bounds of its first declaration
+abbrev pub are_bits : List Declaration → List (List ℕ) → Bool
+are_bits ds names = list_any (λ d. list_any (has_bit_in d.name (bounds_in ds d.name)) names) ds
+
+-- one of the vectors that these declare has a bit of one of the names
+abbrev pub have_bits : List Declaration → List (List ℕ) → Bool
+have_bits ds names = list_any (λ d. list_any (has_bit_in d.name d.bounds) names) ds
+
+unfoldable pub bad_twice : List Placed → List Placed → Placed → Bool
+bad_twice all before p =
+    has_twice (ports_in p.statement)
+    || any_again (declarations before) (declarations_in p.statement)
+    || list_any (has (instance_names before)) (instances_named p.statement)
+    || has_twice (pins_in p.statement)
+    || are_bits (declarations before) (scalars_in (declarations all) p.statement)
+    || have_bits (declarations_in p.statement) (scalars (declarations all) before)
+
+-- BadSelect: a select outside its declaration or of a name that is no declared vector, an assign whose sides differ in
+-- width, a header port without a direction, or a name with a direction that isn't in the header
+
+-- at each name, the bounds of the declared vector
+abbrev pub BoundsAt : Type 0
+BoundsAt = List ℕ → Option Bounds
+
+abbrev pub is_bad_select : BoundsAt → Item → Bool
+is_bad_select bounds items.Open = false
+is_bad_select bounds items.Comma = false
+is_bad_select bounds items.Close = false
+is_bad_select bounds (items.Name name) = false
+is_bad_select bounds (items.Bit name index) = not (selects (bounds (plain_of name)) (decimal_value index))
+is_bad_select bounds (items.Part name left right) = not (selects_part (bounds (plain_of name)) (part_of left right))
+is_bad_select bounds (items.Constant text) = false
+
+abbrev pub item_width : BoundsAt → Item → ℕ
+item_width bounds items.Open = 0
+item_width bounds items.Comma = 0
+item_width bounds items.Close = 0
+item_width bounds (items.Name name) = width_or_one (bounds (plain_of name))
+item_width bounds (items.Bit name index) = 1
+item_width bounds (items.Part name left right) = width (part_of left right)
+item_width bounds (items.Constant text) = constant_size text
+
+abbrev pub expression_width : BoundsAt → Expression → ℕ
+expression_width bounds e = sum_by (item_width bounds) e.items
+
+abbrev pub has_direction : List Declaration → List ℕ → Bool
+has_direction ds name = list_any (λ d. is_named name d && is_port_kind d.kind) ds
+
+abbrev pub is_badly_listed : List (List ℕ) → Declaration → Bool
+is_badly_listed ports d = is_port_kind d.kind && not (has ports d.name)
+
+abbrev pub differ_in_width : BoundsAt → Statement → Bool
+differ_in_width bounds (statements.Module name ports) = false
+differ_in_width bounds (statements.Declare kind range names) = false
+differ_in_width bounds (statements.Assign left right) = not (expression_width bounds left == expression_width bounds right)
+differ_in_width bounds (statements.Instance cell name connections) = false
+
+unfoldable pub bad_select : List Placed → Placed → Bool
+bad_select all p =
+    list_any (is_bad_select (bounds_in (declarations all))) (items_in p.statement)
+    || differ_in_width (bounds_in (declarations all)) p.statement
+    || list_any (λ port. not (has_direction (declarations all) port)) (ports_in p.statement)
+    || list_any (is_badly_listed (header_ports all)) (declarations_in p.statement)
+
+abbrev pub check_number : List Placed → Result (Unit {0}) Fault
+check_number ps = check bad_number VerilogNumber ps
+
+abbrev pub check_twice : List Placed → Result (Unit {0}) Fault
+check_twice ps = check (bad_twice ps) VerilogTwice ps
+
+abbrev pub check_select : List Placed → Result (Unit {0}) Fault
+check_select ps = check (λ before p. bad_select ps p) BadSelect ps
+
+-- the statements of a text without a fault, or its first fault
+unfoldable pub read_faultless : List ℕ → Result (List Placed) Fault
+read_faultless text =
+    result_and_then (λ ps. result_and_then (λ a. result_and_then (λ b. result_and_then (λ c. Ok ps) (check_select ps)) (check_twice ps)) (check_number ps)) (read_statements text)
+
+-- a fault that is answered is the first of the text, and nothing else is refused; want of memory says nothing
+abbrev pub IsRefused : {X Y : Type 0} → Result X ReadFault → Result Y Fault → Type 0
+IsRefused (Ok x) read = Unit {0}
+IsRefused (Err (faults.Fault fault)) read = read ≡ Err fault
+IsRefused (Err faults.NoMemory) read = Unit {0}

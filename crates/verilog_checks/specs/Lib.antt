@@ -1,0 +1,4 @@
+pub mod ConstantSizes
+pub mod Faults
+pub mod Steps
+pub mod Seen

@@ -1,0 +1,21 @@
+//! The faults of a Verilog module's statements beyond their form.
+//!
+//! Floor: readers, on verilog_names, verilog_syntax and text_scan.
+//! Contract: `check_number`, `check_twice` and `check_select` answer the first statement that fails their test in
+//! `specs/Faults.antt`, or none; `check_twice` hands out the declared names that it gathered. Begin with `number.rt`.
+#![tactic(auto)]
+
+mod bit_names;
+mod faults;
+mod few;
+mod name_lists;
+mod number;
+mod ranges;
+mod scalars;
+mod select;
+mod twice;
+
+pub use number::{check_number, constant_size, is_bad_size, size_digits};
+pub use ranges::small_value;
+pub use select::check_select;
+pub use twice::check_twice;

@@ -1,0 +1,73 @@
+//! Names and numbers as values.
+ghost use Rattle.std.specs.Prelude.{◌≡◌, ◌<◌, ◌≤◌, ◌++◌, length, not, MatchOption, OnOk};
+ghost use Rattle.std.specs.List.{prefix_len};
+ghost use Rattle.text_scan.specs.VerilogTokens.{is_blank};
+ghost use Rattle.verilog_names.specs.Values.{plain_of, decimal_value, bit_name};
+
+use std::alloc::Global;
+use text_scan::{NoMemory, is_blank};
+use verilog_syntax::Written;
+
+fn name_len(bytes: &[u8]) -> usize
+    ensures value { result ≡ prefix_len (λ c. not (is_blank c)) bytes.now }
+    ensures within { result ≤ length bytes.now }
+{
+    bytes.iter().take_while(|b| !is_blank(**b)).count()
+}
+
+fn without_escape(text: &[u8]) -> &[u8]
+    ensures value { result.now ≡ plain_of text.now }
+{
+    match text {
+        [b'\\', name @ ..] => &name[..name_len(name)],
+        _ => text,
+    }
+}
+
+/// A name without its escape.
+pub fn plain_of<'a>(name: &Written<'a>) -> &'a [u8]
+    ensures value { result.now ≡ plain_of name.now }
+{
+    without_escape(name.text())
+}
+
+/// The value of a decimal, None where it exceeds a limit.
+fn value_within(limit: u32, digits: &[u8]) -> Option<u32>
+    requires limit { limit ≤ 65535 }
+    ensures value { MatchOption result (limit < decimal_value digits.now) (λ v. decimal_value digits.now ≡ v) }
+    ensures small { MatchOption result (length digits.now ≡ length digits.now) (λ v. v ≤ limit) }
+{
+    let mut value = 0u32;
+    for digit in digits {
+        value = value * 10 + u32::from(digit.saturating_sub(b'0'));
+        if value > limit {
+            return None;
+        }
+    }
+    Some(value)
+}
+
+/// The value of a decimal that is an index, None where it exceeds 65535.
+pub fn index_value(digits: &[u8]) -> Option<u32>
+    ensures value { MatchOption result (65535 < decimal_value digits.now) (λ v. decimal_value digits.now ≡ v) }
+    ensures small { MatchOption result (length digits.now ≡ length digits.now) (λ v. v ≤ 65535) }
+{
+    value_within(65535, digits)
+}
+
+/// Appends the plain name of a bit of a vector.
+pub fn push_bit_name(
+    alloc: Global,
+    out: &mut Vec<u8>,
+    name: &[u8],
+    index: u32,
+) -> Result<(), NoMemory>
+    ensures value { OnOk result (out.new.items ≡ out.old.items ++ bit_name name.now index) }
+{
+    let number = format!(in alloc; "{index}")?;
+    out.extend_from_slice(name)?;
+    out.extend_from_slice(b"[")?;
+    out.extend_from_slice(number.as_bytes())?;
+    out.extend_from_slice(b"]")?;
+    Ok(())
+}

@@ -1,5 +1,0 @@
-use Rattle.std.proofs.Common.{length}
-use Rattle.verilog_reader.proofs.few.+has_pin_twice.Given as goal
-
-abbrev pub decreases-has_pin_twice : goal.decreases-has_pin_twice
-decreases-has_pin_twice l = length l.connections.now

@@ -1,7 +1,0 @@
-use Rattle.std.proofs.Common.{take}
-use Rattle.verilog_reader.specs.Declarations.{declarations}
-use Rattle.verilog_reader.specs.Seen.{AreClosed}
-use Rattle.verilog_reader.proofs.scalars.closed_declared.Given as goal
-
-abbrev pub invariant-loop-placed : goal.invariant-loop-placed
-invariant-loop-placed l = AreClosed l.set (declarations (take l.placed-index l.statements))
