@@ -1,5 +1,5 @@
 //! The sources of each class of nets, found once for all sinks.
-ghost use Rattle.std.specs.Prelude.{◌≡◌, ◌<◌, ℕ, ◌+◌, ◌==◌, ◌&&◌, length, slice_index, MatchOption, IfSome, IfOk, OnOk, replicate};
+ghost use Rattle.std.specs.Prelude.{◌≡◌, ◌<◌, ℕ, ◌+◌, length, slice_index, MatchOption, IfSome, IfOk, OnOk, replicate};
 ghost use Rattle.netlist_core.specs.declared.netlist.NetId.{NetId};
 ghost use Rattle.netlist_core.specs.Netlists.{IsNetlist};
 ghost use Rattle.netlist_core.specs.Joining.{AreClassesOf};
