@@ -3,7 +3,7 @@ ghost use Rattle.std.specs.Prelude.{◌≡◌, ◌++◌, ◌∷◌, [], false, A
 ghost use Rattle.chain_trace.specs.Paths.{scan_path_at, out_pin_at};
 ghost use Rattle.chain_trace.specs.Parities.{Mark, Turn, Bit, bit_marks, step_marks, entry_marks, path_marks, AreBitsOf, NamesEntry, GoesOn};
 
-use crate::entry::scan_path;
+use crate::entry::{out_pin, scan_path};
 use crate::path::{BitId, Path, PathBits, Step};
 use cell_table::{CellTable, OutPin, ScanPath};
 use netlist_core::Netlist;
@@ -71,7 +71,7 @@ impl PathBits {
         let Some(path) = scan_path(netlist, table, step.instance, step.path) else {
             unreachable!()
         };
-        let Some(out) = path.outs.as_slice().get(step.out as usize) else {
+        let Some(out) = out_pin(path, step.out) else {
             unreachable!()
         };
         self.put_entry(step, path, out)

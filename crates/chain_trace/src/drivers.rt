@@ -1,16 +1,17 @@
 //! The sources of each class of nets, found once for all sinks.
-ghost use Rattle.std.specs.Prelude.{◌≡◌, ◌<◌, ℕ, ◌+◌, ◌==◌, ◌&&◌, length, slice_index, MatchOption, IfSome, IfOk, OnOk, replicate, Some, None, if◌then◌else◌};
+ghost use Rattle.std.specs.Prelude.{◌≡◌, ◌<◌, ℕ, ◌+◌, length, slice_index, MatchOption, IfSome, IfOk, OnOk, replicate};
 ghost use Rattle.netlist_core.specs.declared.netlist.NetId.{NetId};
 ghost use Rattle.netlist_core.specs.Netlists.{IsNetlist};
 ghost use Rattle.netlist_core.specs.Joining.{AreClassesOf};
-ghost use Rattle.chain_trace.specs.Paths.{drives, has_port, AreApart};
+ghost use Rattle.chain_trace.specs.Paths.{AreApart};
 ghost use Rattle.chain_trace.specs.declared.path.Sink.{Sink};
 ghost use Rattle.chain_trace.specs.Drivers.{IsAdded, IsPut, AreDrivers, IsDone};
 
 use crate::entry::scan_path;
 use crate::path::{Source, Step};
+use crate::ports::drives;
 use cell_table::CellTable;
-use netlist_core::{Classes, Direction, NetId, Netlist, net_of};
+use netlist_core::{Classes, NetId, Netlist, net_of};
 use std::alloc::Global;
 use text_scan::NoMemory;
 
@@ -61,37 +62,6 @@ pub(crate) fn put_at(
         return;
     };
     put(drivers, classes.class_of(net).0 as usize, source);
-}
-
-fn drives(direction: Direction) -> bool
-    ensures value { result ≡ drives direction }
-{
-    match direction {
-        Direction::Input | Direction::Inout => true,
-        Direction::Output => false,
-    }
-}
-
-fn is_source_port(netlist: &Netlist, net: NetId) -> bool
-    ensures value { result ≡ has_port drives netlist.now net }
-{
-    for port in netlist.ports.as_slice() {
-        if port.net.0 == net.0 && drives(port.direction) {
-            return true;
-        }
-    }
-    false
-}
-
-/// The net, where it is a bit of an input or inout port.
-pub(crate) fn port_source(netlist: &Netlist, net: NetId) -> Option<NetId>
-    ensures value { result ≡ (if has_port drives netlist.now net then Some net else None) }
-{
-    if is_source_port(netlist, net) {
-        Some(net)
-    } else {
-        None
-    }
 }
 
 fn put_ports(

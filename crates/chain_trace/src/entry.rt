@@ -1,12 +1,15 @@
-//! The entries of the table that an instance's cell has.
-ghost use Rattle.std.specs.Prelude.{◌≡◌, option_map};
-ghost use Rattle.chain_trace.specs.Paths.{scan_path_at};
+//! The entries of the table that an instance's cell has, and the nets of sources.
+ghost use Rattle.std.specs.Prelude.{◌≡◌, option_map, slice_get};
+ghost use Rattle.chain_trace.specs.declared.path.Source.{Source};
+ghost use Rattle.chain_trace.specs.Paths.{scan_path_at, source_net};
 
-use cell_table::{CellTable, ScanPath};
-use netlist_core::Netlist;
+use crate::path::{Source, Step};
+use crate::ports::is_source_port;
+use cell_table::{CellTable, OutPin, ScanPath};
+use netlist_core::{NetId, Netlist, net_of};
 
 /// A scan path of an instance's cell, by its number.
-pub(crate) fn scan_path<'a>(
+pub fn scan_path<'a>(
     netlist: &Netlist,
     table: &'a CellTable,
     instance: u32,
@@ -17,4 +20,31 @@ pub(crate) fn scan_path<'a>(
     let placed = netlist.instances.as_slice().get(instance as usize)?;
     let paths = table.get(&placed.cell)?;
     paths.get(path as usize)
+}
+
+/// An out pin of a scan path, by its number.
+pub fn out_pin(path: &ScanPath, out: u32) -> Option<&OutPin>
+    ensures value { option_map (λ out. out.now) result ≡ slice_get path.now.outs out }
+{
+    path.outs.as_slice().get(out as usize)
+}
+
+/// The net of a step's out pin, where its expression is one net bit.
+pub fn out_net(netlist: &Netlist, table: &CellTable, step: Step) -> Option<NetId>
+    ensures value { result ≡ source_net netlist.now table.now (Source.Out step) }
+{
+    let path = scan_path(netlist, table, step.instance, step.path)?;
+    let out = out_pin(path, step.out)?;
+    net_of(netlist, step.instance, &out.pin)
+}
+
+/// The net that a source stands on: that of an input or inout port bit, or of a step's out pin.
+pub fn source_net(netlist: &Netlist, table: &CellTable, source: Source) -> Option<NetId>
+    ensures value { result ≡ source_net netlist.now table.now source }
+{
+    match source {
+        Source::Port(net) if is_source_port(netlist, net) => Some(net),
+        Source::Port(_) => None,
+        Source::Out(step) => out_net(netlist, table, step),
+    }
 }

@@ -2,7 +2,7 @@
 ghost use Rattle.std.specs.Prelude.{◌≡◌, MatchOption};
 ghost use Rattle.netlist_core.specs.declared.netlist.NetId.{NetId};
 ghost use Rattle.netlist_core.specs.Netlists.{plain_of};
-ghost use Rattle.chain_trace.specs.Paths.{is_driven, drives};
+ghost use Rattle.chain_trace.specs.Paths.{is_driven, drives, has_port};
 ghost use Rattle.chain_trace.specs.Named.{IsPortNamed};
 
 use netlist_core::{Direction, NetId, NetName, Netlist};
@@ -17,16 +17,30 @@ pub fn plain_of(nets: &[NetName], net: NetId) -> &[u8]
     }
 }
 
-fn is_driven(direction: Direction) -> bool
+/// Whether a port of this direction is driven by what stands in the module: an output or inout port.
+pub fn is_driven(direction: Direction) -> bool
     ensures value { result ≡ is_driven direction }
 {
     matches!(direction, Direction::Output | Direction::Inout)
 }
 
-fn drives(direction: Direction) -> bool
+/// Whether a port of this direction drives what stands in the module: an input or inout port.
+pub fn drives(direction: Direction) -> bool
     ensures value { result ≡ drives direction }
 {
     matches!(direction, Direction::Input | Direction::Inout)
+}
+
+/// Whether the net is a bit of an input or inout port.
+pub fn is_source_port(netlist: &Netlist, net: NetId) -> bool
+    ensures value { result ≡ has_port drives netlist.now net }
+{
+    for port in netlist.ports.as_slice() {
+        if port.net.0 == net.0 && drives(port.direction) {
+            return true;
+        }
+    }
+    false
 }
 
 /// The bit of an output or inout port that has this plain name.

@@ -4,7 +4,7 @@ ghost use Rattle.netlist_core.specs.Netlists.{IsNetlist};
 ghost use Rattle.netlist_core.specs.Joining.{AreClassesOf};
 ghost use Rattle.chain_trace.specs.Paths.{is_driven, has_port};
 
-use crate::{BitId, Step, bits_of, input_named, output_named, plain_of, trace};
+use crate::{BitId, Step, bits_of, input_named, is_driven, output_named, plain_of, trace};
 use cell_table::{CellTable, read_table, small_table};
 use netlist_core::{
     Assign, Bit, Bits, Classes, Connection, Direction, Expr, Instance, NetId, NetName, Netlist,
@@ -150,12 +150,6 @@ fn three_flops(
         put_instance(&mut netlist, alloc, "SDF", line, &pins)?;
     }
     Ok(netlist)
-}
-
-fn is_driven(direction: Direction) -> bool
-    ensures value { result ≡ is_driven direction }
-{
-    matches!(direction, Direction::Output | Direction::Inout)
 }
 
 fn is_output(netlist: &Netlist, net: NetId) -> bool

@@ -7,7 +7,8 @@ ghost use Rattle.chain_trace.specs.Paths.{is_driven, has_port, IsScanPath};
 ghost use Rattle.chain_trace.specs.Faults.{IsTraceFault, IfFault};
 ghost use Rattle.chain_trace.specs.Parities.{NamesEntry};
 
-use crate::drivers::{drivers_of, port_source, put_at};
+use crate::drivers::{drivers_of, put_at};
+use crate::entry::source_net;
 use crate::path::{Path, Source};
 use crate::walking::walk;
 use cell_table::CellTable;
@@ -38,7 +39,7 @@ pub fn trace(
 {
     let mut drivers = drivers_of(alloc, netlist, classes, table, scan_out)?;
     let first = drivers[classes.class_of(scan_out).0 as usize];
-    let own = port_source(netlist, scan_out);
+    let own = source_net(netlist, table, Source::Port(scan_out));
     put_at(&mut drivers, classes, own, Source::Port(scan_out));
     walk(alloc, netlist, classes, table, &drivers, scan_out, first)
 }

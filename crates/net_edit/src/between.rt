@@ -11,9 +11,9 @@ ghost use Rattle.net_edit.specs.Reordered.{IsReordered, sinks_of};
 
 use crate::edits::{Edits, PinEdit, PortEdit};
 use crate::links::{Link, lacks, links_of, set_of};
-use crate::nets::{assign_at, source_net};
+use crate::nets::assign_at;
 use cell_table::CellTable;
-use chain_trace::{Path, Sink, Source};
+use chain_trace::{Path, Sink, Source, source_net};
 use netlist_core::{NetId, Netlist};
 use std::alloc::Global;
 use text_scan::{NoMemory, Rows};

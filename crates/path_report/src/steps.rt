@@ -1,13 +1,11 @@
 //! The lines and the parity of a path's steps.
-ghost use Rattle.std.specs.Prelude.{◌≡◌, ◌++◌, ◌∷◌, [], List, OnOk, Some, option_map, slice_get};
+ghost use Rattle.std.specs.Prelude.{◌≡◌, ◌++◌, ◌∷◌, [], OnOk, Some};
 ghost use Rattle.std.specs.List.{flat_map};
-ghost use Rattle.cell_table.specs.Table.{paths_at};
-ghost use Rattle.chain_trace.specs.Paths.{scan_path_at};
 ghost use Rattle.chain_trace.specs.Parities.{plus};
 ghost use Rattle.path_report.specs.Reports.{odd, step_inversions, path_parity, entry_text, step_text};
 
 use cell_table::{CellTable, OutPin, ScanPath};
-use chain_trace::Step;
+use chain_trace::{Step, out_pin, scan_path};
 use netlist_core::{Instance, Netlist};
 use std::alloc::Global;
 use text_scan::NoMemory;
@@ -29,24 +27,10 @@ fn is_odd(inversions: &[bool]) -> bool
     parity
 }
 
-fn scan_path<'a>(netlist: &Netlist, table: &'a CellTable, step: Step) -> Option<&'a ScanPath>
-    ensures value { option_map (λ path. path.now) result ≡ scan_path_at netlist.now table.now step.instance step.path }
-{
-    let placed = netlist.instances.as_slice().get(step.instance as usize)?;
-    let paths = table.get(&placed.cell)?;
-    paths.get(step.path as usize)
-}
-
-fn out_pin(path: &ScanPath, out: u32) -> Option<&OutPin>
-    ensures value { option_map (λ out. out.now) result ≡ slice_get path.now.outs out }
-{
-    path.outs.as_slice().get(out as usize)
-}
-
 fn step_parity(netlist: &Netlist, table: &CellTable, step: Step) -> bool
     ensures value { result ≡ odd (step_inversions netlist.now table.now step) }
 {
-    let Some(path) = scan_path(netlist, table, step) else {
+    let Some(path) = scan_path(netlist, table, step.instance, step.path) else {
         return false;
     };
     match out_pin(path, step.out) {
@@ -107,7 +91,7 @@ pub(crate) fn push_step(
     let Some(placed) = netlist.instances.as_slice().get(step.instance as usize) else {
         return Ok(());
     };
-    let Some(path) = scan_path(netlist, table, step) else {
+    let Some(path) = scan_path(netlist, table, step.instance, step.path) else {
         return Ok(());
     };
     let Some(out) = out_pin(path, step.out) else {

@@ -32,15 +32,15 @@ pub put_at-requires-clause-net : goal.put_at-requires-clause-net
 put_at-requires-clause-net c =
     let n = c.args.netlist.now in
     let t = c.args.table.now in
-    (are_within n c.args.classes.now (length c.in_ok-drivers.drivers.items) c.port_source-own.result c.requires.classes c.in_ok-drivers.ensures.drivers.count
-    (source_in n t (sources.Port c.args.scan_out) c.port_source-own.result c.requires.netlist (sym c.port_source-own.ensures.value))).net_in
+    (are_within n c.args.classes.now (length c.in_ok-drivers.drivers.items) c.source_net-own.result c.requires.classes c.in_ok-drivers.ensures.drivers.count
+    (source_in n t (sources.Port c.args.scan_out) c.source_net-own.result c.requires.netlist (sym c.source_net-own.ensures.value))).net_in
 
 pub put_at-requires-clause-class : goal.put_at-requires-clause-class
 put_at-requires-clause-class c =
     let n = c.args.netlist.now in
     let t = c.args.table.now in
-    (are_within n c.args.classes.now (length c.in_ok-drivers.drivers.items) c.port_source-own.result c.requires.classes c.in_ok-drivers.ensures.drivers.count
-    (source_in n t (sources.Port c.args.scan_out) c.port_source-own.result c.requires.netlist (sym c.port_source-own.ensures.value))).class_in
+    (are_within n c.args.classes.now (length c.in_ok-drivers.drivers.items) c.source_net-own.result c.requires.classes c.in_ok-drivers.ensures.drivers.count
+    (source_in n t (sources.Port c.args.scan_out) c.source_net-own.result c.requires.netlist (sym c.source_net-own.ensures.value))).class_in
 
 pub walk-requires-clause-drivers : goal.walk-requires-clause-drivers
 walk-requires-clause-drivers c =
@@ -48,7 +48,7 @@ walk-requires-clause-drivers c =
     let t = c.args.table.now in
     let cs = c.args.classes.now in
     subst (λ (ds : List Found). AreDrivers n t cs IsAny ds) (sym c.deref.ensures.value)
-    (drivers_any n t cs c.args.scan_out c.in_ok-drivers.drivers.items c.put_at.new.drivers.items c.port_source-own.result (sym c.port_source-own.ensures.value)
+    (drivers_any n t cs c.args.scan_out c.in_ok-drivers.drivers.items c.put_at.new.drivers.items c.source_net-own.result (sym c.source_net-own.ensures.value)
     c.put_at.ensures.put c.in_ok-drivers.ensures.drivers)
 
 pub walk-requires-clause-first : goal.walk-requires-clause-first

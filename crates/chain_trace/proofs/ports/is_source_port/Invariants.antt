@@ -1,7 +1,7 @@
 use Rattle.std.proofs.Common.{◌≡◌, ◌==◌, ◌&&◌, drop}
 use Rattle.std.specs.List.{list_any}
 use Rattle.chain_trace.specs.Paths.{drives}
-use Rattle.chain_trace.proofs.drivers.is_source_port.Given as goal
+use Rattle.chain_trace.proofs.ports.is_source_port.Given as goal
 
 abbrev pub invariant-loop-port : goal.invariant-loop-port
 invariant-loop-port l =

@@ -1,8 +1,0 @@
-use Rattle.std.proofs.Common.{◌≡◌, drop}
-use Rattle.chain_trace.specs.Paths.{drives}
-use Rattle.std.specs.List.{list_any}
-use Rattle.std.specs.Prelude.{◌==◌, ◌&&◌}
-use Rattle.net_edit.proofs.nets.is_source_port.Given as goal
-
-abbrev pub invariant-loop-port : goal.invariant-loop-port
-invariant-loop-port l = list_any (λ port. port.net.0 == l.net.0 && drives port.direction) (drop l.port-index l.port-items) ≡ list_any (λ port. port.net.0 == l.net.0 && drives port.direction) l.port-items
