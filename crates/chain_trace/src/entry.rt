@@ -30,7 +30,7 @@ pub fn out_pin(path: &ScanPath, out: u32) -> Option<&OutPin>
 }
 
 /// The net of a step's out pin, where its expression is one net bit.
-pub fn out_net(netlist: &Netlist, table: &CellTable, step: Step) -> Option<NetId>
+fn out_net(netlist: &Netlist, table: &CellTable, step: Step) -> Option<NetId>
     ensures value { result ≡ source_net netlist.now table.now (Source.Out step) }
 {
     let path = scan_path(netlist, table, step.instance, step.path)?;

@@ -16,10 +16,10 @@ mod tracing;
 mod walking;
 
 pub use bits::bits_of;
-pub use entry::{out_net, out_pin, scan_path, source_net};
+pub use entry::{out_pin, scan_path, source_net};
 pub use laws::{names_law, path_law};
 pub use path::{BitId, Path, PathBits, Sink, Source, Step};
-pub use ports::{drives, input_named, is_driven, is_source_port, output_named, plain_of};
+pub use ports::{input_named, output_named, plain_of};
 pub use tracing::trace;
 
 #[cfg(test)]

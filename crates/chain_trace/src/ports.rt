@@ -18,21 +18,21 @@ pub fn plain_of(nets: &[NetName], net: NetId) -> &[u8]
 }
 
 /// Whether a port of this direction is driven by what stands in the module: an output or inout port.
-pub fn is_driven(direction: Direction) -> bool
+pub(crate) fn is_driven(direction: Direction) -> bool
     ensures value { result ≡ is_driven direction }
 {
     matches!(direction, Direction::Output | Direction::Inout)
 }
 
 /// Whether a port of this direction drives what stands in the module: an input or inout port.
-pub fn drives(direction: Direction) -> bool
+pub(crate) fn drives(direction: Direction) -> bool
     ensures value { result ≡ drives direction }
 {
     matches!(direction, Direction::Input | Direction::Inout)
 }
 
 /// Whether the net is a bit of an input or inout port.
-pub fn is_source_port(netlist: &Netlist, net: NetId) -> bool
+pub(crate) fn is_source_port(netlist: &Netlist, net: NetId) -> bool
     ensures value { result ≡ has_port drives netlist.now net }
 {
     for port in netlist.ports.as_slice() {

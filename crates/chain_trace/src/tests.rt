@@ -4,7 +4,8 @@ ghost use Rattle.netlist_core.specs.Netlists.{IsNetlist};
 ghost use Rattle.netlist_core.specs.Joining.{AreClassesOf};
 ghost use Rattle.chain_trace.specs.Paths.{is_driven, has_port};
 
-use crate::{BitId, Step, bits_of, input_named, is_driven, output_named, plain_of, trace};
+use crate::ports::is_driven;
+use crate::{BitId, Step, bits_of, input_named, output_named, plain_of, trace};
 use cell_table::{CellTable, read_table, small_table};
 use netlist_core::{
     Assign, Bit, Bits, Classes, Connection, Direction, Expr, Instance, NetId, NetName, Netlist,

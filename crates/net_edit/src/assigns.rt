@@ -1,23 +1,15 @@
 //! Assigns with those of scan sinks blank.
 ghost use Rattle.std.specs.Prelude.{◌≡◌, ◌∷◌, [], List, map, if◌then◌else◌, IfOk};
 ghost use Rattle.netlist_core.specs.declared.netlist.Bit.TheVariants.{Unknown};
-ghost use Rattle.netlist_core.specs.Netlists.{pairs, named_bit, named_assign, plain_of};
+ghost use Rattle.netlist_core.specs.Netlists.{pairs, named_bit, named_assign};
 ghost use Rattle.net_edit.specs.Erasure.{is_sink_bit, is_sink_assign, erased_assign};
 
 use crate::instances::copy_expr;
 use crate::sinks::Sinks;
-use netlist_core::{Assign, Bit, Bits, Expr, NetId, NetName};
+use chain_trace::plain_of;
+use netlist_core::{Assign, Bit, Bits, Expr, NetName};
 use std::alloc::Global;
 use text_scan::{NoMemory, Rows};
-
-fn plain_of(nets: &[NetName], net: NetId) -> &[u8]
-    ensures value { result.now ≡ plain_of nets.now net }
-{
-    match nets.get(net.0 as usize) {
-        Some(name) => name.plain.bytes(),
-        None => &[],
-    }
-}
 
 fn is_sink_bit(nets: &[NetName], sinks: &Sinks, bit: Bit) -> bool
     ensures value { result ≡ is_sink_bit sinks.now (named_bit nets.now bit) }
@@ -41,22 +33,20 @@ fn is_sink_assign(nets: &[NetName], sinks: &Sinks, left: &[Bit], right: &[Bit]) 
     }
 }
 
-fn blank_expr(alloc: Global, expr: &Expr) -> Result<Expr, NoMemory>
-    ensures value { IfOk result (λ blank. blank.bits ≡ Unknown ∷ []) }
+fn blank_expr(alloc: Global, expr: &Expr) -> Expr
+    ensures value { result.bits ≡ Unknown ∷ [] }
 {
-    let mut bits = Bits::new(alloc);
-    bits.push(Bit::Unknown)?;
-    Ok(Expr {
-        bits,
+    Expr {
+        bits: Bits::one(alloc, Bit::Unknown),
         span: expr.span,
-    })
+    }
 }
 
 fn erased_right(alloc: Global, is_sink: bool, expr: &Expr) -> Result<Expr, NoMemory>
     ensures value { IfOk result (λ copy. copy.bits ≡ (if is_sink then Unknown ∷ [] else expr.now.bits)) }
 {
     if is_sink {
-        blank_expr(alloc, expr)
+        Ok(blank_expr(alloc, expr))
     } else {
         copy_expr(alloc, expr)
     }
