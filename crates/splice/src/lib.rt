@@ -1,4 +1,6 @@
 //! Replaces parts of a text.
+//!
+//! Floor: writers, on text_scan.
 #![tactic(auto)]
 
 ghost use Rattle.std.specs.Prelude.{◌≡◌, length, IfOk};

@@ -1,6 +1,6 @@
 //! Types that every reader and writer shares: places, names, texts, faults; the lines and tokens of texts.
 //!
-//! Floor: ground, on nothing.
+//! Floor: ground, on `memchr` and `smallvec`.
 #![tactic(auto)]
 
 mod escapes;

@@ -49,7 +49,7 @@ fn bits_of_constants(rt: HostRuntime) -> Result<(), Fail> {
         (b"5'Hx5", b"x0101"),
         (b"8'hf", b"00001111"),
         (b"4'd12", b"1100"),
-        (b"4'D9", b"1001"),
+        (b"4'D0_9", b"1001"),
         (b"4'd255", b"1111"),
         (b"9'd2_5_5", b"011111111"),
         // one more than the 128th power of 2

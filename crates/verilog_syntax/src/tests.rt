@@ -460,7 +460,7 @@ fn items_of_expressions(rt: HostRuntime) -> Result<(), Fail> {
         ("4'b01xZ", "constant 4'b01xZ|", 19, 26),
         ("8'HfF_0__a", "constant 8'HfF_0__a|", 19, 29),
         ("12'o7?", "constant 12'o7?|", 19, 25),
-        (" 3'D9", "constant 3'D9|", 20, 24),
+        (" 3'D0_9", "constant 3'D0_9|", 20, 26),
         ("{q}", "{|name q|}|", 19, 22),
         (" { a , b } ", "{|name a|,|name b|}|", 20, 29),
         ("{{{q}}}", "{|{|{|name q|}|}|}|", 19, 26),
