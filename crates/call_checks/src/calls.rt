@@ -3,7 +3,7 @@ ghost use Rattle.stil_tester.specs.Shifting.{IsCallFor, IsStringOf, is_compare_c
 
 use stil_reader::ScanCall;
 use stil_tester::Chains;
-use text_scan::Text;
+use base_types::Text;
 
 /// Whether a call has a place for a load and for a compare of each chain, of their characters
 /// alone, and shifts as often as its longest string has characters. It takes no memory.

@@ -3,7 +3,7 @@ ghost use Rattle.stil_tester.specs.Shifting.{AreChains, IsChain, numbers_of};
 
 use std::alloc::Global;
 use stil_tester::{ChainBits, Chains};
-use text_scan::NoMemory;
+use base_types::NoMemory;
 
 /// Whether no chain is empty, each has as many parities as bits, and each cell stands in the
 /// chains exactly once. It takes time and memory linear in the cells.

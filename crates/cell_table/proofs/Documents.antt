@@ -3,9 +3,9 @@ use Rattle.std.proofs.Common.{◌≡◌, ℕ, Bool, true, false, List, Some, Non
 use Rattle.std.specs.Prelude.{IsUtf8, if◌then◌else◌}
 use Rattle.std.specs.Str.{is_utf8}
 use Rattle.std.proofs.lemmas.Str.{IsUtf8-from_is_utf8, is_utf8-from_IsUtf8}
-use Rattle.text_scan.specs.declared.fault.FileKind.TheVariants.{Table as in_table}
-use Rattle.text_scan.specs.declared.kind.Kind.TheVariants.{TableSyntax}
-use Rattle.text_scan.specs.declared.fault.Spot.TheVariants.{Nowhere}
+use Rattle.base_types.specs.declared.fault.FileKind.TheVariants.{Table as in_table}
+use Rattle.base_types.specs.declared.kind.Kind.TheVariants.{TableSyntax}
+use Rattle.base_types.specs.declared.fault.Spot.TheVariants.{Nowhere}
 use Rattle.toml.specs.Data.{Members}
 use Rattle.toml.specs.Parse.{parse_document}
 use Rattle.cell_table.specs.Cells.{document_at, cells_at, document_of, table_of}

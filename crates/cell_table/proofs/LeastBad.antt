@@ -11,9 +11,9 @@ use Rattle.std.proofs.lemmas.Cmp.{nat_list_cmp_total}
 use Rattle.toml.specs.Data.{Data, Members, no_members, member, get_member}
 use Rattle.toml.specs.View.{members_view}
 use Rattle.cell_table.specs.declared.paths.ScanPath.{ScanPath}
-use Rattle.text_scan.specs.declared.fault.Fault.{Fault}
-use Rattle.text_scan.specs.declared.fault.ReadFault.{ReadFault}
-use Rattle.text_scan.specs.declared.fault.ReadFault.TheVariants as faults
+use Rattle.base_types.specs.declared.fault.Fault.{Fault}
+use Rattle.base_types.specs.declared.fault.ReadFault.{ReadFault}
+use Rattle.base_types.specs.declared.fault.ReadFault.TheVariants as faults
 use Rattle.std.specs.Result.{IfErr}
 use Rattle.cell_table.specs.Cells.{Answers, Cells, cell_of, cells_of, with_cell, shape_fault}
 use Rattle.cell_table.specs.Least.{IsLeastBad, NamesLeastBad, AboveAll, Ascending}

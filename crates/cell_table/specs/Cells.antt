@@ -3,12 +3,12 @@ use Rattle.std.specs.Prelude.{◌≡◌, ℕ, suc, ℤ, pos, nat_le, Bool, true,
 use Rattle.std.specs.List.{list_any, flat_map}
 use Rattle.std.specs.Ordering.{int_eq}
 use Rattle.std.specs.Str.{bytes_eq, is_utf8}
-use Rattle.text_scan.specs.declared.fault.Fault.{Fault}
-use Rattle.text_scan.specs.declared.fault.FileKind.TheVariants.{Table as in_table}
-use Rattle.text_scan.specs.declared.kind.Kind.TheVariants.{TableSyntax, TableShape}
-use Rattle.text_scan.specs.declared.fault.Spot.TheVariants.{Cell as at_cell, Nowhere}
-use Rattle.text_scan.specs.declared.fault.ReadFault.{ReadFault}
-use Rattle.text_scan.specs.declared.fault.ReadFault.TheVariants as faults
+use Rattle.base_types.specs.declared.fault.Fault.{Fault}
+use Rattle.base_types.specs.declared.fault.FileKind.TheVariants.{Table as in_table}
+use Rattle.base_types.specs.declared.kind.Kind.TheVariants.{TableSyntax, TableShape}
+use Rattle.base_types.specs.declared.fault.Spot.TheVariants.{Cell as at_cell, Nowhere}
+use Rattle.base_types.specs.declared.fault.ReadFault.{ReadFault}
+use Rattle.base_types.specs.declared.fault.ReadFault.TheVariants as faults
 use Rattle.toml.specs.Data.{Data, Items, no_items, item, Members, no_members, member, get, as_str, as_integer, as_array, as_table, get_member}
 use Rattle.toml.specs.Parse.{parse_document}
 use Rattle.cell_table.specs.declared.paths.OutPin.{OutPin}

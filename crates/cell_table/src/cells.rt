@@ -10,7 +10,7 @@ use crate::table::CellTable;
 use crate::values::{is_empty, member_at};
 use indexmap::IndexMap;
 use std::alloc::Global;
-use text_scan::{Fault, FileKind, Kind, Name, ReadFault, Spot};
+use base_types::{Fault, FileKind, Kind, Name, ReadFault, Spot};
 use toml::Table;
 
 fn shape_fault(cell: Name) -> ReadFault

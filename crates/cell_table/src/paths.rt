@@ -6,7 +6,7 @@ use crate::pins::has_pin_twice;
 use crate::stop::Stop;
 use crate::values::{array_at, bit_of, has_keys, is_empty, table_at, text_at};
 use std::alloc::Global;
-use text_scan::{Name, Rows};
+use base_types::{Name, Rows};
 use toml::value::Array;
 use toml::{Table, Value};
 

@@ -4,7 +4,7 @@ ghost use Rattle.cell_table.specs.Cells.{pins_of, has_twice, has_pin_twice};
 use crate::paths::ScanPath;
 use std::alloc::Global;
 use std::collections::HashSet;
-use text_scan::NoMemory;
+use base_types::NoMemory;
 
 /// All the pins of some paths, each in pin before its out pins.
 fn pins_of<'a>(alloc: Global, paths: &'a [ScanPath]) -> Result<Vec<&'a [u8]>, NoMemory>

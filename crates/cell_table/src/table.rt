@@ -5,7 +5,7 @@ use crate::paths::{OutPin, ScanPath};
 use indexmap::IndexMap;
 use std::alloc::Global;
 use std::marker::Model;
-use text_scan::{Name, NoMemory, Rows};
+use base_types::{Name, NoMemory, Rows};
 
 /// The cells of a table, in the order of their names, with their scan paths.
 #[derive(Drop)]

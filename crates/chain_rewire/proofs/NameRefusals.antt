@@ -2,9 +2,9 @@
 use Rattle.std.proofs.Common.{◌≡◌, ◌≢◌, ℕ, Bool, true, false, List, Result, Err, refl, sym, ap, ◌∙◌}
 use Rattle.std.specs.Str.{bytes_eq}
 use Rattle.std.proofs.lemmas.Slice.Eq.{bytes_eq-Decides}
-use Rattle.text_scan.specs.declared.fault.ReadFault.{ReadFault}
-use Rattle.text_scan.specs.declared.fault.ReadFault.TheVariants as faults
-use Rattle.text_scan.specs.declared.kind.Kind.TheVariants.{NotPermutation, PinnedLast}
+use Rattle.base_types.specs.declared.fault.ReadFault.{ReadFault}
+use Rattle.base_types.specs.declared.fault.ReadFault.TheVariants as faults
+use Rattle.base_types.specs.declared.kind.Kind.TheVariants.{NotPermutation, PinnedLast}
 use Rattle.netlist_core.specs.declared.netlist.Netlist.{Netlist}
 use Rattle.chain_trace.specs.declared.path.Path.{Path}
 use Rattle.chain_trace.specs.Faults.{IfFault}

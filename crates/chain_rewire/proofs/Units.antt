@@ -3,7 +3,7 @@
 use Rattle.std.proofs.Common.{◌≡◌, ℕ, zero, suc, Bool, true, false, cond, List, [], ◌∷◌, map, slice_get, Option, Some, None, option_map, refl, sym, ap, ◌∙◌}
 use Rattle.std.specs.Str.{bytes_eq}
 use Rattle.std.proofs.lemmas.Option.{slice_get-map, slice_get_within, get_or_from_slice_get}
-use Rattle.text_scan.specs.Each.{Each}
+use Rattle.std.specs.List.{AllByRecursion as Each}
 use Rattle.netlist_core.specs.declared.netlist.NetId.{NetId}
 use Rattle.netlist_core.specs.declared.netlist.Instance.{Instance}
 use Rattle.netlist_core.specs.declared.netlist.Netlist.{Netlist}

@@ -12,7 +12,7 @@ use cell_table::CellTable;
 use chain_trace::{Path, input_named, output_named, plain_of, trace};
 use netlist_core::{Netlist, classes_of};
 use std::alloc::Global;
-use text_scan::{Kind, ReadFault};
+use base_types::{Kind, ReadFault};
 
 /// The scan path from the scan-in to the scan-out of a netlist.
 pub(crate) fn path_between(

@@ -1,9 +1,9 @@
 //! The faults of the words.
 ghost use Rattle.std.specs.Prelude.{◌≡◌};
-ghost use Rattle.text_scan.specs.declared.fault.ReadFault.TheVariants as faults;
+ghost use Rattle.base_types.specs.declared.fault.ReadFault.TheVariants as faults;
 ghost use Rattle.chain_rewire.specs.Faults.{words_fault};
 
-use text_scan::{Fault, FileKind, Kind, ReadFault, Spot};
+use base_types::{Fault, FileKind, Kind, ReadFault, Spot};
 
 pub(crate) fn words_fault(kind: Kind) -> ReadFault
     ensures value { result ≡ faults.Fault (words_fault kind) }

@@ -9,7 +9,7 @@ ghost use Rattle.chain_rewire.specs.Names.{now_of, have_all, are_distinct, are_i
 use std::alloc::Global;
 use std::collections::HashSet;
 use std::marker::Model;
-use text_scan::{Name, NoMemory};
+use base_types::{Name, NoMemory};
 
 /// Names that stand elsewhere, which contracts see as their list.
 #[derive(Debug, Drop)]

@@ -18,7 +18,7 @@ use net_edit::is_free;
 use netlist_core::Netlist;
 use std::alloc::Global;
 use std::collections::HashMap;
-use text_scan::{Kind, Name, NoMemory, ReadFault, Rows};
+use base_types::{Kind, Name, NoMemory, ReadFault, Rows};
 
 /// The name of a step's instance.
 fn instance_name<'a>(netlist: &'a Netlist, step: Step) -> &'a [u8]

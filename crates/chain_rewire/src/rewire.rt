@@ -1,6 +1,6 @@
 //! The Verilog with the path in the order of the names.
 ghost use Rattle.std.specs.Prelude.{◌≢◌, ◌<◌, ◌^◌, length, IfOk};
-ghost use Rattle.text_scan.specs.declared.fault.Fault.{Fault};
+ghost use Rattle.base_types.specs.declared.fault.Fault.{Fault};
 ghost use Rattle.chain_trace.specs.Faults.{IfFault};
 ghost use Rattle.chain_rewire.specs.Rewiring.{IsRewired, AreErasedAlike, HasPath};
 ghost use Rattle.chain_rewire.specs.Faults.{IsRewireFault};
@@ -11,7 +11,7 @@ use cell_table::CellTable;
 use chain_trace::{names_law, path_law};
 use net_edit::edits_for;
 use std::alloc::Global;
-use text_scan::{Name, ReadFault, Rows, Text};
+use base_types::{Name, ReadFault, Rows, Text};
 use verilog_reader::{netlist_law, read_netlist};
 use verilog_writer::verilog_text;
 

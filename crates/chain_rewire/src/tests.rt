@@ -3,7 +3,7 @@ use crate::{Rewire, Rewired, rewire_text};
 use std::alloc::{Alloc, Global};
 use std::process::Abort;
 use std::test::Fail;
-use text_scan::{Fault, FileKind, Kind, Name, NoMemory, ReadFault, Rows, Spot};
+use base_types::{Fault, FileKind, Kind, Name, NoMemory, ReadFault, Rows, Spot};
 
 const HEAD: &str = "module top ( clk, se, si, so, d0, d1, d2 );
   input clk, se, si, d0, d1, d2;

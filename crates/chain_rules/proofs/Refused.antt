@@ -2,10 +2,10 @@
 use Rattle.std.proofs.Common.{◌≡◌, ◌≢◌, ℕ, ◌+◌, ◌<◌, List, [], ◌∷◌, ◌++◌, length, Option, Some, None, IfSome, IfNone, refl, sym, ap, subst, arith, ⊎_elim}
 use Rattle.std.proofs.lemmas.List.{get_or_append_left, get_or_push, length_push}
 use Rattle.std.proofs.lemmas.Bool.{cases_eq}
-use Rattle.text_scan.specs.declared.kind.Kind.{Kind}
-use Rattle.text_scan.specs.declared.kind.Kind.TheVariants.{NotAStretch, UnlistedBits, OrderBroken, OverMaxBits, TooManyUnits}
-use Rattle.text_scan.specs.Faults.{number_of}
-use Rattle.text_scan.specs.declared.fault.Spot.TheVariants.{Line}
+use Rattle.base_types.specs.declared.kind.Kind.{Kind}
+use Rattle.base_types.specs.declared.kind.Kind.TheVariants.{NotAStretch, UnlistedBits, OrderBroken, OverMaxBits, TooManyUnits}
+use Rattle.base_types.specs.Faults.{number_of}
+use Rattle.base_types.specs.declared.fault.Spot.TheVariants.{Line}
 use Rattle.chain_rules.specs.declared.stretch.Run.{Run}
 use Rattle.chain_rules.specs.declared.spec.PathSpec.{PathSpec}
 use Rattle.chain_rules.specs.declared.spec.ChainSpec.{ChainSpec}

@@ -4,14 +4,14 @@ use Rattle.chain_rules.specs.declared.spec.PathSpec.{PathSpec}
 use Rattle.chain_rules.specs.declared.spec.ElementSpec.{ElementSpec}
 use Rattle.chain_rules.specs.declared.spec.ListSpec.TheVariants.{Ordered}
 use Rattle.chain_rules.specs.declared.spec.ChainSpec.{ChainSpec}
-use Rattle.text_scan.specs.declared.fault.Fault.{Fault}
-use Rattle.text_scan.specs.declared.fault.FileKind.TheVariants.{Def}
-use Rattle.text_scan.specs.declared.fault.Spot.TheVariants.{Line}
-use Rattle.text_scan.specs.declared.fault.ReadFault.{ReadFault}
-use Rattle.text_scan.specs.declared.fault.ReadFault.TheVariants.{Fault as OfFault, NoMemory as OfMemory}
-use Rattle.text_scan.specs.declared.kind.Kind.{Kind}
-use Rattle.text_scan.specs.declared.kind.Kind.TheVariants.{NotAStretch, UnlistedBits, OrderBroken, OverMaxBits, TooManyUnits}
-use Rattle.text_scan.specs.Faults.{number_of}
+use Rattle.base_types.specs.declared.fault.Fault.{Fault}
+use Rattle.base_types.specs.declared.fault.FileKind.TheVariants.{Def}
+use Rattle.base_types.specs.declared.fault.Spot.TheVariants.{Line}
+use Rattle.base_types.specs.declared.fault.ReadFault.{ReadFault}
+use Rattle.base_types.specs.declared.fault.ReadFault.TheVariants.{Fault as OfFault, NoMemory as OfMemory}
+use Rattle.base_types.specs.declared.kind.Kind.{Kind}
+use Rattle.base_types.specs.declared.kind.Kind.TheVariants.{NotAStretch, UnlistedBits, OrderBroken, OverMaxBits, TooManyUnits}
+use Rattle.base_types.specs.Faults.{number_of}
 use Rattle.chain_rules.specs.Stretches.{path_at, step_at, spec_at, bits_between, Names, groups_of, IsListed, Stretch, IsInside, IsStretch, HasStretch, Disturbs}
 
 -- the stretches of two chains meet, or one holds the other's START or STOP cell

@@ -7,7 +7,7 @@ use crate::index::Index;
 use crate::spec::{ChainSpec, ElementSpec, ListSpec, PathSpec, StepSpec};
 use crate::stretch::elements_of_list;
 use std::alloc::Global;
-use text_scan::{NoMemory, Rows};
+use base_types::{NoMemory, Rows};
 
 // There are fewer paths, steps, chains, elements and bits than this.
 const MANY: usize = 4294967296;

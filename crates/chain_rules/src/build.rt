@@ -14,7 +14,7 @@ use crate::spec::{ChainSpec, EndSpec};
 use crate::stretch::Run;
 use crate::unit::{ChainRule, Rules, Unit};
 use std::alloc::Global;
-use text_scan::{NoMemory, Rows};
+use base_types::{NoMemory, Rows};
 
 // Whether the last unit of a chain is pinned, where it ends at this place.
 fn pins_last(index: &Index<'_>, chain: &ChainSpec, run: Run, last: usize) -> bool

@@ -5,7 +5,7 @@ ghost use Rattle.chain_rules.specs.Runs.{stretch, mark_at, AreTogether, AreCuts,
 
 use crate::listing::Listing;
 use std::alloc::Global;
-use text_scan::NoMemory;
+use base_types::NoMemory;
 
 // The places of the first and the last step of a unit.
 #[derive(Clone, Copy)]

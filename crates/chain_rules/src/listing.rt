@@ -9,7 +9,7 @@ use crate::marks::marks_of;
 use crate::spec::{ChainSpec, ElementSpec};
 use crate::stretch::Run;
 use std::alloc::Global;
-use text_scan::NoMemory;
+use base_types::NoMemory;
 
 // The stretch of a chain, with the mark of each of its steps.
 #[derive(Drop)]

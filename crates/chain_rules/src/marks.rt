@@ -8,7 +8,7 @@ use crate::index::Index;
 use crate::spec::{ChainSpec, ElementSpec, ListSpec};
 use crate::stretch::Run;
 use std::alloc::Global;
-use text_scan::NoMemory;
+use base_types::NoMemory;
 
 // Marks the step of an element.
 fn mark(index: &Index<'_>, run: Run, element: ElementSpec, group: usize, marks: &mut [usize])

@@ -5,7 +5,7 @@ ghost use Rattle.chain_rules.specs.Legality.{chain_at, with_chain};
 use std::alloc::Global;
 use std::marker::Model;
 use std::mem;
-use text_scan::NoMemory;
+use base_types::NoMemory;
 
 /// Which units stand in which chain, in their order; contracts see it as a record of a list of lists of unit numbers.
 #[derive(Debug, Drop)]

@@ -1,4 +1,4 @@
-use text_scan::Rows;
+use base_types::Rows;
 
 /// One step of a read path: a scan path of an instance, left by an out pin.
 #[derive(Clone, Copy, Debug, PartialEq, Eq)]

@@ -6,7 +6,7 @@ use crate::{
 use std::alloc::{Alloc, Global};
 use std::process::Abort;
 use std::test::Fail;
-use text_scan::{FileKind, Kind, NoMemory, ReadFault, Rows, Spot};
+use base_types::{FileKind, Kind, NoMemory, ReadFault, Rows, Spot};
 
 // The elements of a list by their letters.
 #[derive(Clone, Copy)]

@@ -7,7 +7,7 @@ use crate::{Plan, Position, Rules, can_move, can_swap, is_legal};
 use std::alloc::{Alloc, Global};
 use std::process::Abort;
 use std::test::Fail;
-use text_scan::NoMemory;
+use base_types::NoMemory;
 
 // The chains of two_chains, of three and of five flops.
 pub(crate) fn two_chains() -> [Chain<'static>; 2] {

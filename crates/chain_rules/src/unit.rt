@@ -1,5 +1,5 @@
 use crate::plan::Plan;
-use text_scan::Rows;
+use base_types::Rows;
 
 /// What is moved as one: a run of steps of a read path.
 #[derive(Clone, Copy, Debug, PartialEq, Eq)]

@@ -17,7 +17,7 @@ use crate::spec::{ChainSpec, PathSpec};
 use crate::stretch::{Run, stretch_of};
 use crate::unit::Rules;
 use std::alloc::Global;
-use text_scan::{Fault, FileKind, Kind, NoMemory, ReadFault, Spot};
+use base_types::{Fault, FileKind, Kind, NoMemory, ReadFault, Spot};
 
 // A fault of a kind, at the line of the chain's statement.
 fn refusal(kind: Kind, chain: &ChainSpec) -> ReadFault

@@ -17,9 +17,9 @@ use Rattle.chain_trace.specs.Faults.{Meets, IsMet, HasNoSource, HasTwoSources, I
 use Rattle.chain_trace.specs.Drivers.{Says}
 use Rattle.chain_trace.specs.declared.drivers.Found.{Found}
 use Rattle.chain_trace.specs.declared.drivers.Found.TheVariants.{Only}
-use Rattle.text_scan.specs.declared.fault.Fault.{Fault}
-use Rattle.text_scan.specs.declared.fault.ReadFault.{ReadFault}
-use Rattle.text_scan.specs.declared.fault.ReadFault.TheVariants as faults
+use Rattle.base_types.specs.declared.fault.Fault.{Fault}
+use Rattle.base_types.specs.declared.fault.ReadFault.{ReadFault}
+use Rattle.base_types.specs.declared.fault.ReadFault.TheVariants as faults
 use Rattle.chain_trace.proofs.Unique.{Backs, backs, leads, same_step, not_both}
 
 meets_push : (n : Netlist) (cells : Cells) (steps : List Step) (from sink : Sink) (step : Step)

@@ -1,13 +1,13 @@
 -- Where no path meets a scan output: the first fault that is met going backward from it.
 use Rattle.std.specs.Prelude.{◌≡◌, ◌≢◌, ◌<◌, ◌⊎◌, ℕ, ◌==◌, List, [], ◌∷◌, length, slice_index_or, Option, Some, None, Result, Ok, Err}
 use Rattle.std.specs.List.{slice_get, find}
-use Rattle.text_scan.specs.declared.fault.Fault.{Fault}
-use Rattle.text_scan.specs.declared.fault.FileKind.TheVariants.{Verilog}
-use Rattle.text_scan.specs.declared.fault.Spot.TheVariants.{Line}
-use Rattle.text_scan.specs.declared.fault.ReadFault.{ReadFault}
-use Rattle.text_scan.specs.declared.fault.ReadFault.TheVariants as faults
-use Rattle.text_scan.specs.declared.kind.Kind.{Kind}
-use Rattle.text_scan.specs.declared.kind.Kind.TheVariants as kinds
+use Rattle.base_types.specs.declared.fault.Fault.{Fault}
+use Rattle.base_types.specs.declared.fault.FileKind.TheVariants.{Verilog}
+use Rattle.base_types.specs.declared.fault.Spot.TheVariants.{Line}
+use Rattle.base_types.specs.declared.fault.ReadFault.{ReadFault}
+use Rattle.base_types.specs.declared.fault.ReadFault.TheVariants as faults
+use Rattle.base_types.specs.declared.kind.Kind.{Kind}
+use Rattle.base_types.specs.declared.kind.Kind.TheVariants as kinds
 use Rattle.netlist_core.specs.declared.netlist.NetId.{NetId}
 use Rattle.netlist_core.specs.declared.netlist.Port.{Port}
 use Rattle.netlist_core.specs.declared.netlist.Instance.{Instance}

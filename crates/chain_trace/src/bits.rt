@@ -5,10 +5,10 @@ ghost use Rattle.chain_trace.specs.Parities.{Mark, Turn, Bit, bit_marks, step_ma
 
 use crate::entry::{out_pin, scan_path};
 use crate::path::{BitId, Path, PathBits, Step};
+use base_types::{NoMemory, Rows};
 use cell_table::{CellTable, OutPin, ScanPath};
 use netlist_core::Netlist;
 use std::alloc::Global;
-use text_scan::{NoMemory, Rows};
 
 impl PathBits {
     fn new(alloc: Global) -> PathBits

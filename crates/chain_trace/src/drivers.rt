@@ -10,10 +10,10 @@ ghost use Rattle.chain_trace.specs.Drivers.{IsAdded, IsPut, AreDrivers, IsDone};
 use crate::entry::scan_path;
 use crate::path::{Source, Step};
 use crate::ports::drives;
+use base_types::NoMemory;
 use cell_table::CellTable;
 use netlist_core::{Classes, NetId, Netlist, net_of};
 use std::alloc::Global;
-use text_scan::NoMemory;
 
 /// What is known of the sources of a class.
 #[derive(Clone, Copy, Debug, PartialEq, Eq)]

@@ -4,7 +4,7 @@ ghost use Rattle.netlist_core.specs.declared.netlist.NetId.{NetId};
 ghost use Rattle.netlist_core.specs.declared.netlist.Netlist.{Netlist};
 ghost use Rattle.cell_table.specs.Cells.{Cells};
 ghost use Rattle.chain_trace.specs.declared.path.Path.{Path};
-ghost use Rattle.text_scan.specs.declared.fault.Fault.{Fault};
+ghost use Rattle.base_types.specs.declared.fault.Fault.{Fault};
 ghost use Rattle.chain_trace.specs.Paths.{IsScanPath};
 ghost use Rattle.chain_trace.specs.Faults.{IsTraceFault};
 ghost use Rattle.chain_trace.specs.Named.{NamesLaw};

@@ -4,8 +4,8 @@ ghost use Rattle.std.specs.List.{find, slice_get};
 ghost use Rattle.chain_trace.specs.Faults.{line_of_port, line_of_instance, sink_line, fault_at};
 
 use crate::path::Sink;
+use base_types::{Fault, FileKind, Kind, ReadFault, Spot};
 use netlist_core::{NetId, Netlist};
-use text_scan::{Fault, FileKind, Kind, ReadFault, Spot};
 
 pub(crate) fn fault_at(kind: Kind, line: u64) -> ReadFault
     ensures value { result ≡ ReadFault.Fault (fault_at kind line) }

@@ -1,5 +1,5 @@
+use base_types::Rows;
 use netlist_core::NetId;
-use text_scan::Rows;
 
 /// A bit of an instance: the bit `index` of the scan path `path` of its cell.
 #[derive(Clone, Copy, Debug, PartialEq, Eq)]

@@ -6,6 +6,7 @@ ghost use Rattle.chain_trace.specs.Paths.{is_driven, has_port};
 
 use crate::ports::is_driven;
 use crate::{BitId, Step, bits_of, input_named, output_named, plain_of, trace};
+use base_types::{Kind, Name, NoMemory, ReadFault, Rows, Span, Spot};
 use cell_table::{CellTable, read_table, small_table};
 use netlist_core::{
     Assign, Bit, Bits, Classes, Connection, Direction, Expr, Instance, NetId, NetName, Netlist,
@@ -14,7 +15,6 @@ use netlist_core::{
 use std::alloc::{Alloc, Global};
 use std::process::Abort;
 use std::test::Fail;
-use text_scan::{Kind, Name, NoMemory, ReadFault, Rows, Span, Spot};
 
 // An inverter, a cell of two bits of which the first is inverted, and a cell of two scan paths.
 const OTHER_CELLS: &str =

@@ -11,10 +11,10 @@ use crate::drivers::{drivers_of, put_at};
 use crate::entry::source_net;
 use crate::path::{Path, Source};
 use crate::walking::walk;
+use base_types::ReadFault;
 use cell_table::CellTable;
 use netlist_core::{Classes, NetId, Netlist};
 use std::alloc::Global;
-use text_scan::ReadFault;
 
 /// The path of a scan output, an output or inout port bit, or the first fault that is met going backward from it:
 /// NoDriver or TwoDrivers where a sink has no source or several, at the line of its instance or of the port's direction

@@ -12,10 +12,10 @@ use crate::drivers::Found;
 use crate::entry::scan_path;
 use crate::lines::{fault_at, instance_line, sink_line};
 use crate::path::{Path, Sink, Source, Step};
+use base_types::{Kind, NoMemory, ReadFault, Rows};
 use cell_table::CellTable;
 use netlist_core::{Classes, NetId, Netlist, net_of};
 use std::alloc::Global;
-use text_scan::{Kind, NoMemory, ReadFault, Rows};
 
 // The source of a scan path's in pin.
 fn in_driver(

@@ -9,7 +9,7 @@ use crate::put::{PutFault, put_all};
 use crate::slot::Slot;
 use crate::take::{TakeFault, take_all};
 use std::alloc::Global;
-use text_scan::Text;
+use base_types::Text;
 
 /// Opens an input, takes all its bytes, of which there are at most `limit`, and closes it.
 ///

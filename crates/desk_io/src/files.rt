@@ -2,7 +2,7 @@ ghost use Rattle.std.specs.Prelude.{◌≡◌, ◌≤◌, ◌-◌, length, min, 
 ghost use Rattle.desk_io.specs.Files.{bytes_of};
 
 use crate::slot::Slot;
-use text_scan::Text;
+use base_types::Text;
 
 /// The bytes of the slot's file, and none where it has no file.
 pub fn file_bytes(files: &[(Slot, Text)], slot: Slot) -> &[u8]

@@ -13,7 +13,7 @@ use crate::slot::{INPUTS, Slot};
 use crate::take::TakeFault;
 use std::alloc::Global;
 use std::marker::Model;
-use text_scan::Text;
+use base_types::Text;
 use thiserror::Error;
 
 /// The most bytes of a cell table.

@@ -11,7 +11,7 @@ use crate::part::Part;
 use crate::slot::{INPUTS, SLOTS, Slot, Stage};
 use std::alloc::Global;
 use std::marker::Model;
-use text_scan::{NoMemory, Text};
+use base_types::{NoMemory, Text};
 
 /// A desk over files in memory, whose calls fail by their numbers.
 ///

@@ -2,7 +2,7 @@ ghost use Rattle.std.specs.Prelude.{◌≡◌, option_map};
 ghost use Rattle.desk_io.specs.Names.{name_at};
 
 use crate::slot::Slot;
-use text_scan::Word;
+use base_types::Word;
 
 /// The values of the file options that the words give.
 #[derive(Debug, Drop)]

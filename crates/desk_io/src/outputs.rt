@@ -9,7 +9,7 @@ use crate::file::put_file;
 use crate::names::{Names, name_of};
 use crate::put::PutFault;
 use crate::slot::Slot;
-use text_scan::Text;
+use base_types::Text;
 
 /// How many outputs there are, the console among them.
 const OUTPUTS: usize = 4;

@@ -6,7 +6,7 @@ use crate::files::move_bytes;
 use crate::slot::Stage;
 use std::alloc::Global;
 use std::marker::Model;
-use text_scan::NoMemory;
+use base_types::NoMemory;
 
 /// One slot of a desk in memory, without its file.
 #[derive(Drop)]

@@ -8,7 +8,7 @@ use crate::desk::{Desk, Failed};
 use crate::files::{file_bytes, move_bytes};
 use crate::slot::{SLOTS, Slot, Stage};
 use std::marker::Model;
-use text_scan::Text;
+use base_types::Text;
 
 /// A desk over files in memory whose calls never fail, and which drops what is written.
 ///

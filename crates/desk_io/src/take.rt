@@ -5,7 +5,7 @@ ghost use Rattle.desk_io.specs.Prefixes.{IsAtEnd, HasTaken, HasTakenAndFailed};
 use crate::desk::{Desk, Failed};
 use crate::slot::Slot;
 use std::alloc::Global;
-use text_scan::Text;
+use base_types::Text;
 use thiserror::Error;
 
 /// How many bytes a read may give at once.

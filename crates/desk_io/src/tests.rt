@@ -9,7 +9,7 @@ use crate::{
 };
 use std::alloc::Global;
 use std::test::Fail;
-use text_scan::{Text, Word};
+use base_types::{Text, Word};
 
 const BYTES: &[u8] = b"abcd";
 

@@ -8,7 +8,7 @@ use Rattle.std.proofs.lemmas.List.{append-nil, length-take-le, get_or-take}
 use Rattle.std.proofs.lemmas.List.Folds.{Any-from_list_any}
 use Rattle.std.proofs.lemmas.List.Quantifiers.{position-Some}
 use Rattle.std.proofs.lemmas.List.Sums.{get_or-le-sum_by, sum_by_more_le}
-use Rattle.text_scan.specs.Each.{Each}
+use Rattle.std.specs.List.{AllByRecursion as Each}
 use Rattle.netlist_core.specs.declared.netlist.NetId.{NetId}
 use Rattle.netlist_core.specs.declared.netlist.Bit.{Bit}
 use Rattle.netlist_core.specs.declared.netlist.Bit.TheVariants.{Net, Zero, One, Unknown}

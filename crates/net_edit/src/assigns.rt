@@ -9,7 +9,7 @@ use crate::sinks::Sinks;
 use chain_trace::plain_of;
 use netlist_core::{Assign, Bit, Bits, Expr, NetName};
 use std::alloc::Global;
-use text_scan::{NoMemory, Rows};
+use base_types::{NoMemory, Rows};
 
 fn is_sink_bit(nets: &[NetName], sinks: &Sinks, bit: Bit) -> bool
     ensures value { result ≡ is_sink_bit sinks.now (named_bit nets.now bit) }

@@ -16,7 +16,7 @@ use cell_table::CellTable;
 use chain_trace::{Path, Sink, Source, source_net};
 use netlist_core::{NetId, Netlist};
 use std::alloc::Global;
-use text_scan::{NoMemory, Rows};
+use base_types::{NoMemory, Rows};
 
 // The edit of an in pin that gets another source.
 fn put_pin(

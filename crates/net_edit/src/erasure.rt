@@ -8,7 +8,7 @@ use crate::instances::erased_instances;
 use crate::sinks::Sinks;
 use netlist_core::{NetName, Netlist, Port};
 use std::alloc::Global;
-use text_scan::{Name, NoMemory, Rows};
+use base_types::{Name, NoMemory, Rows};
 
 fn copy_nets(alloc: Global, nets: &[NetName]) -> Result<Rows<NetName>, NoMemory>
     ensures value { IfOk result (λ copies. copies ≡ nets.now) }

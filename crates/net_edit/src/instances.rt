@@ -7,7 +7,7 @@ ghost use Rattle.net_edit.specs.Erasure.{erased_pin, erased_instance};
 use crate::sinks::Sinks;
 use netlist_core::{Bits, Connection, Expr, Instance};
 use std::alloc::Global;
-use text_scan::{Name, NoMemory, Rows};
+use base_types::{Name, NoMemory, Rows};
 
 pub(crate) fn copy_expr(alloc: Global, expr: &Expr) -> Result<Expr, NoMemory>
     ensures value { IfOk result (λ copy. copy ≡ expr.now) }

@@ -7,7 +7,7 @@ ghost use Rattle.net_edit.specs.EditKeys.{key_of, HasLinks};
 use chain_trace::{Path, Sink, Source};
 use std::alloc::Global;
 use std::collections::HashSet;
-use text_scan::NoMemory;
+use base_types::NoMemory;
 
 /// A sink and the source that feeds it.
 pub(crate) type Link = (Source, Sink);

@@ -4,7 +4,7 @@ ghost use Rattle.net_edit.specs.Edits.{assign_at};
 
 use crate::free::is_one_net;
 use netlist_core::{NetId, Netlist};
-use text_scan::NoMemory;
+use base_types::NoMemory;
 
 /// The place of the first assign whose whole left side is the net. A place beyond 32 bits counts as want of memory.
 pub(crate) fn assign_at(netlist: &Netlist, net: NetId) -> Result<Option<u32>, NoMemory>

@@ -1,7 +1,7 @@
 ghost use Rattle.std.specs.Prelude.{◌≡◌};
 ghost use Rattle.net_edit.specs.Erasure.{has_name, is_sink_pin};
 
-use text_scan::{Name, Rows};
+use base_types::{Name, Rows};
 
 /// An in pin of an instance, by its plain names.
 #[derive(Debug, Drop)]

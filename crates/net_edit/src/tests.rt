@@ -8,7 +8,7 @@ use netlist_core::{
 };
 use std::alloc::Global;
 use std::test::Fail;
-use text_scan::{Name, Rows, Span};
+use base_types::{Name, Rows, Span};
 
 fn name(alloc: Global, text: &str) -> Result<Name, Fail> {
     Ok(Name::copy(alloc, text.as_bytes())?)

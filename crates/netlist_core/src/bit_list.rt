@@ -1,10 +1,10 @@
 ghost use Rattle.std.specs.Prelude.{◌≡◌, [], ◌∷◌, ◌++◌, IfOk, OnOk};
 
 use crate::netlist::Bit;
+use base_types::NoMemory;
 use smallvec::SmallVec;
 use std::alloc::Global;
 use std::marker::Model;
-use text_scan::NoMemory;
 
 /// The bits of an expression from the left, which contracts see as their list. Up to two lie in the value itself.
 #[derive(Debug, Drop)]

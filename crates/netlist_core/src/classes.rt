@@ -6,9 +6,9 @@ ghost use Rattle.netlist_core.specs.Joining.{AreClassesOf};
 ghost use Rattle.netlist_core.specs.Forests.{Falls, AreLeast, AreParents, IsForest, joined_roots};
 
 use crate::netlist::{Bit, NetId, Netlist};
+use base_types::NoMemory;
 use std::alloc::Global;
 use std::marker::Model;
-use text_scan::NoMemory;
 
 /// Which nets are joined by assigns, which contracts see as the list of the nets' class numbers.
 #[derive(Debug, Drop)]

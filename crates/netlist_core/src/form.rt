@@ -3,9 +3,9 @@ ghost use Rattle.std.specs.Prelude.{◌≡◌, ◌↔◌, ◌<◌, ◌≤◌, �
 ghost use Rattle.netlist_core.specs.Netlists.{AreDistinct, IsBitWithin, IsAssign, IsInstance, IsNetlist};
 
 use crate::netlist::{Assign, Bit, Connection, Instance, NetName, Netlist, Port};
+use base_types::NoMemory;
 use std::alloc::Global;
 use std::collections::HashSet;
-use text_scan::NoMemory;
 
 fn is_within(bit: Bit, count: usize) -> bool
     ensures value { IsTrue result ↔ IsBitWithin count bit }

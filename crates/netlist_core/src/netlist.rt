@@ -1,5 +1,5 @@
 use crate::bit_list::Bits;
-use text_scan::{Name, Rows, Span};
+use base_types::{Name, Rows, Span};
 
 /// The number of a net bit: its place in the netlist's list of nets.
 #[derive(Clone, Copy, Debug, PartialEq, Eq)]

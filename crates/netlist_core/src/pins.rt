@@ -5,7 +5,7 @@ ghost use Rattle.std.specs.Str.{bytes_eq};
 ghost use Rattle.netlist_core.specs.Netlists.{single_net, net_at};
 
 use crate::netlist::{Bit, Connection, NetId, Netlist};
-use text_scan::Name;
+use base_types::Name;
 
 // The net of an expression that is one net bit.
 fn single_net(bits: &[Bit]) -> Option<NetId>

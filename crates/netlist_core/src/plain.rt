@@ -7,8 +7,8 @@ ghost use Rattle.netlist_core.specs.Forests.{IsNumbering, merged};
 
 use crate::classes::{Classes, alone};
 use crate::netlist::{Bit, Netlist};
+use base_types::NoMemory;
 use std::alloc::Global;
-use text_scan::NoMemory;
 
 // Gives the class `from` the number `to`.
 fn merge(classes: &mut Vec<u32>, from: u32, to: u32)

@@ -2,9 +2,9 @@ use crate::{
     Assign, Bit, Bits, Connection, Expr, Instance, NetId, NetName, Netlist, classes_of, is_netlist,
     net_of, plain,
 };
+use base_types::{Name, NoMemory, Rows, Span};
 use std::alloc::{Alloc, Global};
 use std::process::Abort;
-use text_scan::{Name, NoMemory, Rows, Span};
 
 // A netlist of so many nets, and of nothing else.
 fn of_nets(alloc: Global, count: usize) -> Result<Netlist, NoMemory> {

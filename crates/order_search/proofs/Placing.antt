@@ -10,7 +10,7 @@ use Rattle.std.proofs.lemmas.List.Elements.{All-append, All-cons, All-from_get_o
 use Rattle.std.proofs.lemmas.List.Sorted.{All-permutation, IsPermutation-append_left, IsPermutation-more, IsPermutation-refl}
 use Rattle.std.proofs.lemmas.List.Sums.{position_or_len_is}
 use Rattle.std.proofs.lemmas.Map.Keys.{apart_from_distinct}
-use Rattle.text_scan.specs.declared.span.Point.{Point}
+use Rattle.base_types.specs.declared.span.Point.{Point}
 use Rattle.chain_rules.specs.Legality.{chain_at, unit_at}
 use Rattle.chain_rules.specs.declared.unit.Rules.{Rules}
 use Rattle.wire_cost.specs.declared.ends.Ends.{Ends}

@@ -7,7 +7,7 @@ use Rattle.std.proofs.lemmas.Bool.Decides.{nat_tests}
 use Rattle.std.proofs.lemmas.List.{get_or-drop, get_or-take, get_or_default, length-drop, same_lists, take_all, take_more_same}
 use Rattle.std.proofs.lemmas.List.Sorted.{Contains-permutation, IsPermutation-sym, IsPermutation-trans, length_permutation}
 use Rattle.std.proofs.lemmas.Map.Keys.{IsDistinct-IsPermutation, apart_from_distinct}
-use Rattle.text_scan.specs.declared.span.Point.{Point}
+use Rattle.base_types.specs.declared.span.Point.{Point}
 use Rattle.chain_rules.specs.Legality.{IsLegal, chain_at, last_of, unit_at}
 use Rattle.chain_rules.specs.declared.plan.Plan.{Plan}
 use Rattle.chain_rules.specs.declared.unit.Rules.{Rules}

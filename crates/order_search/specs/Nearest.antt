@@ -1,7 +1,7 @@
 -- The plan of nearest neighbours.
 use Rattle.std.specs.Prelude.{◌≡◌, ℕ, ◌+◌, ◌<◌, ◌⊎◌, nat_eq, List, length, take, drop, Option, slice_get, slice_index_or, All, IsTrue, IsPermutation}
 use Rattle.std.specs.List.{position_or_len}
-use Rattle.text_scan.specs.declared.span.Point.{Point}
+use Rattle.base_types.specs.declared.span.Point.{Point}
 use Rattle.chain_rules.specs.Legality.{chain_at, unit_at}
 use Rattle.chain_rules.specs.declared.plan.Plan.{Plan}
 use Rattle.chain_rules.specs.declared.unit.Rules.{Rules}

@@ -11,7 +11,7 @@ use crate::reversals::reverse_run;
 use chain_rules::plain::is_legal;
 use chain_rules::{Plan, Rules};
 use std::alloc::Global;
-use text_scan::NoMemory;
+use base_types::NoMemory;
 use wire_cost::{Ends, plan_length};
 
 // The length of a legal plan.

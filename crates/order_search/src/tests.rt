@@ -4,7 +4,7 @@ use chain_rules::plain::is_legal;
 use chain_rules::{ChainRule, Plan, Rules, Unit};
 use std::alloc::{Alloc, Global};
 use std::process::Abort;
-use text_scan::{NoMemory, Point, Rows};
+use base_types::{NoMemory, Point, Rows};
 use wire_cost::Ends;
 
 // A chain of one-bit units from x = 0 on the line y to its stop there: where they are entered and left, how many bits it

@@ -1,10 +1,10 @@
 -- The text of the scan path of an output, and the first fault where there is none.
 use Rattle.std.specs.Prelude.{◌≡◌, ℕ, Bool, true, false, List, [], ◌∷◌, ◌++◌, length, codes, decimal, Option, Some, None, Ok, Err}
 use Rattle.std.specs.List.{flat_map, slice_get}
-use Rattle.text_scan.specs.declared.fault.Fault.{Fault}
-use Rattle.text_scan.specs.declared.fault.FileKind.TheVariants.{Words}
-use Rattle.text_scan.specs.declared.fault.Spot.TheVariants.{Line}
-use Rattle.text_scan.specs.declared.kind.Kind.TheVariants.{NoPort}
+use Rattle.base_types.specs.declared.fault.Fault.{Fault}
+use Rattle.base_types.specs.declared.fault.FileKind.TheVariants.{Words}
+use Rattle.base_types.specs.declared.fault.Spot.TheVariants.{Line}
+use Rattle.base_types.specs.declared.kind.Kind.TheVariants.{NoPort}
 use Rattle.netlist_core.specs.declared.netlist.NetId.{NetId}
 use Rattle.netlist_core.specs.declared.netlist.Instance.{Instance}
 use Rattle.netlist_core.specs.declared.netlist.Netlist.{Netlist}

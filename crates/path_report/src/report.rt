@@ -1,7 +1,7 @@
 ghost use Rattle.std.specs.Prelude.{◌≡◌, ◌<◌, ◌^◌, ◌++◌, length, IfOk, OnOk};
 ghost use Rattle.std.specs.List.{flat_map};
-ghost use Rattle.text_scan.specs.declared.fault.Fault.{Fault};
-ghost use Rattle.text_scan.specs.declared.fault.ReadFault.TheVariants as faults;
+ghost use Rattle.base_types.specs.declared.fault.Fault.{Fault};
+ghost use Rattle.base_types.specs.declared.fault.ReadFault.TheVariants as faults;
 ghost use Rattle.chain_trace.specs.Faults.{IfFault};
 ghost use Rattle.path_report.specs.Reports.{step_text, path_text, no_port, IsPathText, IsPathFault};
 
@@ -10,7 +10,7 @@ use cell_table::{CellTable, read_table};
 use chain_trace::{Path, Step, output_named, plain_of, trace};
 use netlist_core::{Netlist, classes_of};
 use std::alloc::Global;
-use text_scan::{Fault, FileKind, Kind, NoMemory, ReadFault, Spot, Text};
+use base_types::{Fault, FileKind, Kind, NoMemory, ReadFault, Spot, Text};
 use verilog_reader::read_netlist;
 
 fn no_port() -> ReadFault

@@ -8,7 +8,7 @@ use cell_table::{CellTable, OutPin, ScanPath};
 use chain_trace::{Step, out_pin, scan_path};
 use netlist_core::{Instance, Netlist};
 use std::alloc::Global;
-use text_scan::NoMemory;
+use base_types::NoMemory;
 
 /// The sum modulo 2.
 fn plus(a: bool, b: bool) -> bool

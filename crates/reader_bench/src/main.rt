@@ -14,7 +14,7 @@ use std::env;
 use std::fmt::Write;
 use std::rt::Clock;
 use std::time::Instant;
-use text_scan::Name;
+use base_types::Name;
 use verilog_reader::read_netlist;
 
 const MEGABYTE: usize = 1_000_000;

@@ -5,8 +5,8 @@ use Rattle.stil_tester.specs.declared.chains.Chains.{Chains}
 use Rattle.stil_tester.specs.declared.symbol.Symbol.{Symbol}
 use Rattle.stil_tester.specs.Symbols.{flip_if, Meets, symbol_of, expect_of}
 use Rattle.stil_tester.specs.Shifting.{HasCells, cell_at, scan_call}
-use Rattle.text_scan.specs.declared.kind.Kind.{Kind}
-use Rattle.text_scan.specs.declared.kind.Kind.TheVariants.{ShortLoad, LongCompare}
+use Rattle.base_types.specs.declared.kind.Kind.{Kind}
+use Rattle.base_types.specs.declared.kind.Kind.TheVariants.{ShortLoad, LongCompare}
 use Rattle.retarget.specs.Places.{parity_to, parity_after, chain_at, bits_at, StandsAt, longest}
 
 -- the character of a load that reaches the bit at a place: as many from the end; N (78) where there is none

@@ -5,7 +5,7 @@ ghost use Rattle.retarget.specs.Judging.{compare_character, is_expectation, IsLo
 
 use stil_reader::ScanCall;
 use stil_tester::Chains;
-use text_scan::{Kind, Text};
+use base_types::{Kind, Text};
 
 /// Why a scan call can't be retargeted, or None: it shifts too seldom to reach every cell, or it
 /// expects something where no cell of before the call comes out (IEEE 1450-1999, Shift).

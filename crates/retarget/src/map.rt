@@ -6,7 +6,7 @@ use crate::route::Route;
 use std::alloc::Global;
 use std::marker::Model;
 use stil_tester::Chains;
-use text_scan::NoMemory;
+use base_types::NoMemory;
 
 /// What a call's way from old chains to new ones needs: both, with the parities of their bits.
 /// Contracts see it as the pair of the old and the new chains.

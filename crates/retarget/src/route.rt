@@ -7,7 +7,7 @@ ghost use Rattle.retarget.specs.declared.side.Side.TheVariants.{Load, Compare};
 use crate::side::Side;
 use std::alloc::Global;
 use stil_tester::{ChainBits, Chains};
-use text_scan::{NoMemory, Rows};
+use base_types::{NoMemory, Rows};
 
 /// Chains with the parities of their bits.
 #[derive(Debug, Drop)]

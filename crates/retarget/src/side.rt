@@ -2,7 +2,7 @@ ghost use Rattle.std.specs.Prelude.{◌≡◌, ◌<◌, ◌≤◌};
 ghost use Rattle.retarget.specs.Retargeting.{flip_character, flip_character_if};
 ghost use Rattle.retarget.specs.Sides.{filler_of, character_in, index_of, text_of};
 
-use text_scan::Text;
+use base_types::Text;
 
 /// The strings that are shifted in, or those that are compared.
 #[derive(Clone, Copy, Debug, PartialEq, Eq)]

@@ -3,7 +3,7 @@
 use std::alloc::Global;
 use stil_reader::ScanCall;
 use stil_tester::{ChainBits, Chains};
-use text_scan::{NoMemory, Rows, Text};
+use base_types::{NoMemory, Rows, Text};
 
 const CHAINS: usize = 32;
 

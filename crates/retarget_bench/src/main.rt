@@ -28,7 +28,7 @@ use std::rt::Clock;
 use std::time::Instant;
 use stil_reader::ScanCall;
 use stil_tester::Chains;
-use text_scan::Text;
+use base_types::Text;
 
 /// Calls that differ; the rounds go through them in turn.
 const CALLS: usize = 8;

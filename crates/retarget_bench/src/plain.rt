@@ -6,7 +6,7 @@ ghost use Rattle.stil_tester.specs.Shifting.{AreChains, HasCells, IsCallFor};
 use std::alloc::Global;
 use stil_reader::ScanCall;
 use stil_tester::{Chains, Symbol, scan_call};
-use text_scan::NoMemory;
+use base_types::NoMemory;
 
 /// Shifts both calls step by step, the written one from the cells as the read one finds them: their
 /// verdict, or None where they have different ones or leave the cells different.

@@ -8,7 +8,7 @@ use std::process::Abort;
 use std::test::Fail;
 use stil_reader::ScanCall;
 use stil_tester::{ChainBits, Chains, Symbol};
-use text_scan::{NoMemory, Rows, Text};
+use base_types::{NoMemory, Rows, Text};
 
 /// None given, and the strings of at most four of three characters.
 pub const STRINGS: usize = 122;

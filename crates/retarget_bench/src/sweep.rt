@@ -44,7 +44,7 @@ use std::process::Abort;
 use std::test::Fail;
 use stil_reader::ScanCall;
 use stil_tester::Chains;
-use text_scan::{Kind, Rows, Text};
+use base_types::{Kind, Rows, Text};
 
 /// How many bits two chains have.
 type Sizes = [usize; 2];

@@ -9,7 +9,7 @@ use std::process::Abort;
 use std::test::Fail;
 use stil_reader::ScanCall;
 use stil_tester::{ChainBits, Chains};
-use text_scan::{Kind, NoMemory, Rows, Text};
+use base_types::{Kind, NoMemory, Rows, Text};
 
 /// The cells and the parities of a chain, its output parity last.
 type Bits = (&'static [u32], &'static [bool]);

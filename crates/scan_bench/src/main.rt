@@ -8,7 +8,8 @@ use std::env;
 use std::fmt::Write;
 use std::rt::Clock;
 use std::time::Instant;
-use text_scan::{Span, verilog_tokens};
+use base_types::Span;
+use verilog_syntax::verilog_tokens;
 
 const MEGABYTE: usize = 1_000_000;
 

@@ -13,7 +13,7 @@ use std::alloc::Global;
 use std::io::ErrorKind;
 use std::process::ExitCode;
 use std::{env, io};
-use text_scan::Word;
+use base_types::Word;
 
 /// The status of words that are of no written form.
 const NO_FORM: u8 = 1;

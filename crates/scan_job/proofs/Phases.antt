@@ -1,7 +1,7 @@
 -- What a run leaves, from what its phases leave.
 use Rattle.std.proofs.Common.{◌≡◌, ◌≢◌, ◌<◌, ◌≤◌, ◌⊎◌, ℕ, zero, suc, Bool, true, false, ◌&&◌, List, [], ◌++◌, length, Option, Some, None, option_map, is_some, IfSome, IsSome, Result, Ok, Err, nat_lt, refl, sym, ◌∙◌, ap, subst, append-nil, length-append, arith, inl, inr}
 use Rattle.std.proofs.lemmas.Bool.Decides.{nat_tests}
-use Rattle.text_scan.specs.declared.fault.Fault.{Fault}
+use Rattle.base_types.specs.declared.fault.Fault.{Fault}
 use Rattle.desk_io.specs.declared.slot.Slot.{Slot}
 use Rattle.desk_io.specs.declared.slot.Slot.TheVariants.{Table, Lef, Verilog, Def, Stil, OutVerilog, OutDef, OutStil, Console}
 use Rattle.desk_io.specs.declared.names.Names.{Names}

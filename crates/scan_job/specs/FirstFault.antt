@@ -1,15 +1,15 @@
 -- The first fault of a command's files, and the line that says it.
 use Rattle.std.specs.Prelude.{◌≡◌, ℕ, nat_lt, Bool, ◌&&◌, if◌then◌else◌, List, [], ◌∷◌, ◌++◌, length, codes, Option, Some, None, is_some, unwrap_or, Result, Ok, Err}
 use Rattle.std.specs.Fmt.{decimal}
-use Rattle.text_scan.specs.declared.fault.Fault.{Fault}
-use Rattle.text_scan.specs.declared.fault.FileKind.{FileKind}
-use Rattle.text_scan.specs.declared.fault.FileKind.TheVariants as files
-use Rattle.text_scan.specs.declared.fault.ReadFault.{ReadFault}
-use Rattle.text_scan.specs.declared.fault.ReadFault.TheVariants as read_faults
-use Rattle.text_scan.specs.declared.fault.Spot.{Spot}
-use Rattle.text_scan.specs.declared.fault.Spot.TheVariants as spots
-use Rattle.text_scan.specs.declared.kind.Kind.TheVariants.{FileSize}
-use Rattle.text_scan.specs.Faults.{kind_name}
+use Rattle.base_types.specs.declared.fault.Fault.{Fault}
+use Rattle.base_types.specs.declared.fault.FileKind.{FileKind}
+use Rattle.base_types.specs.declared.fault.FileKind.TheVariants as files
+use Rattle.base_types.specs.declared.fault.ReadFault.{ReadFault}
+use Rattle.base_types.specs.declared.fault.ReadFault.TheVariants as read_faults
+use Rattle.base_types.specs.declared.fault.Spot.{Spot}
+use Rattle.base_types.specs.declared.fault.Spot.TheVariants as spots
+use Rattle.base_types.specs.declared.kind.Kind.TheVariants.{FileSize}
+use Rattle.base_types.specs.Faults.{kind_name}
 use Rattle.desk_io.specs.declared.slot.Slot.{Slot}
 use Rattle.desk_io.specs.declared.slot.Slot.TheVariants.{Table, Lef, Verilog, Def, Stil, OutVerilog, OutDef, OutStil, Console}
 use Rattle.desk_io.specs.declared.names.Names.{Names}

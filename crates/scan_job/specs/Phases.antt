@@ -1,6 +1,6 @@
 -- What the phases of a command leave at the slots.
 use Rattle.std.specs.Prelude.{◌⊎◌, ℕ, List, Option, Result, Ok, Err}
-use Rattle.text_scan.specs.declared.fault.Fault.{Fault}
+use Rattle.base_types.specs.declared.fault.Fault.{Fault}
 use Rattle.desk_io.specs.declared.slot.Slot.TheVariants.{Console}
 use Rattle.desk_io.specs.declared.names.Names.{Names}
 use Rattle.desk_io.specs.declared.outputs.Outputs.{Outputs}

@@ -16,7 +16,7 @@ use crate::stop::Stop;
 use desk_io::{Desk, Inputs, InputsFault, Names, Slot, put_file, put_outputs, take_inputs};
 use scan_words::Order;
 use std::alloc::Global;
-use text_scan::{Fault, FileKind, Kind, ReadFault, Spot};
+use base_types::{Fault, FileKind, Kind, ReadFault, Spot};
 
 /// The input of a slot, as faults name it.
 fn file_of(slot: Slot) -> FileKind

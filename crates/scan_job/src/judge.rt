@@ -13,7 +13,7 @@ use desk_io::{Inputs, Outputs, Slot};
 use path_report::path_text;
 use scan_words::{Order, Verb};
 use std::alloc::Global;
-use text_scan::{ReadFault, Text};
+use base_types::{ReadFault, Text};
 
 /// The texts of `rewire`, or the first fault of its file and its words.
 fn judge_rewire(alloc: Global, order: &Order, inputs: &Inputs) -> Result<Outputs, ReadFault>

@@ -4,7 +4,7 @@ ghost use Rattle.scan_job.specs.Texts.{rewire_text};
 
 use desk_io::Names;
 use std::alloc::Global;
-use text_scan::{Fault, FileKind, NoMemory, Spot, Text, Word};
+use base_types::{Fault, FileKind, NoMemory, Spot, Text, Word};
 
 fn word_text(word: &Option<Word>) -> &str
     ensures value { result.now ≡ unwrap_or word.now [] }

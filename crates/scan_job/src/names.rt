@@ -5,7 +5,7 @@ use chain_rewire::Rewire;
 use desk_io::Names;
 use scan_words::{Order, Verb};
 use std::alloc::Global;
-use text_scan::{Name, NoMemory, Rows, Word};
+use base_types::{Name, NoMemory, Rows, Word};
 
 /// The value of the option at a place of the command's list; empty where there is none.
 pub(crate) fn value_at(order: &Order, place: usize) -> &str

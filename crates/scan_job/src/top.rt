@@ -1,5 +1,5 @@
 ghost use Rattle.std.specs.Prelude.{◌≡◌, ◌≢◌, ◌⊎◌, ◌<◌, ◌≤◌, List, ℕ};
-ghost use Rattle.text_scan.specs.declared.fault.Fault.{Fault};
+ghost use Rattle.base_types.specs.declared.fault.Fault.{Fault};
 ghost use Rattle.desk_io.specs.declared.slot.Slot.{Slot};
 ghost use Rattle.desk_io.specs.declared.slot.Slot.TheVariants.{Console};
 ghost use Rattle.desk_io.specs.Desk.{IsInput, IsOutput, AllUnopened};
@@ -16,7 +16,7 @@ use crate::stop::Stop;
 use desk_io::Desk;
 use scan_words::read_words;
 use std::alloc::Global;
-use text_scan::{NoMemory, Word};
+use base_types::{NoMemory, Word};
 
 fn status_of(ended: Result<(), Stop>) -> u8
     ensures value { result ≡ status_of ended }

@@ -1,5 +1,5 @@
 use crate::verb::Verb;
-use text_scan::{Rows, Word};
+use base_types::{Rows, Word};
 
 /// What the words of a command say.
 #[derive(Debug, Drop)]

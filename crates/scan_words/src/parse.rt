@@ -11,7 +11,7 @@ use crate::verb::Verb;
 use clap::error::ErrorKind;
 use clap::{Arg, ArgAction, ArgMatches, Command};
 use std::alloc::{AllocError, Global};
-use text_scan::{NoMemory, Rows, Word};
+use base_types::{NoMemory, Rows, Word};
 
 /// An option with one value each time.
 fn option_of<'a>(alloc: Global, name: &'a str) -> Arg<'a>

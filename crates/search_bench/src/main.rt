@@ -12,7 +12,7 @@ use std::alloc::{Alloc, Global};
 use std::rt::Clock;
 use std::time::Instant;
 use std::{env, io};
-use text_scan::{NoMemory, Point, Rows};
+use base_types::{NoMemory, Point, Rows};
 use wire_cost::{Ends, are_placed, chain_length, is_chain_at};
 
 const SMALL: u32 = 60;

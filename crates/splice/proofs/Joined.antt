@@ -1,7 +1,7 @@
 -- Edits of parts that stand one behind the other.
 use Rattle.std.proofs.Common.{◌≡◌, ℕ, List, [], ◌∷◌, ◌++◌, refl, sym, ap, ◌∙◌, append_assoc}
-use Rattle.text_scan.specs.declared.span.Span.{Span}
-use Rattle.text_scan.specs.VerilogTokens.{texts}
+use Rattle.base_types.specs.declared.span.Span.{Span}
+use Rattle.verilog_syntax.specs.VerilogTokens.{texts}
 use Rattle.splice.specs.declared.Edit.{Edit}
 use Rattle.splice.specs.Parts.{Part, Fixed, Slot}
 use Rattle.splice.specs.Edited.{IsEdit, AreEdits}

@@ -1,9 +1,9 @@
 -- The law of written texts: where a text is spelled by parts, the text with some expressions replaced is spelled by the parts with these replaced.
 use Rattle.std.proofs.Common.{◌≡◌, ℕ, List, [], length}
-use Rattle.text_scan.specs.VerilogTokens.{verilog_tokens, texts}
-use Rattle.text_scan.specs.Tokens.{tokens_of}
-use Rattle.text_scan.specs.Each.{Each}
-use Rattle.text_scan.specs.Seams.{IsReady}
+use Rattle.verilog_syntax.specs.VerilogTokens.{verilog_tokens, texts}
+use Rattle.token_forms.specs.Tokens.{tokens_of}
+use Rattle.std.specs.List.{AllByRecursion as Each}
+use Rattle.verilog_syntax.specs.Seams.{IsReady}
 use Rattle.splice.specs.declared.Edit.{Edit}
 use Rattle.splice.specs.Spliced.{spliced, AreRising}
 use Rattle.splice.specs.Parts.{Part, Fits, spelled}

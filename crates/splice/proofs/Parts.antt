@@ -1,11 +1,11 @@
 -- Tokens that are spelled by parts, and the same with some parts replaced.
 use Rattle.std.proofs.Common.{◌≡◌, ℕ, true, suc, ◌+◌, ◌≤◌, List, [], ◌∷◌, ◌++◌, length, map, refl, sym, ap, ◌∙◌, subst, arith, append_assoc}
 use Rattle.std.proofs.lemmas.List.{map-append, append-nil}
-use Rattle.text_scan.specs.declared.span.Span.{Span}
-use Rattle.text_scan.specs.Tokens.{Token}
-use Rattle.text_scan.specs.Each.{Each}
-use Rattle.text_scan.specs.Seams.{is_mark, IsReady}
-use Rattle.text_scan.specs.VerilogTokens.{texts}
+use Rattle.base_types.specs.declared.span.Span.{Span}
+use Rattle.token_forms.specs.Tokens.{Token}
+use Rattle.std.specs.List.{AllByRecursion as Each}
+use Rattle.verilog_syntax.specs.Seams.{is_mark, IsReady}
+use Rattle.verilog_syntax.specs.VerilogTokens.{texts}
 use Rattle.splice.specs.declared.Edit.{Edit}
 use Rattle.splice.specs.Parts.{Part, Fixed, Slot, FitsFixed, FitsSlot, Fits, spelled}
 use Rattle.splice.specs.Edited.{IsEdit, AreEdits}

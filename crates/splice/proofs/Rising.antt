@@ -1,11 +1,11 @@
 -- Edits of parts that a text spells stand in it in their order.
 use Rattle.std.proofs.Common.{◌≡◌, ℕ, zero, suc, ◌+◌, ◌<◌, ◌≤◌, List, [], ◌∷◌, ◌++◌, length, drop, map, refl, sym, ap, ◌∙◌, subst, arith}
-use Rattle.text_scan.specs.declared.span.Span.{Span}
-use Rattle.text_scan.specs.Pieces.{tokens_from}
-use Rattle.text_scan.specs.VerilogTokens.{piece_at, verilog_tokens}
-use Rattle.text_scan.proofs.VerilogPieces.{verilog_cut}
-use Rattle.text_scan.specs.Tokens.{Token, tokens_of}
-use Rattle.text_scan.proofs.Reaches.{Turn, Over, First, turn}
+use Rattle.base_types.specs.declared.span.Span.{Span}
+use Rattle.token_forms.specs.Pieces.{tokens_from}
+use Rattle.verilog_syntax.specs.VerilogTokens.{piece_at, verilog_tokens}
+use Rattle.verilog_syntax.proofs.VerilogPieces.{verilog_cut}
+use Rattle.token_forms.specs.Tokens.{Token, tokens_of}
+use Rattle.token_forms.proofs.Reaches.{Turn, Over, First, turn}
 use Rattle.splice.specs.declared.Edit.{Edit}
 use Rattle.splice.specs.Spliced.{AreRising}
 use Rattle.splice.specs.Parts.{Part, Fixed, Slot, FitsFixed, FitsSlot, Fits, IsPlace, last_end}

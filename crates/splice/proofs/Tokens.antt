@@ -1,11 +1,12 @@
 -- The written text's tokens, from the tokens with their texts.
 use Rattle.std.proofs.Common.{◌≡◌, ℕ, true, suc, ◌+◌, ◌≤◌, List, [], ◌∷◌, ◌++◌, length, take, drop, map, refl, sym, ap, ◌∙◌, subst, arith}
 use Rattle.std.proofs.lemmas.List.{map-append}
-use Rattle.text_scan.specs.declared.span.Span.{Span}
-use Rattle.text_scan.specs.VerilogTokens.{verilog_tokens, texts}
-use Rattle.text_scan.specs.Tokens.{Token, token_of, tokens_of}
-use Rattle.text_scan.specs.Each.{Each}
-use Rattle.text_scan.specs.Seams.{bytes_of, texts_of, is_mark, IsReady, IsRun, end_of}
+use Rattle.base_types.specs.declared.span.Span.{Span}
+use Rattle.verilog_syntax.specs.VerilogTokens.{verilog_tokens, texts}
+use Rattle.token_forms.specs.Tokens.{Token, token_of, tokens_of}
+use Rattle.std.specs.List.{AllByRecursion as Each}
+use Rattle.token_forms.specs.Runs.{bytes_of, texts_of, IsRun, end_of}
+use Rattle.verilog_syntax.specs.Seams.{is_mark, IsReady}
 use Rattle.splice.specs.declared.Edit.{Edit}
 use Rattle.splice.specs.Spliced.{spliced, AreRising}
 use Rattle.splice.proofs.Written.{Swap, Swapped, written_from}

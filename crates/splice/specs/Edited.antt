@@ -1,6 +1,6 @@
 -- Parts in which some expressions are replaced.
 use Rattle.std.specs.Prelude.{◌≡◌, ℕ, List, [], ◌∷◌, ◌++◌}
-use Rattle.text_scan.specs.VerilogTokens.{texts}
+use Rattle.verilog_syntax.specs.VerilogTokens.{texts}
 use Rattle.splice.specs.declared.Edit.{Edit}
 use Rattle.splice.specs.Parts.{Part, Fixed, Slot}
 

@@ -1,7 +1,7 @@
 -- How values are spelled: as tokens, some of which are expressions that can be replaced.
 use Rattle.std.specs.Prelude.{◌≡◌, ℕ, List, [], ◌∷◌, ◌++◌, map}
-use Rattle.text_scan.specs.Tokens.{Token}
-use Rattle.text_scan.specs.declared.span.Span.{Span}
+use Rattle.token_forms.specs.Tokens.{Token}
+use Rattle.base_types.specs.declared.span.Span.{Span}
 
 -- a token; or an expression between two marks: its place, and the texts of its tokens
 pub data Part : Type 0 where

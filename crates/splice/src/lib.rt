@@ -7,7 +7,7 @@ ghost use Rattle.std.specs.Prelude.{◌≡◌, length, IfOk};
 ghost use Rattle.splice.specs.Spliced.{AreRising, spliced};
 
 use std::alloc::Global;
-use text_scan::{Name, NoMemory, Span, Text};
+use base_types::{Name, NoMemory, Span, Text};
 
 /// A part of a text, and what stands there in its place.
 #[derive(Debug, Drop)]

@@ -1,4 +1,4 @@
-use text_scan::{Rows, Text};
+use base_types::{Rows, Text};
 
 /// The data of one scan call: one place for each scan chain, in the order of the ScanChain blocks
 /// (IEEE 1450-1999, ScanStructures and Shift).

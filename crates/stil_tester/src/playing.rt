@@ -9,7 +9,7 @@ use crate::scan::{ports, shift_call};
 use crate::symbol::Symbol;
 use std::alloc::Global;
 use stil_reader::{PatternStatement, ScanCall};
-use text_scan::{NoMemory, Rows};
+use base_types::{NoMemory, Rows};
 
 /// Plays statements in order, from the cells as they are.
 ///

@@ -7,7 +7,7 @@ use crate::shift::shift_step;
 use crate::symbol::{Expect, Symbol};
 use std::alloc::Global;
 use stil_reader::ScanCall;
-use text_scan::{NoMemory, Text};
+use base_types::{NoMemory, Text};
 
 /// One scan call: in each shift the scan outputs are compared, then all chains move on
 /// (IEEE 1450-1999, Shift).

@@ -10,7 +10,7 @@ use std::alloc::Global;
 use std::process::Abort;
 use std::test::Fail;
 use stil_reader::{PatternStatement, ScanCall};
-use text_scan::{NoMemory, Rows, Text};
+use base_types::{NoMemory, Rows, Text};
 
 /// One chain of three cells.
 fn chain(

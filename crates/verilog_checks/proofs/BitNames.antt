@@ -6,7 +6,7 @@ use Rattle.std.proofs.lemmas.Bool.{cases_eq}
 use Rattle.std.proofs.lemmas.Bool.Decides.{nat_tests}
 use Rattle.std.proofs.lemmas.Str.Parse.{IsNumeralModel, numerals_by_fold}
 use Rattle.std.proofs.lemmas.Fmt.{decimal_nonempty, decimal_digit, first_decimal, digits_decimal, digits_value-decimal, decimal-digits_value, decimal_injective}
-use Rattle.text_scan.specs.VerilogTokens.{is_digit}
+use Rattle.verilog_syntax.specs.VerilogTokens.{is_digit}
 use Rattle.verilog_names.specs.Values.{decimal_value, bit_name}
 use Rattle.verilog_names.proofs.Indexes.{with_digit}
 

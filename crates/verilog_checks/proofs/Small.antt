@@ -3,7 +3,7 @@ use Rattle.std.proofs.Common.{◌≡◌, ◌≤◌, Bool, true, false, cond, not
 use Rattle.std.specs.Prelude.{nat_lt}
 use Rattle.std.proofs.lemmas.Bool.{ltb-false}
 use Rattle.std.proofs.lemmas.List.{append-nil}
-use Rattle.text_scan.specs.declared.kind.Kind.TheVariants.{VerilogNumber}
+use Rattle.base_types.specs.declared.kind.Kind.TheVariants.{VerilogNumber}
 use Rattle.verilog_syntax.specs.declared.reading.Placed.{Placed}
 use Rattle.verilog_syntax.specs.Reading.{fault_at}
 use Rattle.verilog_names.specs.Declarations.{declarations}

@@ -1,7 +1,7 @@
 -- The size of a constant (IEEE 1364-2005, 3.5.1).
 use Rattle.std.specs.Prelude.{ℕ, List, take}
 use Rattle.std.specs.List.{prefix_len}
-use Rattle.text_scan.specs.VerilogTokens.{is_digit}
+use Rattle.verilog_syntax.specs.VerilogTokens.{is_digit}
 use Rattle.verilog_names.specs.Values.{decimal_value}
 
 -- the decimal in front of the quote

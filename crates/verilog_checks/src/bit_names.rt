@@ -1,7 +1,7 @@
 //! Names that bits of vectors have.
 ghost use Rattle.std.specs.Prelude.{◌≡◌, ◌==◌, ◌<◌, ◌≤◌, ◌+◌, [], ◌∷◌, ◌++◌, ℕ, List, false, length, take, drop, decimal, MatchOption};
 ghost use Rattle.std.specs.List.{list_any, list_all};
-ghost use Rattle.text_scan.specs.VerilogTokens.{is_digit};
+ghost use Rattle.verilog_syntax.specs.VerilogTokens.{is_digit};
 ghost use Rattle.verilog_names.specs.Values.{bit_name};
 ghost use Rattle.verilog_checks.specs.Seen.{is_closed};
 

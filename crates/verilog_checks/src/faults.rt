@@ -1,8 +1,8 @@
 ghost use Rattle.std.specs.Prelude.{◌≡◌};
-ghost use Rattle.text_scan.specs.declared.fault.ReadFault.TheVariants.{Fault as refused};
+ghost use Rattle.base_types.specs.declared.fault.ReadFault.TheVariants.{Fault as refused};
 ghost use Rattle.verilog_syntax.specs.Reading.{fault_at};
 
-use text_scan::{Fault, FileKind, Kind, ReadFault, Spot};
+use base_types::{Fault, FileKind, Kind, ReadFault, Spot};
 
 /// A fault of the statement on a line.
 pub(crate) fn fault_at(kind: Kind, line: u64) -> ReadFault

@@ -6,10 +6,11 @@ ghost use Rattle.verilog_checks.specs.Faults.{has_twice, pins_in};
 ghost use Rattle.verilog_names.specs.NameSets.{HasNames};
 
 use crate::few;
+use base_types::NoMemory;
 use std::alloc::Global;
-use text_scan::NoMemory;
+use token_forms::Written;
 use verilog_names::{NameSet, NameState, plain_of};
-use verilog_syntax::{Connection, Statement, Written};
+use verilog_syntax::{Connection, Statement};
 
 /// Puts the plain names of these behind the last one.
 fn push_names<'a>(names: &mut Vec<&'a [u8]>, written: &[Written<'a>]) -> Result<(), NoMemory>

@@ -2,7 +2,7 @@
 ghost use Rattle.std.specs.Prelude.{◌≡◌, ◌≤◌, ◌<◌, ◌++◌, ◌∷◌, [], List, ℕ, Some, map, length, false, true, IfOk, OnOk};
 ghost use Rattle.std.specs.Bool.{OnTrue};
 ghost use Rattle.std.specs.List.{prefix_len, list_any};
-ghost use Rattle.text_scan.specs.VerilogTokens.{is_digit};
+ghost use Rattle.verilog_syntax.specs.VerilogTokens.{is_digit};
 ghost use Rattle.verilog_syntax.specs.Reading.{Answers};
 ghost use Rattle.verilog_syntax.specs.declared.statement.Declared.{Declared as ghost_declared};
 ghost use Rattle.verilog_syntax.specs.declared.statement.Range.{Range as ghost_range};
@@ -14,10 +14,11 @@ ghost use Rattle.verilog_checks.specs.Steps.{has_bad_number, are_small, AreCount
 
 use crate::faults::fault_at;
 use crate::ranges::{bounds_of, small_value};
+use base_types::{Kind, NoMemory, ReadFault};
 use std::alloc::Global;
-use text_scan::{Kind, NoMemory, ReadFault, is_digit};
+use token_forms::Written;
 use verilog_names::{Bounds, NameSet, NameState, index_value, plain_of, width};
-use verilog_syntax::{Connection, Item, Placed, Range, Statement, Written};
+use verilog_syntax::{Connection, Item, Placed, Range, Statement, is_digit};
 
 /// The most bits that the declared vectors have together.
 const MOST_BITS: u64 = 16_777_216;

@@ -8,10 +8,11 @@ ghost use Rattle.verilog_names.specs.NameSets.{HasNames};
 ghost use Rattle.verilog_checks.specs.Seen.{AreClosed, is_closed};
 
 use crate::bit_names::is_closed;
+use base_types::NoMemory;
 use std::alloc::Global;
-use text_scan::NoMemory;
+use token_forms::Written;
 use verilog_names::{NameSet, NameState, plain_of};
-use verilog_syntax::{Connection, Item, Placed, Range, Statement, Written};
+use verilog_syntax::{Connection, Item, Placed, Range, Statement};
 
 /// Adds the closed names of a list.
 fn add_closed<'a>(set: &mut NameSet<'a>, declared: &[Written<'a>]) -> Result<(), NoMemory>

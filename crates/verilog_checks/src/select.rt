@@ -11,12 +11,13 @@ ghost use Rattle.verilog_checks.specs.Steps.{has_bad_number, are_small, has_key,
 use crate::faults::fault_at;
 use crate::number::constant_size;
 use crate::ranges::small_value;
+use base_types::{Kind, NoMemory, ReadFault};
 use std::alloc::Global;
-use text_scan::{Kind, NoMemory, ReadFault};
+use token_forms::Written;
 use verilog_names::{
     Bounds, DeclaredNames, NameSet, NameState, has_index, has_part, plain_of, width, width_or_one,
 };
-use verilog_syntax::{Connection, Declared, Expression, Item, Placed, Statement, Written};
+use verilog_syntax::{Connection, Declared, Expression, Item, Placed, Statement};
 
 fn part_of(left: &Written, right: &Written) -> Bounds
     requires left { is_big_index left.now ≡ false }

@@ -20,12 +20,13 @@ use crate::name_lists::{add_names, has_twice, ports_in, repeats_pin};
 use crate::ranges::range_bounds;
 use crate::scalars::{closed_declared, closed_scalars_in};
 use crate::select::{is_port_kind, selects};
+use base_types::{Kind, NoMemory, ReadFault};
 use std::alloc::Global;
-use text_scan::{Kind, NoMemory, ReadFault};
+use token_forms::Written;
 use verilog_names::{
     Bounds, DeclaredNames, First, NameSet, NameState, index_at, plain_of, push_bit_name, width,
 };
-use verilog_syntax::{Declared, Placed, Statement, Written};
+use verilog_syntax::{Declared, Placed, Statement};
 
 fn is_wire(kind: Declared) -> bool
     ensures value { result ≡ is_wire kind }

@@ -1,6 +1,6 @@
 -- What a `NameHasher` computes.
 use Rattle.std.specs.Prelude.{ℕ, ◌+◌, ◌*◌, ◌/◌, ◌%◌, ◌^◌, List, [], ◌∷◌, bit_xor, if◌then◌else◌}
-use Rattle.text_scan.specs.VerilogTokens.{is_digit}
+use Rattle.verilog_syntax.specs.VerilogTokens.{is_digit}
 use Rattle.verilog_names.specs.declared.name_hash.NameHasher.{NameHasher}
 
 abbrev pub initial : NameHasher

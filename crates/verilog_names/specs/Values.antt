@@ -1,8 +1,8 @@
 -- Names and numbers as values (IEEE 1364-2005, 3.5.1 and 3.7).
 use Rattle.std.specs.Prelude.{ℕ, ◌+◌, ◌-◌, ◌*◌, Bool, ◌&&◌, not, nat_lt, ◌==◌, if◌then◌else◌, List, [], ◌∷◌, ◌++◌, take, fold, decimal}
 use Rattle.std.specs.List.{prefix_len}
-use Rattle.text_scan.specs.VerilogTokens.{is_blank}
-use Rattle.text_scan.specs.Seams.{is_identifier}
+use Rattle.verilog_syntax.specs.VerilogTokens.{is_blank}
+use Rattle.verilog_syntax.specs.Seams.{is_identifier}
 use Rattle.verilog_syntax.specs.Words.{is_reserved}
 
 -- a name without its escape: without the leading backslash and the blank behind it

@@ -13,11 +13,11 @@ use crate::bounds::Bounds;
 use crate::entry::Entry;
 use crate::name_hash::NameState;
 use crate::vector::width_or_one;
+use base_types::NoMemory;
 use indexmap::IndexMap;
 use indexmap::map::Iter;
 use std::alloc::Global;
 use std::marker::Model;
-use text_scan::NoMemory;
 use verilog_syntax::Declared;
 
 /// What the first declaration of a name makes of it.

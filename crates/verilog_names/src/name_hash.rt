@@ -4,7 +4,7 @@ ghost use Rattle.verilog_names.specs.NameHashes.{initial, factor, written, finis
 
 use std::collections::HashSet;
 use std::hash::{BuildHasherDefault, Hasher};
-use text_scan::is_digit;
+use verilog_syntax::is_digit;
 
 const MIXER: u64 = 0x9e37_79b9_7f4a_7c15;
 

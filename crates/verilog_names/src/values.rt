@@ -1,12 +1,13 @@
 //! Names and numbers as values.
 ghost use Rattle.std.specs.Prelude.{◌≡◌, ◌<◌, ◌≤◌, ◌++◌, length, not, MatchOption, OnOk};
 ghost use Rattle.std.specs.List.{prefix_len};
-ghost use Rattle.text_scan.specs.VerilogTokens.{is_blank};
+ghost use Rattle.verilog_syntax.specs.VerilogTokens.{is_blank};
 ghost use Rattle.verilog_names.specs.Values.{plain_of, decimal_value, bit_name};
 
+use base_types::NoMemory;
 use std::alloc::Global;
-use text_scan::{NoMemory, is_blank};
-use verilog_syntax::Written;
+use token_forms::Written;
+use verilog_syntax::is_blank;
 
 fn name_len(bytes: &[u8]) -> usize
     ensures value { result ≡ prefix_len (λ c. not (is_blank c)) bytes.now }

@@ -1,8 +1,8 @@
 -- A constant has no net among its bits.
 use Rattle.std.proofs.Common.{◌≡◌, ℕ, zero, suc, ◌-◌, ◌/◌, ◌%◌, Bool, true, false, cond, eqb, List, [], ◌∷◌, ◌++◌, length, map, replicate, drop, refl, ap, ◌∙◌}
 use Rattle.std.specs.List.{flat_map}
-use Rattle.text_scan.specs.Each.{Each}
-use Rattle.text_scan.specs.VerilogTokens.{is_unknown}
+use Rattle.std.specs.List.{AllByRecursion as Each}
+use Rattle.verilog_syntax.specs.VerilogTokens.{is_unknown}
 use Rattle.netlist_core.specs.declared.netlist.Bit.{Bit}
 use Rattle.netlist_core.specs.declared.netlist.Bit.TheVariants.{Net, Zero, One, Unknown}
 use Rattle.netlist_core.specs.declared.netlist.NetName.{NetName}

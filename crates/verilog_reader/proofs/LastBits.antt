@@ -5,7 +5,7 @@ use Rattle.std.proofs.Math.Nat.{pow-suc, mod-add-div', add-mul-mod_self_right, z
 use Rattle.std.proofs.Math.Seq.{drop-length, take-length}
 use Rattle.std.proofs.lemmas.Nat.{field_of, pow_pos, shr-shr}
 use Rattle.std.proofs.lemmas.List.{replicate_more, drop-append-le, drop-drop}
-use Rattle.text_scan.specs.VerilogTokens.{is_unknown}
+use Rattle.verilog_syntax.specs.VerilogTokens.{is_unknown}
 use Rattle.netlist_core.specs.declared.netlist.Bit.{Bit}
 use Rattle.netlist_core.specs.declared.netlist.Bit.TheVariants.{Zero, Unknown}
 use Rattle.verilog_reader.specs.Constants.{bit_of, value_bits, digit_value, digit_bits, fitted}

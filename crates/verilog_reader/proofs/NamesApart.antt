@@ -5,7 +5,7 @@ use Rattle.std.specs.List.{flat_map, list_any, find}
 use Rattle.std.specs.Str.{bytes_eq}
 use Rattle.std.proofs.lemmas.Bool.{false≢true, or_parts, ltb-false}
 use Rattle.std.proofs.lemmas.List.{map-append}
-use Rattle.text_scan.specs.Each.{Each}
+use Rattle.std.specs.List.{AllByRecursion as Each}
 use Rattle.netlist_core.specs.declared.netlist.NetName.{NetName}
 use Rattle.verilog_syntax.specs.declared.statement.Declared.{Declared}
 use Rattle.verilog_syntax.specs.declared.statement.Range.{Range}

@@ -1,8 +1,8 @@
 -- The numbered netlist of faultless statements is theirs.
 use Rattle.std.proofs.Common.{◌≡◌, ◌∙◌, ℕ, ◌+◌, ◌<◌, ◌≤◌, ◌^◌, false, List, [], ◌∷◌, ◌++◌, length, refl, ap, sym, subst, arith, Ok, Option}
 use Rattle.std.specs.List.{flat_map, All}
-use Rattle.text_scan.specs.Each.{Each}
-use Rattle.text_scan.specs.declared.kind.Kind.TheVariants.{VerilogNumber, VerilogTwice, BadSelect}
+use Rattle.std.specs.List.{AllByRecursion as Each}
+use Rattle.base_types.specs.declared.kind.Kind.TheVariants.{VerilogNumber, VerilogTwice, BadSelect}
 use Rattle.netlist_core.specs.declared.netlist.Port.{Port}
 use Rattle.netlist_core.specs.Netlists.{IsAssign, IsInstance, IsNetlist}
 use Rattle.verilog_syntax.specs.declared.reading.Placed.{Placed}

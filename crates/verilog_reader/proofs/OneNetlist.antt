@@ -2,9 +2,9 @@
 use Rattle.std.proofs.Common.{◌≡◌, ℕ, ◌<◌, List, [], ◌∷◌, length, map, Result, Ok, Err, refl, sym, ap, ap₂, ◌∙◌, subst, arith}
 use Rattle.std.specs.Prelude.{All, slice_index_or}
 use Rattle.std.proofs.lemmas.List.{length-map, get_or-map}
-use Rattle.text_scan.specs.declared.fault.Fault.{Fault}
+use Rattle.base_types.specs.declared.fault.Fault.{Fault}
 use Rattle.std.proofs.lemmas.List.Elements.{All-tail, All-head}
-use Rattle.text_scan.specs.declared.span.Span.{Span}
+use Rattle.base_types.specs.declared.span.Span.{Span}
 use Rattle.netlist_core.specs.declared.netlist.NetId.{NetId}
 use Rattle.netlist_core.specs.declared.netlist.Bit.{Bit}
 use Rattle.netlist_core.specs.declared.netlist.Bit.TheVariants.{Net, Zero, One, Unknown}

@@ -1,7 +1,7 @@
 -- The bits of a constant (IEEE 1364-2005, 3.5.1).
 use Rattle.std.specs.Prelude.{ℕ, zero, suc, ◌+◌, ◌-◌, ◌/◌, ◌%◌, Bool, ◌||◌, not, nat_le, ◌==◌, if◌then◌else◌, List, [], ◌∷◌, ◌++◌, length, drop, replicate, filter}
 use Rattle.std.specs.List.{flat_map, prefix_len}
-use Rattle.text_scan.specs.VerilogTokens.{is_digit, is_unknown}
+use Rattle.verilog_syntax.specs.VerilogTokens.{is_digit, is_unknown}
 use Rattle.netlist_core.specs.declared.netlist.Bit.{Bit}
 use Rattle.netlist_core.specs.declared.netlist.Bit.TheVariants.{Zero, One, Unknown}
 use Rattle.verilog_names.specs.Values.{decimal_value}

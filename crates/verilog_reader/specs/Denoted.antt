@@ -2,7 +2,7 @@
 -- numbers are free.
 use Rattle.std.specs.Prelude.{length, ◌≡◌, ℕ, if◌then◌else◌, List, [], ◌∷◌, ◌++◌, map, decimal, Option, Some, None, Ok}
 use Rattle.std.specs.List.{flat_map}
-use Rattle.text_scan.specs.declared.span.Span.{Span}
+use Rattle.base_types.specs.declared.span.Span.{Span}
 use Rattle.netlist_core.specs.declared.netlist.Direction.{Direction}
 use Rattle.netlist_core.specs.declared.netlist.Direction.TheVariants as directions
 use Rattle.netlist_core.specs.declared.netlist.NetName.{NetName}

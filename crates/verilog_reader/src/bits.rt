@@ -7,9 +7,9 @@ ghost use Rattle.verilog_reader.specs.Numbering.{net_bits, all_bits, one_bit, pa
 
 use crate::constant::constant_bits;
 use crate::nets::Nets;
+use base_types::NoMemory;
 use netlist_core::{Bit, Bits, Expr, NetId};
 use std::alloc::Global;
-use text_scan::NoMemory;
 use verilog_checks::small_value;
 use verilog_names::{Bounds, Entry, offset_in, plain_of, width, width_or_one};
 use verilog_syntax::{Expression, Item};

@@ -1,16 +1,16 @@
 //! The bits of a constant.
 ghost use Rattle.std.specs.Prelude.{◌≡◌, ℕ, ◌^◌, ◌%◌, ◌/◌, ◌<◌, ◌≤◌, ◌++◌, List, [], false, if◌then◌else◌, IfOk};
 ghost use Rattle.std.specs.List.{flat_map};
-ghost use Rattle.text_scan.specs.VerilogTokens.{is_unknown};
+ghost use Rattle.verilog_syntax.specs.VerilogTokens.{is_unknown};
 ghost use Rattle.netlist_core.specs.declared.netlist.Bit.{Bit};
 ghost use Rattle.verilog_names.specs.Values.{decimal_value};
 ghost use Rattle.verilog_reader.specs.Constants.{constant_base, constant_digits, digit_width, digit_value, digit_bits, is_decimal_base, fill_of, bits_in, constant_bits};
 ghost use Rattle.verilog_reader.specs.LastBits.{masked_bit, masked_bits, without_underscores, AreLastBits};
 ghost use Rattle.verilog_checks.specs.Faults.{is_bad_size};
 
+use base_types::{NoMemory, Rows};
 use netlist_core::Bit;
 use std::alloc::Global;
-use text_scan::{NoMemory, Rows};
 use verilog_checks::{constant_size, size_digits};
 
 fn is_unknown(digit: u8) -> bool

@@ -1,8 +1,8 @@
 use crate::constant::constant_bits;
+use base_types::NoMemory;
 use netlist_core::Bit;
 use std::alloc::Global;
 use std::test::Fail;
-use text_scan::NoMemory;
 use verilog_checks::is_bad_size;
 
 fn letter(bit: Bit) -> u8 {

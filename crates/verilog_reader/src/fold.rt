@@ -11,11 +11,12 @@ ghost use Rattle.verilog_reader.specs.Numbering.{entries, numbered, port_bits, n
 
 use crate::nets::Nets;
 use crate::parts::parts_of;
+use base_types::{Name, NoMemory, Rows};
 use netlist_core::{Direction, NetId, Netlist, Port};
 use std::alloc::Global;
-use text_scan::{Name, NoMemory, Rows};
+use token_forms::Written;
 use verilog_names::{DeclaredNames, Entry, plain_of, width_or_one};
-use verilog_syntax::{Declared, Placed, Statement, Written};
+use verilog_syntax::{Declared, Placed, Statement};
 
 fn direction_of(kind: Declared) -> Option<Direction>
     ensures { directions_of kind ≡ option_to_list result }

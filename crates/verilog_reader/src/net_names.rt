@@ -3,9 +3,9 @@ ghost use Rattle.std.specs.Prelude.{◌≡◌, ◌++◌, ◌∷◌, [], Option, 
 ghost use Rattle.verilog_names.specs.Values.{bit_name, name_text};
 ghost use Rattle.verilog_reader.specs.Denoted.{entry_nets, bit_text};
 
+use base_types::{Name, NoMemory, Rows};
 use netlist_core::NetName;
 use std::alloc::Global;
-use text_scan::{Name, NoMemory, Rows};
 use verilog_names::{Bounds, index_at, push_bit_name, width};
 use verilog_syntax::{is_identifier, is_reserved};
 

@@ -4,9 +4,9 @@ ghost use Rattle.verilog_checks.specs.Faults.{IsRefused, read_faultless};
 ghost use Rattle.verilog_reader.specs.Denoted.{DenotesNetlist};
 
 use crate::fold::netlist_of;
+use base_types::ReadFault;
 use netlist_core::Netlist;
 use std::alloc::Global;
-use text_scan::ReadFault;
 use verilog_checks::{check_number, check_select, check_twice};
 use verilog_syntax::read_statements;
 

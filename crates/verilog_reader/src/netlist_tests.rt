@@ -2,10 +2,10 @@
 ghost use Rattle.std.specs.Prelude.{◌<◌, ◌^◌, length};
 
 use crate::read_netlist;
+use base_types::{NoMemory, Span};
 use netlist_core::{Bit, Expr, Instance, NetId, Netlist};
 use std::alloc::Global;
 use std::test::Fail;
-use text_scan::{NoMemory, Span};
 
 const THREE_FLOPS: &[u8] = b"module top ( clk, se, si, so, d0, d1, d2 );
   input clk, se, si, d0, d1, d2;

@@ -6,10 +6,10 @@ ghost use Rattle.verilog_names.specs.Declarations.{width_or_one};
 ghost use Rattle.verilog_names.specs.NameTables.{bounded, total, place, with_entry};
 
 use crate::net_names::push_names;
+use base_types::{NoMemory, Rows};
 use netlist_core::NetName;
 use std::alloc::Global;
 use std::marker::Model;
-use text_scan::{NoMemory, Rows};
 use verilog_names::{DeclaredNames, Entry, First};
 use verilog_syntax::Declared;
 

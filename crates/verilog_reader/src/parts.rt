@@ -5,9 +5,9 @@ ghost use Rattle.verilog_reader.specs.Numbering.{with_mentioned, with_items, num
 
 use crate::bits::expression_of;
 use crate::nets::Nets;
+use base_types::{Name, NoMemory, Rows};
 use netlist_core::{Assign, Connection as Pin, Instance};
 use std::alloc::Global;
-use text_scan::{Name, NoMemory, Rows};
 use verilog_names::plain_of;
 use verilog_syntax::{Connection, Expression, Placed, Statement};
 

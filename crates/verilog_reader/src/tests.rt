@@ -2,10 +2,10 @@
 ghost use Rattle.std.specs.Prelude.{◌<◌, ◌^◌, length};
 
 use crate::read_netlist;
+use base_types::{FileKind, Kind, NoMemory, ReadFault, Spot};
 use std::alloc::Global;
 use std::process::Abort;
 use std::test::Fail;
-use text_scan::{FileKind, Kind, NoMemory, ReadFault, Spot};
 
 /// The ports of a header in line 1, the statements from line 2 on, and the line of the fault.
 /// The least kind is answered, and of that kind the first.

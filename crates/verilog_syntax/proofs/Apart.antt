@@ -2,8 +2,8 @@
 use Rattle.std.proofs.Common.{◌≡◌, ℕ, Bool, true, false, ◌&&◌, ◌==◌, List, [], ◌∷◌, codes, refl, ap, arith}
 use Rattle.std.specs.Str.{bytes_eq}
 use Rattle.std.proofs.lemmas.Bool.Decides.{nat_tests}
-use Rattle.text_scan.specs.VerilogTokens.{is_digit, is_word_start}
-use Rattle.text_scan.proofs.Spelled.{same_bytes}
+use Rattle.verilog_syntax.specs.VerilogTokens.{is_digit, is_word_start}
+use Rattle.token_forms.proofs.Spelled.{same_bytes}
 use Rattle.verilog_syntax.specs.Words.{is_name, is_decimal, is_constant}
 
 -- texts that a test tells apart aren't equal

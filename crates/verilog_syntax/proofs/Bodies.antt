@@ -2,9 +2,9 @@
 use Rattle.std.proofs.Common.{◌≡◌, ℕ, ◌+◌, ◌==◌, Bool, true, false, cond, List, [], ◌∷◌, ◌++◌, length, take, drop, codes, refl, sym, ap, ◌∙◌, subst, arith, append-nil}
 use Rattle.std.proofs.lemmas.Bool.{eqb-false}
 use Rattle.std.proofs.Math.Seq.{take-append_seam, drop-append-add}
-use Rattle.text_scan.specs.Tokens.{Token}
-use Rattle.text_scan.specs.Statements.{is_semicolon, begin_with, statements_of}
-use Rattle.text_scan.proofs.Spelled.{same_bytes}
+use Rattle.token_forms.specs.Tokens.{Token}
+use Rattle.token_forms.specs.Statements.{is_semicolon, begin_with, statements_of}
+use Rattle.token_forms.proofs.Spelled.{same_bytes}
 use Rattle.verilog_syntax.specs.Reading.{ends_module, body_len}
 
 abbrev pub IsEnd : Token → Type 0

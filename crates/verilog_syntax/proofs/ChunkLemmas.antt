@@ -1,8 +1,8 @@
 -- What a statement's tokens, taken from a module's, say of the module.
 use Rattle.std.proofs.Common.{◌≡◌, ◌==◌, suc, ◌+◌, ◌<◌, Bool, true, false, cond, List, [], ◌∷◌, ◌++◌, length, take, drop, refl, ap, ◌∙◌, arith}
 use Rattle.std.proofs.lemmas.Bool.{ne_eqb, eq-eqb}
-use Rattle.text_scan.specs.Tokens.{Token}
-use Rattle.text_scan.specs.Statements.{is_semicolon, begin_with, statements_of}
+use Rattle.token_forms.specs.Tokens.{Token}
+use Rattle.token_forms.specs.Statements.{is_semicolon, begin_with, statements_of}
 use Rattle.verilog_syntax.specs.declared.source.Ended.TheVariants.{Semicolon, EndModule}
 use Rattle.verilog_syntax.specs.Reading.{ends_module, body_len}
 use Rattle.verilog_syntax.specs.Chunks.{Chunk, put_before, chunk_of, is_closed, is_closed_behind, statements_behind, behind_module, one_of}

@@ -1,11 +1,11 @@
 -- Reading a module statement by statement, as its tokens are taken.
 use Rattle.std.proofs.Common.{◌≡◌, ◌==◌, ◌<◌, ℕ, ◌+◌, Bool, false, true, cond, List, [], ◌∷◌, ◌++◌, length, Result, Ok, Err, refl, sym, ap, ◌∙◌, append_assoc, append-nil, subst, arith}
 use Rattle.std.proofs.lemmas.Bool.{eqb-true}
-use Rattle.text_scan.specs.Tokens.{Token}
-use Rattle.text_scan.specs.declared.fault.Fault.{Fault}
-use Rattle.text_scan.specs.declared.fault.ReadFault.{ReadFault}
-use Rattle.text_scan.specs.declared.fault.ReadFault.TheVariants as faults
-use Rattle.text_scan.specs.declared.kind.Kind.TheVariants.{VerilogSyntax}
+use Rattle.token_forms.specs.Tokens.{Token}
+use Rattle.base_types.specs.declared.fault.Fault.{Fault}
+use Rattle.base_types.specs.declared.fault.ReadFault.{ReadFault}
+use Rattle.base_types.specs.declared.fault.ReadFault.TheVariants as faults
+use Rattle.base_types.specs.declared.kind.Kind.TheVariants.{VerilogSyntax}
 use Rattle.verilog_syntax.specs.declared.reading.Placed.{Placed}
 use Rattle.verilog_syntax.specs.declared.source.Ended.{Ended}
 use Rattle.verilog_syntax.specs.declared.source.Ended.TheVariants.{Semicolon, EndModule, Text}

@@ -1,9 +1,9 @@
 -- Taking a statement's tokens one by one, as the loop does.
 use Rattle.std.proofs.Common.{◌≡◌, ℕ, Bool, true, false, cond, List, [], ◌∷◌, ◌++◌, refl, sym, ap, ◌∙◌, append_assoc, append-nil}
 use Rattle.std.proofs.lemmas.List.{map-append}
-use Rattle.text_scan.specs.declared.span.Span.{Span}
-use Rattle.text_scan.specs.Tokens.{Token, token_of, tokens_of}
-use Rattle.text_scan.specs.Statements.{is_semicolon}
+use Rattle.base_types.specs.declared.span.Span.{Span}
+use Rattle.token_forms.specs.Tokens.{Token, token_of, tokens_of}
+use Rattle.token_forms.specs.Statements.{is_semicolon}
 use Rattle.verilog_syntax.specs.declared.source.Ended.TheVariants.{Semicolon, EndModule}
 use Rattle.verilog_syntax.specs.Reading.{ends_module}
 use Rattle.verilog_syntax.specs.Chunks.{Chunk, chunk_of}

@@ -1,9 +1,9 @@
 -- The tokens of a statement have one semicolon, at their end, and no endmodule.
 use Rattle.std.proofs.Common.{◌≡◌, ℕ, ◌<◌, Bool, true, false, List, [], ◌∷◌, ◌++◌, length, codes, Option, Some, None, refl, sym, ap, ◌∙◌, subst, arith, append_assoc}
 use Rattle.std.specs.List.{flat_map}
-use Rattle.text_scan.specs.Each.{Each}
-use Rattle.text_scan.specs.Parts.{Part, Fixed, Slot, list_parts, spelled}
-use Rattle.text_scan.proofs.Unspelled.{spelled_append}
+use Rattle.std.specs.List.{AllByRecursion as Each}
+use Rattle.token_forms.specs.Parts.{Part, Fixed, Slot, list_parts, spelled}
+use Rattle.token_forms.proofs.Unspelled.{spelled_append}
 use Rattle.verilog_syntax.specs.declared.statement.Declared.{Declared}
 use Rattle.verilog_syntax.specs.declared.statement.Declared.TheVariants as declared
 use Rattle.verilog_syntax.specs.declared.statement.Range.{Range}

@@ -5,11 +5,11 @@ use Rattle.std.specs.List.{list_any}
 use Rattle.std.proofs.lemmas.Bool.{eqb-true}
 use Rattle.std.proofs.lemmas.List.{nil_from_length}
 use Rattle.std.proofs.lemmas.Option.{option_and_then_some, cond_some, same_Some, none-some}
-use Rattle.text_scan.specs.Each.{Each}
-use Rattle.text_scan.specs.Tokens.{Token}
-use Rattle.text_scan.specs.Parts.{list_parts, Fits}
-use Rattle.text_scan.specs.Parsing.{mark_at, word_at, list_at}
-use Rattle.text_scan.proofs.Spelled.{same_bytes, choose, fits-append, Took, took-fits, mark-took, word-took, list-spells}
+use Rattle.std.specs.List.{AllByRecursion as Each}
+use Rattle.token_forms.specs.Tokens.{Token}
+use Rattle.token_forms.specs.Parts.{list_parts, Fits}
+use Rattle.token_forms.specs.Parsing.{mark_at, word_at, list_at}
+use Rattle.token_forms.proofs.Spelled.{same_bytes, choose, fits-append, Took, took-fits, mark-took, word-took, list-spells}
 use Rattle.verilog_syntax.specs.declared.statement.Declared.{Declared}
 use Rattle.verilog_syntax.specs.declared.statement.Item.{Item}
 use Rattle.verilog_syntax.specs.declared.statement.Item.TheVariants as items

@@ -1,10 +1,10 @@
 -- The loop that reads the items of an expression: what stands in front, and what is still read.
 use Rattle.std.proofs.Common.{◌≡◌, ◌==◌, ◌≤◌, ◌+◌, ℕ, zero, suc, Bool, true, false, ◌&&◌, List, [], ◌∷◌, ◌++◌, length, Option, Some, None, Err, refl, sym, ap, ◌∙◌, append_assoc, arith}
 use Rattle.std.proofs.lemmas.Bool.{ne_eqb}
-use Rattle.text_scan.specs.Tokens.{Token}
-use Rattle.text_scan.specs.declared.stop.Stop.{Stop}
-use Rattle.text_scan.specs.declared.stop.Stop.TheVariants as stops
-use Rattle.text_scan.specs.Parsing.{◌>>=◌, Gives}
+use Rattle.token_forms.specs.Tokens.{Token}
+use Rattle.base_types.specs.declared.stop.Stop.{Stop}
+use Rattle.base_types.specs.declared.stop.Stop.TheVariants as stops
+use Rattle.token_forms.specs.Parsing.{◌>>=◌, Gives}
 use Rattle.verilog_syntax.specs.declared.statement.Item.{Item}
 use Rattle.verilog_syntax.specs.declared.statement.Item.TheVariants as items
 use Rattle.verilog_syntax.specs.Reading.{Ended, item_at, depth_behind, ends_one, items_within, items_at}

@@ -3,8 +3,8 @@ use Rattle.std.proofs.Common.{◌≡◌, ℕ, zero, suc, ◌+◌, ◌-◌, ◌<�
 use Rattle.std.specs.List.{flat_map}
 use Rattle.std.proofs.lemmas.Bool.{eqb-true}
 use Rattle.std.proofs.lemmas.Option.{option_and_then_some, same_Some}
-use Rattle.text_scan.specs.Tokens.{Token}
-use Rattle.text_scan.proofs.Spelled.{choose}
+use Rattle.token_forms.specs.Tokens.{Token}
+use Rattle.token_forms.proofs.Spelled.{choose}
 use Rattle.verilog_syntax.specs.declared.statement.Item.{Item}
 use Rattle.verilog_syntax.specs.declared.statement.Item.TheVariants as items
 use Rattle.verilog_syntax.specs.Grammar.{item_texts}

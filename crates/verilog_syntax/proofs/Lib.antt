@@ -1,5 +1,6 @@
 pub mod Apart
 pub mod Bodies
+pub mod ByteKinds
 pub mod ChunkLemmas
 pub mod ChunkReads
 pub mod ChunkTakes
@@ -8,6 +9,7 @@ pub mod Digits
 pub mod Forms
 pub mod ItemLoops
 pub mod ItemsTaken
+pub mod NameTokens
 pub mod Places
 pub mod ReadForms
 pub mod ReadItems
@@ -16,3 +18,12 @@ pub mod ReadParts
 pub mod SpelledLaw
 pub mod Taken
 pub mod Trees
+pub mod VerilogBlanks
+pub mod VerilogLaws
+pub mod VerilogLongest
+pub mod VerilogMarks
+pub mod VerilogNumbers
+pub mod VerilogPieces
+pub mod VerilogSeams
+pub mod VerilogSplitLaw
+pub mod VerilogUnique

@@ -2,11 +2,11 @@
 use Rattle.std.proofs.Common.{◌≡◌, ℕ, List, [], ◌∷◌, ◌++◌, Option, Some, refl, sym, ap, ◌∙◌, subst}
 use Rattle.std.specs.Str.{bytes_eq}
 use Rattle.std.proofs.lemmas.Option.{option_and_then_some, same_Some}
-use Rattle.text_scan.specs.Each.{Each}
-use Rattle.text_scan.specs.Tokens.{Token}
-use Rattle.text_scan.specs.Parts.{Part, list_parts, token_texts, IsPlace, FitsSlot, Fits, Spells}
-use Rattle.text_scan.specs.Parsing.{mark_at}
-use Rattle.text_scan.proofs.Spelled.{same_bytes, choose, Took, took-fits, mark-took, list-spells}
+use Rattle.std.specs.List.{AllByRecursion as Each}
+use Rattle.token_forms.specs.Tokens.{Token}
+use Rattle.token_forms.specs.Parts.{Part, list_parts, token_texts, IsPlace, FitsSlot, Fits, Spells}
+use Rattle.token_forms.specs.Parsing.{mark_at}
+use Rattle.token_forms.proofs.Spelled.{same_bytes, choose, Took, took-fits, mark-took, list-spells}
 use Rattle.verilog_syntax.specs.declared.statement.Range.{Range}
 use Rattle.verilog_syntax.specs.declared.statement.Item.{Item}
 use Rattle.verilog_syntax.specs.declared.statement.Expression.{Expression}

@@ -3,10 +3,10 @@ use Rattle.std.proofs.Common.{◌≡◌, ℕ, ◌<◌, Bool, true, false, List, 
 use Rattle.std.specs.List.{list_any}
 use Rattle.std.specs.Str.{bytes_eq}
 use Rattle.std.proofs.lemmas.List.{map-id}
-use Rattle.text_scan.specs.Each.{Each}
-use Rattle.text_scan.specs.Tokens.{Token}
-use Rattle.text_scan.specs.Parts.{Part, Fixed, Slot, list_parts, spelled, token_texts}
-use Rattle.text_scan.proofs.Unspelled.{spelled_append, Gets, mark-gets, word-gets, list-gets}
+use Rattle.std.specs.List.{AllByRecursion as Each}
+use Rattle.token_forms.specs.Tokens.{Token}
+use Rattle.token_forms.specs.Parts.{Part, Fixed, Slot, list_parts, spelled, token_texts}
+use Rattle.token_forms.proofs.Unspelled.{spelled_append, Gets, mark-gets, word-gets, list-gets}
 use Rattle.verilog_syntax.specs.declared.statement.Declared.{Declared}
 use Rattle.verilog_syntax.specs.declared.statement.Declared.TheVariants as declared
 use Rattle.verilog_syntax.specs.declared.statement.Range.{Range}

@@ -4,12 +4,12 @@ use Rattle.std.specs.Str.{bytes_eq}
 use Rattle.std.proofs.lemmas.Bool.{ne_eqb}
 use Rattle.std.proofs.lemmas.List.{map-append}
 use Rattle.std.proofs.Math.Seq.{take-append_seam, drop-append-add}
-use Rattle.text_scan.specs.Each.{Each}
-use Rattle.text_scan.specs.Statements.{begin_with, statements_of}
-use Rattle.text_scan.specs.Tokens.{Token}
-use Rattle.text_scan.specs.Parts.{spelled, token_texts}
-use Rattle.text_scan.specs.declared.fault.Fault.{Fault}
-use Rattle.text_scan.proofs.Unspelled.{spelled_append, same_text}
+use Rattle.std.specs.List.{AllByRecursion as Each}
+use Rattle.token_forms.specs.Statements.{begin_with, statements_of}
+use Rattle.token_forms.specs.Tokens.{Token}
+use Rattle.token_forms.specs.Parts.{spelled, token_texts}
+use Rattle.base_types.specs.declared.fault.Fault.{Fault}
+use Rattle.token_forms.proofs.Unspelled.{spelled_append, same_text}
 use Rattle.verilog_syntax.specs.declared.statement.Statement.{Statement}
 use Rattle.verilog_syntax.specs.declared.reading.Placed.{Placed}
 use Rattle.verilog_syntax.specs.Grammar.{statement_parts, IsGoodStatement, is_header}

@@ -2,11 +2,11 @@
 use Rattle.std.proofs.Common.{◌≡◌, ℕ, ◌<◌, false, List, [], ◌∷◌, ◌++◌, length, map, Option, Some, None, refl, ap, ◌∙◌, append_assoc, arith}
 use Rattle.std.specs.List.{flat_map}
 use Rattle.std.specs.Str.{bytes_eq}
-use Rattle.text_scan.specs.Each.{Each}
-use Rattle.text_scan.specs.Tokens.{Token}
-use Rattle.text_scan.specs.Parts.{Part, Fixed, Slot, list_parts, spelled, token_texts}
-use Rattle.text_scan.specs.declared.span.Span.{Span}
-use Rattle.text_scan.proofs.Unspelled.{same_text, Gets, mark-gets, list-gets}
+use Rattle.std.specs.List.{AllByRecursion as Each}
+use Rattle.token_forms.specs.Tokens.{Token}
+use Rattle.token_forms.specs.Parts.{Part, Fixed, Slot, list_parts, spelled, token_texts}
+use Rattle.base_types.specs.declared.span.Span.{Span}
+use Rattle.token_forms.proofs.Unspelled.{same_text, Gets, mark-gets, list-gets}
 use Rattle.verilog_syntax.specs.declared.statement.Range.{Range}
 use Rattle.verilog_syntax.specs.declared.statement.Item.{Item}
 use Rattle.verilog_syntax.specs.declared.statement.Item.TheVariants as items

@@ -1,14 +1,14 @@
 -- What a text is read as is spelled by its tokens.
 use Rattle.std.proofs.Common.{◌≡◌, ℕ, ◌+◌, ◌==◌, Bool, false, List, [], ◌∷◌, ◌++◌, length, take, drop, codes, Option, Some, None, Result, Ok, Err, refl, sym, ap, ◌∙◌, subst, append_assoc}
 use Rattle.std.specs.Str.{bytes_eq}
-use Rattle.text_scan.specs.Each.{Each}
-use Rattle.text_scan.specs.Lines.{line_at}
-use Rattle.text_scan.specs.Statements.{statements_of}
-use Rattle.text_scan.specs.Tokens.{Token}
-use Rattle.text_scan.specs.Parts.{Part, Fixed, Slot, Fits}
-use Rattle.text_scan.specs.declared.fault.Fault.{Fault}
-use Rattle.text_scan.specs.declared.kind.Kind.TheVariants.{VerilogSyntax, SecondModule}
-use Rattle.text_scan.proofs.Spelled.{choose, fits-append}
+use Rattle.std.specs.List.{AllByRecursion as Each}
+use Rattle.base_types.specs.Lines.{line_at}
+use Rattle.token_forms.specs.Statements.{statements_of}
+use Rattle.token_forms.specs.Tokens.{Token}
+use Rattle.token_forms.specs.Parts.{Part, Fixed, Slot, Fits}
+use Rattle.base_types.specs.declared.fault.Fault.{Fault}
+use Rattle.base_types.specs.declared.kind.Kind.TheVariants.{VerilogSyntax, SecondModule}
+use Rattle.token_forms.proofs.Spelled.{choose, fits-append}
 use Rattle.verilog_syntax.specs.declared.statement.Statement.{Statement}
 use Rattle.verilog_syntax.specs.declared.reading.Placed.{Placed}
 use Rattle.verilog_syntax.specs.Grammar.{statement_parts, IsGoodStatement, is_header}

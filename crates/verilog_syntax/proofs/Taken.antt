@@ -3,9 +3,9 @@ use Rattle.std.proofs.Common.{◌≡◌, ℕ, Bool, true, false, List, [], ◌�
 use Rattle.std.specs.Str.{bytes_eq}
 use Rattle.std.proofs.lemmas.List.{map-append}
 use Rattle.std.proofs.lemmas.Option.{option_and_then_some, cond_some, same_Some}
-use Rattle.text_scan.specs.Tokens.{Token}
-use Rattle.text_scan.specs.Parts.{token_texts, last_end}
-use Rattle.text_scan.proofs.Spelled.{same_bytes, choose, Took}
+use Rattle.token_forms.specs.Tokens.{Token}
+use Rattle.token_forms.specs.Parts.{token_texts, last_end}
+use Rattle.token_forms.proofs.Spelled.{same_bytes, choose, Took}
 use Rattle.verilog_syntax.specs.declared.statement.Item.{Item}
 use Rattle.verilog_syntax.specs.declared.statement.Item.TheVariants as items
 use Rattle.verilog_syntax.specs.Words.{is_name, is_decimal, is_constant}

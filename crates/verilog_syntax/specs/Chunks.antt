@@ -2,9 +2,9 @@
 -- read behind it.
 use Rattle.std.specs.Prelude.{ℕ, ◌+◌, Bool, true, false, if◌then◌else◌, List, [], ◌∷◌, ◌++◌, take, drop, Result, Ok}
 use Rattle.std.specs.List.{list_any}
-use Rattle.text_scan.specs.Tokens.{Token, Tokenized, tokens_of}
-use Rattle.text_scan.specs.Statements.{is_semicolon, statements_of}
-use Rattle.text_scan.specs.declared.fault.Fault.{Fault}
+use Rattle.token_forms.specs.Tokens.{Token, Tokenized, tokens_of}
+use Rattle.token_forms.specs.Statements.{is_semicolon, statements_of}
+use Rattle.base_types.specs.declared.fault.Fault.{Fault}
 use Rattle.verilog_syntax.specs.declared.reading.Placed.{Placed}
 use Rattle.verilog_syntax.specs.declared.source.Ended.{Ended}
 use Rattle.verilog_syntax.specs.declared.source.Ended.TheVariants.{Semicolon, EndModule, Text}

@@ -2,8 +2,8 @@
 -- Steps: Reading. The grammar law: what is read is spelled so, and what is spelled so is read.
 use Rattle.std.specs.Prelude.{◌≡◌, ◌<◌, ℕ, Bool, true, false, List, [], ◌∷◌, ◌++◌, length, map, codes, Option, Some, None}
 use Rattle.std.specs.List.{flat_map}
-use Rattle.text_scan.specs.Each.{Each}
-use Rattle.text_scan.specs.Parts.{Part, Fixed, Slot, list_parts}
+use Rattle.std.specs.List.{AllByRecursion as Each}
+use Rattle.token_forms.specs.Parts.{Part, Fixed, Slot, list_parts}
 use Rattle.verilog_syntax.specs.declared.statement.Declared.{Declared}
 use Rattle.verilog_syntax.specs.declared.statement.Declared.TheVariants.{Input, Output, Inout, Wire, Tri, Supply0, Supply1}
 use Rattle.verilog_syntax.specs.declared.statement.Range.{Range}

@@ -1,10 +1,10 @@
 -- The laws of the definitions, which know nothing of the code.
 use Rattle.std.specs.Prelude.{◌≡◌, ◌≢◌, ℕ, Bool, true, false, List, [], ◌∷◌, ◌++◌, map, codes, None, Ok}
-use Rattle.text_scan.specs.Each.{Each}
-use Rattle.text_scan.specs.Tokens.{Token, tokens_of}
-use Rattle.text_scan.specs.VerilogTokens.{verilog_tokens}
-use Rattle.text_scan.specs.Parts.{Part, Fixed, spelled, token_texts, Fits}
-use Rattle.text_scan.specs.declared.span.Span.{Span}
+use Rattle.std.specs.List.{AllByRecursion as Each}
+use Rattle.token_forms.specs.Tokens.{Token, tokens_of}
+use Rattle.verilog_syntax.specs.VerilogTokens.{verilog_tokens}
+use Rattle.token_forms.specs.Parts.{Part, Fixed, spelled, token_texts, Fits}
+use Rattle.base_types.specs.declared.span.Span.{Span}
 use Rattle.verilog_syntax.specs.declared.statement.Expression.{Expression}
 use Rattle.verilog_syntax.specs.declared.statement.Connection.{Connection}
 use Rattle.verilog_syntax.specs.declared.statement.Statement.{Statement}

@@ -1,3 +1,6 @@
+pub mod VerilogTokens
+pub mod VerilogSplit
+pub mod Seams
 pub mod ItemLists
 pub mod Words
 pub mod Grammar

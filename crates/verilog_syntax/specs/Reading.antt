@@ -3,18 +3,18 @@
 use Rattle.std.specs.Prelude.{◌≡◌, ℕ, zero, suc, ◌+◌, ◌-◌, Bool, true, false, ◌&&◌, ◌==◌, if◌then◌else◌, List, [], ◌∷◌, length, take, drop, codes, Option, Some, None, Result, Ok, Err}
 use Rattle.std.specs.List.{list_any}
 use Rattle.std.specs.Str.{bytes_eq}
-use Rattle.text_scan.specs.Lines.{line_at}
-use Rattle.text_scan.specs.Statements.{statements_of}
-use Rattle.text_scan.specs.Tokens.{Token, tokens_of}
-use Rattle.text_scan.specs.VerilogTokens.{verilog_tokens}
-use Rattle.text_scan.specs.Parsing.{◌>>=◌, word_at, mark_at, list_at}
-use Rattle.text_scan.specs.declared.fault.Fault.{Fault}
-use Rattle.text_scan.specs.declared.fault.FileKind.TheVariants.{Verilog}
-use Rattle.text_scan.specs.declared.fault.Spot.TheVariants.{Line}
-use Rattle.text_scan.specs.declared.fault.ReadFault.{ReadFault}
-use Rattle.text_scan.specs.declared.fault.ReadFault.TheVariants as faults
-use Rattle.text_scan.specs.declared.kind.Kind.{Kind}
-use Rattle.text_scan.specs.declared.kind.Kind.TheVariants.{VerilogSyntax, SecondModule}
+use Rattle.base_types.specs.Lines.{line_at}
+use Rattle.token_forms.specs.Statements.{statements_of}
+use Rattle.token_forms.specs.Tokens.{Token, tokens_of}
+use Rattle.verilog_syntax.specs.VerilogTokens.{verilog_tokens}
+use Rattle.token_forms.specs.Parsing.{◌>>=◌, word_at, mark_at, list_at}
+use Rattle.base_types.specs.declared.fault.Fault.{Fault}
+use Rattle.base_types.specs.declared.fault.FileKind.TheVariants.{Verilog}
+use Rattle.base_types.specs.declared.fault.Spot.TheVariants.{Line}
+use Rattle.base_types.specs.declared.fault.ReadFault.{ReadFault}
+use Rattle.base_types.specs.declared.fault.ReadFault.TheVariants as faults
+use Rattle.base_types.specs.declared.kind.Kind.{Kind}
+use Rattle.base_types.specs.declared.kind.Kind.TheVariants.{VerilogSyntax, SecondModule}
 use Rattle.verilog_syntax.specs.declared.statement.Declared.{Declared}
 use Rattle.verilog_syntax.specs.declared.statement.Declared.TheVariants as declared
 use Rattle.verilog_syntax.specs.declared.statement.Range.{Range}

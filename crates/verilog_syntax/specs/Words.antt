@@ -2,9 +2,9 @@
 use Rattle.std.specs.Prelude.{ℕ, Bool, false, ◌&&◌, not, if◌then◌else◌, ◌==◌, List, [], ◌∷◌, drop, codes}
 use Rattle.std.specs.List.{list_any, list_all, prefix_len}
 use Rattle.std.specs.Str.{bytes_eq}
-use Rattle.text_scan.specs.VerilogTokens.{is_digit}
-use Rattle.text_scan.specs.VerilogSplit.{is_escaped, is_based}
-use Rattle.text_scan.specs.Seams.{is_identifier}
+use Rattle.verilog_syntax.specs.VerilogTokens.{is_digit}
+use Rattle.verilog_syntax.specs.VerilogSplit.{is_escaped, is_based}
+use Rattle.verilog_syntax.specs.Seams.{is_identifier}
 
 -- the words of the language that aren't names
 abbrev pub reserved : List (List ℕ)

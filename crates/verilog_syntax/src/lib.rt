@@ -1,7 +1,7 @@
 //! The statements of a flat Verilog module (IEEE 1364-2005, in this profile): what they are, how they are spelled, and how
 //! they are read.
 //!
-//! Floor: readers, on text_scan.
+//! Floor: readers, on token_forms and base_types.
 //! Contract: `read_statements` gives the statements that `specs/Reading.antt` says the text has, which are those that
 //! its tokens spell by `specs/Grammar.antt`, or the first that matches no form. Begin with `statement.rt`.
 //!
@@ -12,24 +12,29 @@
 //! behavioural code aren't read.
 #![tactic(auto)]
 
-mod boxed;
+mod bytes;
 mod item_list;
 mod laws;
+mod lexer;
+mod number;
 mod parser;
+mod pieces;
 mod reading;
-mod room;
 mod source;
 mod statement;
+mod token_laws;
 mod words;
-mod written;
 
-pub use boxed::Boxed;
+pub use bytes::{is_blank, is_digit, is_word, is_word_start};
 pub use item_list::Items;
 pub use laws::grammar_law;
+pub use lexer::VerilogLexer;
+pub use number::is_digit_of;
+pub use pieces::verilog_tokens;
 pub use reading::{Placed, read_statements};
 pub use statement::{Connection, Declared, Expression, Item, Range, Statement};
+pub use token_laws::{name_law, seam_law, split_law};
 pub use words::{is_identifier, is_reserved};
-pub use written::Written;
 
 #[cfg(test)]
 mod tests;

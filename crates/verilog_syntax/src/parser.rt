@@ -1,16 +1,14 @@
 ghost use Rattle.std.specs.Prelude.{◌≡◌, ◌+◌, ◌<◌, ◌≤◌, ◌^◌, length, Some, OnOk};
 ghost use Rattle.std.specs.List.{list_any};
-ghost use Rattle.text_scan.specs.Parsing.{Gives, GivesAll, list_at};
+ghost use Rattle.token_forms.specs.Parsing.{Gives, GivesAll, list_at};
 ghost use Rattle.verilog_syntax.specs.Reading.{text_at, name_at, decimal_at, begins_at, bracket_at, part_at, bit_at, select_at, named_at, first_at, later_at, item_at, depth_behind, ends_one, items_at, start_of, expression_at, any_expression_at, connection_at, any_at, bounds_at, range_at, declare_at, is_a_constant, target_at, assign_at, instance_at, kind_of, statement_at, ports_at, header_at, statement_of, header_of};
 
-use crate::boxed::Boxed;
 use crate::item_list::Items;
-use crate::room::{fitted, with_room};
 use crate::statement::{Connection, Declared, Expression, Item, Range, Statement};
 use crate::words::{is_constant, is_decimal, is_name};
-use crate::written::Written;
+use base_types::{Boxed, Rows, Span, Stop};
 use std::alloc::Global;
-use text_scan::{Rows, Span, Stop, Tokens};
+use token_forms::{Tokens, Written};
 
 /// How many braces are open behind an item.
 fn depth_behind(depth: usize, item: &Item<'_>) -> usize
@@ -303,12 +301,12 @@ impl<'a, 's> Parser<'a, 's> {
         ensures shorter { OnOk result (length self.new.tokens < length self.old.tokens) }
     {
         // a name and a mark each
-        let mut names = with_room(self.alloc, self.tokens.len() / 2)?;
+        let mut names = Rows::with_room(self.alloc, self.tokens.len() / 2)?;
         loop {
             let name = self.name()?;
             names.push(name)?;
             if !self.tokens.goes_on(closing)? {
-                return Ok(fitted(names));
+                return Ok(names.fitted());
             }
         }
     }
@@ -319,12 +317,12 @@ impl<'a, 's> Parser<'a, 's> {
     {
         // mostly six tokens each, and the semicolon
         let count = self.tokens.len().saturating_sub(2) / 6 + 1;
-        let mut connections = with_room(self.alloc, count)?;
+        let mut connections = Rows::with_room(self.alloc, count)?;
         loop {
             let connection = self.connection()?;
             connections.push(connection)?;
             if !self.tokens.goes_on(b')')? {
-                return Ok(fitted(connections));
+                return Ok(connections.fitted());
             }
         }
     }

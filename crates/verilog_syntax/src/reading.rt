@@ -1,18 +1,20 @@
 ghost use Rattle.std.specs.Prelude.{◌≡◌, ◌<◌, ◌^◌, ◌++◌, Bool, true, if◌then◌else◌, Ok, Option, OnOk, length};
-ghost use Rattle.text_scan.specs.Parsing.{GivesAll};
-ghost use Rattle.text_scan.specs.Tokens.{tokens_of};
-ghost use Rattle.text_scan.specs.VerilogTokens.{verilog_tokens};
-ghost use Rattle.text_scan.specs.declared.fault.ReadFault.TheVariants.{Fault as fault};
-ghost use Rattle.text_scan.specs.declared.kind.Kind.TheVariants.{VerilogSyntax};
+ghost use Rattle.token_forms.specs.Parsing.{GivesAll};
+ghost use Rattle.token_forms.specs.Tokens.{tokens_of};
+ghost use Rattle.verilog_syntax.specs.VerilogTokens.{verilog_tokens};
+ghost use Rattle.base_types.specs.declared.fault.ReadFault.TheVariants.{Fault as fault};
+ghost use Rattle.base_types.specs.declared.kind.Kind.TheVariants.{VerilogSyntax};
 ghost use Rattle.verilog_syntax.specs.declared.statement.Statement.{Statement};
 ghost use Rattle.verilog_syntax.specs.Chunks.{tokens_left, is_closed, is_closed_behind, IsLast, one_of, with_front, read_behind};
 ghost use Rattle.verilog_syntax.specs.Reading.{Answers, fault_at, line_of_tokens, placed_or, read_statement, read_header, read_others, read_end, read_module, read_statements};
 
+use crate::VerilogLexer;
 use crate::parser::{header_of, statement_of};
 use crate::source::{Ended, Source, is_closed};
 use crate::statement::Statement;
+use base_types::{Fault, FileKind, Kind, ReadFault, Rows, Spot, Stop};
 use std::alloc::Global;
-use text_scan::{Fault, FileKind, Kind, ReadFault, Rows, Spot, Stop, Tokens, VerilogLexer};
+use token_forms::Tokens;
 
 /// A statement, and the line of its first token, from 1.
 #[derive(Debug, Drop)]

@@ -1,13 +1,15 @@
 //! A text as its statements are taken from it, one after the other.
 ghost use Rattle.std.specs.Prelude.{◌≡◌, ◌<◌, ◌^◌, ◌∷◌, [], ◌++◌, length, codes, IfOk, MatchOption, OnOk};
 ghost use Rattle.std.specs.Str.{bytes_eq};
-ghost use Rattle.text_scan.specs.Lines.{line_at};
-ghost use Rattle.text_scan.specs.Tokens.{token_of, tokens_of, AreSpansOf};
-ghost use Rattle.text_scan.specs.VerilogTokens.{verilog_tokens};
+ghost use Rattle.base_types.specs.Lines.{line_at};
+ghost use Rattle.token_forms.specs.Tokens.{token_of, tokens_of, AreSpansOf};
+ghost use Rattle.verilog_syntax.specs.VerilogTokens.{verilog_tokens};
 ghost use Rattle.verilog_syntax.specs.Chunks.{tokens_left, chunk_of, is_closed};
 
+use crate::VerilogLexer;
+use base_types::{Lines, NoMemory, Span};
 use std::marker::Model;
-use text_scan::{Lexeme, Lines, NoMemory, Span, Tokens, VerilogLexer};
+use token_forms::{Lexeme, Tokens};
 
 /// What ended the tokens of a statement.
 #[derive(Clone, Copy, Debug)]
@@ -89,7 +91,7 @@ pub(crate) struct Source<'a> {
 
 impl<'a> Model for Source<'a> {
     ghost use Rattle.std.specs.Prelude.{◌≡◌};
-    ghost use Rattle.text_scan.specs.Tokens.{Tokenized};
+    ghost use Rattle.token_forms.specs.Tokens.{Tokenized};
 
     ghost Value = { Tokenized };
 

@@ -1,7 +1,6 @@
-use crate::boxed::Boxed;
 use crate::item_list::Items;
-use crate::written::Written;
-use text_scan::{Rows, Span};
+use base_types::{Boxed, Rows, Span};
+use token_forms::Written;
 
 /// What a declaration makes of its names (IEEE 1364-2005, 4.2 and 12.3.3).
 #[derive(Clone, Copy, Debug, PartialEq, Eq)]

@@ -1,9 +1,9 @@
 ghost use Rattle.std.specs.Prelude.{◌<◌, ◌^◌, length};
 
 use crate::{Expression, Item, Placed, Range, Statement, Written, read_statements};
+use base_types::{Kind, NoMemory, ReadFault, Rows, Span, Spot};
 use std::alloc::Global;
 use std::test::Fail;
-use text_scan::{Kind, NoMemory, ReadFault, Rows, Span, Spot};
 
 const THREE_FLOPS: &[u8] = b"module top ( clk, se, si, so, d0, d1, d2 );
   input clk, se, si, d0, d1, d2;

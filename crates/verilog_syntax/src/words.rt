@@ -1,12 +1,12 @@
 //! What a token is, by its bytes.
 ghost use Rattle.std.specs.Prelude.{◌≡◌, ◌≤◌, length, not};
 ghost use Rattle.std.specs.List.{list_all, prefix_len};
-ghost use Rattle.text_scan.specs.VerilogTokens.{is_blank, is_digit, is_digit_of, is_word_start, is_word};
-ghost use Rattle.text_scan.specs.VerilogSplit.{are_digits_of, is_based, is_escaped};
-ghost use Rattle.text_scan.specs.Seams.{is_identifier};
+ghost use Rattle.verilog_syntax.specs.VerilogTokens.{is_blank, is_digit, is_digit_of, is_word_start, is_word};
+ghost use Rattle.verilog_syntax.specs.VerilogSplit.{are_digits_of, is_based, is_escaped};
+ghost use Rattle.verilog_syntax.specs.Seams.{is_identifier};
 ghost use Rattle.verilog_syntax.specs.Words.{is_reserved, is_name, is_decimal, is_constant};
 
-use text_scan::{is_blank, is_digit, is_digit_of, is_word, is_word_start};
+use crate::{is_blank, is_digit, is_digit_of, is_word, is_word_start};
 
 /// A word of the language that is no name.
 #[inline(always)]

@@ -5,10 +5,10 @@ use Rattle.std.specs.List.{list_all, prefix_len}
 use Rattle.std.proofs.lemmas.Str.Parse.{IsNumeralModel, numerals_by_fold}
 use Rattle.std.proofs.lemmas.Bool.Decides.{nat_tests}
 use Rattle.std.proofs.lemmas.Fmt.{decimal_nonempty, digits_decimal}
-use Rattle.text_scan.specs.VerilogTokens.{is_blank, is_digit, is_word_start, is_word}
-use Rattle.text_scan.specs.VerilogSplit.{is_escaped}
-use Rattle.text_scan.specs.Seams.{is_identifier, is_escapable, is_decimal, HasTexts}
-use Rattle.text_scan.proofs.NameTokens.{plain_law, plain_bit_law, escaped_law, escaped_bit_law}
+use Rattle.verilog_syntax.specs.VerilogTokens.{is_blank, is_digit, is_word_start, is_word}
+use Rattle.verilog_syntax.specs.VerilogSplit.{is_escaped}
+use Rattle.verilog_syntax.specs.Seams.{is_identifier, is_escapable, is_decimal, HasTexts}
+use Rattle.verilog_syntax.proofs.NameTokens.{plain_law, plain_bit_law, escaped_law, escaped_bit_law}
 use Rattle.verilog_syntax.specs.Words.{is_name, is_reserved}
 use Rattle.verilog_syntax.specs.Words as words
 use Rattle.verilog_syntax.specs.Grammar.{IsName, IsDecimal, item_texts, IsOperand}

@@ -8,10 +8,10 @@ use Rattle.std.proofs.lemmas.Bool.Decides.{nat_tests}
 use Rattle.std.proofs.lemmas.List.{append-nil}
 use Rattle.std.proofs.lemmas.List.Concat.{flat_map-append}
 use Rattle.std.proofs.lemmas.List.Folds.{find-append}
-use Rattle.text_scan.specs.Each.{Each}
-use Rattle.text_scan.specs.declared.kind.Kind.{Kind}
-use Rattle.text_scan.specs.declared.kind.Kind.TheVariants.{VerilogNumber, VerilogTwice, BadSelect}
-use Rattle.text_scan.specs.declared.fault.Fault.{Fault}
+use Rattle.std.specs.List.{AllByRecursion as Each}
+use Rattle.base_types.specs.declared.kind.Kind.{Kind}
+use Rattle.base_types.specs.declared.kind.Kind.TheVariants.{VerilogNumber, VerilogTwice, BadSelect}
+use Rattle.base_types.specs.declared.fault.Fault.{Fault}
 use Rattle.verilog_syntax.specs.declared.statement.Statement.{Statement}
 use Rattle.verilog_syntax.specs.declared.reading.Placed.{Placed}
 use Rattle.verilog_syntax.specs.Reading.{fault_at}

@@ -4,8 +4,8 @@ use Rattle.std.specs.Prelude.{IsPermutation}
 use Rattle.std.specs.List.{flat_map, slice_get}
 use Rattle.std.proofs.lemmas.List.{map-append, length-map}
 use Rattle.std.proofs.lemmas.List.Concat.{flat_map-append}
-use Rattle.text_scan.specs.Each.{Each}
-use Rattle.text_scan.specs.declared.span.Span.{Span}
+use Rattle.std.specs.List.{AllByRecursion as Each}
+use Rattle.base_types.specs.declared.span.Span.{Span}
 use Rattle.splice.specs.declared.Edit.{Edit}
 use Rattle.splice.specs.Spliced.{AreRising, spliced}
 use Rattle.netlist_core.specs.declared.netlist.Direction.{Direction}

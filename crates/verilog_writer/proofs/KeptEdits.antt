@@ -7,8 +7,8 @@ use Rattle.std.specs.Str.{bytes_eq}
 use Rattle.std.proofs.lemmas.Bool.{ne_eqb}
 use Rattle.std.proofs.lemmas.Bool.Decides.{nat_tests}
 use Rattle.std.proofs.lemmas.Map.Keys.{IsDistinct-IsPermutation}
-use Rattle.text_scan.specs.Each.{Each}
-use Rattle.text_scan.specs.declared.span.Span.{Span}
+use Rattle.std.specs.List.{AllByRecursion as Each}
+use Rattle.base_types.specs.declared.span.Span.{Span}
 use Rattle.splice.specs.declared.Edit.{Edit}
 use Rattle.splice.specs.Spliced.{AreRising}
 use Rattle.netlist_core.specs.declared.netlist.Assign.{Assign}

@@ -5,8 +5,8 @@ use Rattle.std.specs.List.{flat_map, slice_get, sum_by}
 use Rattle.std.proofs.lemmas.Bool.Decides.{nat_tests}
 use Rattle.std.proofs.lemmas.List.{append-nil, map-append, length-append, length-map}
 use Rattle.std.proofs.lemmas.List.Sums.{sum_by-cons}
-use Rattle.text_scan.specs.Each.{Each}
-use Rattle.text_scan.specs.declared.span.Span.{Span}
+use Rattle.std.specs.List.{AllByRecursion as Each}
+use Rattle.base_types.specs.declared.span.Span.{Span}
 use Rattle.netlist_core.specs.declared.netlist.NetId.{NetId}
 use Rattle.netlist_core.specs.declared.netlist.Bit.{Bit}
 use Rattle.netlist_core.specs.declared.netlist.NetName.{NetName}

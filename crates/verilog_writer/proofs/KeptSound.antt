@@ -3,9 +3,9 @@ use Rattle.std.proofs.Common.{◌≡◌, ℕ, ◌<◌, ◌^◌, Bool, true, fals
 use Rattle.std.specs.List.{flat_map, list_any}
 use Rattle.std.proofs.lemmas.Bool.{false≢true, or_parts}
 use Rattle.std.proofs.lemmas.Fmt.{digits_value-decimal}
-use Rattle.text_scan.specs.Each.{Each}
-use Rattle.text_scan.specs.Seams.{is_escapable}
-use Rattle.text_scan.specs.declared.span.Span.{Span}
+use Rattle.std.specs.List.{AllByRecursion as Each}
+use Rattle.verilog_syntax.specs.Seams.{is_escapable}
+use Rattle.base_types.specs.declared.span.Span.{Span}
 use Rattle.verilog_syntax.specs.declared.statement.Item.{Item}
 use Rattle.verilog_syntax.specs.declared.statement.Connection.{Connection}
 use Rattle.verilog_syntax.specs.declared.statement.Statement.{Statement}

@@ -2,7 +2,7 @@
 use Rattle.std.proofs.Common.{◌≡◌, ℕ, ◌≤◌, List, length, sym, subst, arith}
 use Rattle.std.specs.Prelude.{IsPermutation}
 use Rattle.std.specs.List.Sorted.{IsNonDecreasingBy}
-use Rattle.text_scan.specs.declared.span.Span.{Span}
+use Rattle.base_types.specs.declared.span.Span.{Span}
 use Rattle.splice.specs.declared.Edit.{Edit}
 use Rattle.splice.specs.Spliced.{AreRising}
 use Rattle.netlist_core.specs.declared.netlist.Netlist.{Netlist}

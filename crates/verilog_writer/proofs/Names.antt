@@ -4,10 +4,10 @@ use Rattle.std.specs.Prelude.{◌==◌}
 use Rattle.std.specs.List.{list_all, prefix_len}
 use Rattle.std.proofs.lemmas.Bool.Decides.{nat_tests}
 use Rattle.std.proofs.lemmas.Fmt.{digits_value-decimal}
-use Rattle.text_scan.specs.VerilogTokens.{is_blank, is_word_start, is_word}
-use Rattle.text_scan.specs.VerilogSplit.{is_escaped}
-use Rattle.text_scan.specs.Seams.{is_identifier, is_escapable}
-use Rattle.text_scan.proofs.NameTokens.{no_blank_start}
+use Rattle.verilog_syntax.specs.VerilogTokens.{is_blank, is_word_start, is_word}
+use Rattle.verilog_syntax.specs.VerilogSplit.{is_escaped}
+use Rattle.verilog_syntax.specs.Seams.{is_identifier, is_escapable}
+use Rattle.verilog_syntax.proofs.NameTokens.{no_blank_start}
 use Rattle.netlist_core.specs.Netlists.{Named}
 use Rattle.verilog_syntax.specs.Words.{is_name}
 use Rattle.verilog_syntax.specs.Grammar.{IsName}

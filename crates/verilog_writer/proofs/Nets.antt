@@ -2,9 +2,9 @@
 use Rattle.std.proofs.Common.{◌≡◌, ℕ, zero, suc, ◌≤◌, Bool, true, false, cond, not, ◌||◌, List, [], ◌∷◌, ◌++◌, map, option_map, Option, Some, None, Ok, Err, Result, refl, sym, subst, arith}
 use Rattle.std.specs.List.{flat_map, list_any}
 use Rattle.std.proofs.lemmas.Bool.{ltb-false}
-use Rattle.text_scan.specs.Each.{Each}
-use Rattle.text_scan.specs.Seams.{is_escapable}
-use Rattle.text_scan.specs.declared.fault.Fault.{Fault}
+use Rattle.std.specs.List.{AllByRecursion as Each}
+use Rattle.verilog_syntax.specs.Seams.{is_escapable}
+use Rattle.base_types.specs.declared.fault.Fault.{Fault}
 use Rattle.splice.proofs.Tokens.{each_front, each_behind, each_join}
 use Rattle.netlist_core.specs.declared.netlist.NetName.{NetName}
 use Rattle.verilog_syntax.specs.declared.statement.Declared.{Declared}

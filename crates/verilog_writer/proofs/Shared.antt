@@ -1,8 +1,8 @@
 -- The parts that spell statements, as splice has them.
 use Rattle.std.proofs.Common.{◌≡◌, ℕ, List, [], ◌∷◌, ◌++◌, refl, sym, ap, ◌∙◌}
-use Rattle.text_scan.specs.declared.span.Span.{Span}
-use Rattle.text_scan.specs.Tokens.{Token}
-use Rattle.text_scan.specs.Parts.{Part, Fixed, Slot, spelled, last_end, IsPlace, Fits}
+use Rattle.base_types.specs.declared.span.Span.{Span}
+use Rattle.token_forms.specs.Tokens.{Token}
+use Rattle.token_forms.specs.Parts.{Part, Fixed, Slot, spelled, last_end, IsPlace, Fits}
 use Rattle.splice.specs.Parts as cut
 
 abbrev pub shared : List Part → List cut.Part

@@ -1,7 +1,7 @@
 -- The places that edits may replace are those of slots between two marks.
 use Rattle.std.proofs.Common.{◌≡◌, ℕ, Bool, true, false, ◌⊎◌, inl, inr, ⊎_elim, List, [], ◌∷◌, ◌++◌, map, Option, Some, None, refl}
-use Rattle.text_scan.specs.declared.span.Span.{Span}
-use Rattle.text_scan.specs.Parts.{Part, Fixed, Slot, list_parts}
+use Rattle.base_types.specs.declared.span.Span.{Span}
+use Rattle.token_forms.specs.Parts.{Part, Fixed, Slot, list_parts}
 use Rattle.splice.proofs.Parts.{AreMarked}
 use Rattle.verilog_syntax.specs.declared.statement.Range.{Range}
 use Rattle.verilog_syntax.specs.declared.statement.Connection.{Connection}

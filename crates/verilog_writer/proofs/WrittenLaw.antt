@@ -1,12 +1,12 @@
 -- The written text is read as the changed statements.
 use Rattle.std.proofs.Common.{◌≡◌, ℕ, Bool, List, [], ◌∷◌, length, refl, sym, ap, ◌∙◌}
-use Rattle.text_scan.specs.Each.{Each}
-use Rattle.text_scan.specs.Parts.{spelled, token_texts}
-use Rattle.text_scan.specs.Seams.{bytes_of, texts_of}
-use Rattle.text_scan.specs.Tokens.{tokens_of}
-use Rattle.text_scan.specs.VerilogTokens.{texts, verilog_tokens}
-use Rattle.text_scan.specs.declared.span.Span.{Span}
-use Rattle.text_scan.proofs.VerilogLaws.{texts_law}
+use Rattle.std.specs.List.{AllByRecursion as Each}
+use Rattle.token_forms.specs.Parts.{spelled, token_texts}
+use Rattle.token_forms.specs.Runs.{bytes_of, texts_of}
+use Rattle.token_forms.specs.Tokens.{tokens_of}
+use Rattle.verilog_syntax.specs.VerilogTokens.{texts, verilog_tokens}
+use Rattle.base_types.specs.declared.span.Span.{Span}
+use Rattle.verilog_syntax.proofs.VerilogLaws.{texts_law}
 use Rattle.splice.proofs.Law.{written_spelled}
 use Rattle.verilog_syntax.specs.declared.reading.Placed.{Placed}
 use Rattle.verilog_syntax.specs.Laws.{module_parts, tokens_in}

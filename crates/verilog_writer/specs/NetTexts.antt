@@ -1,6 +1,6 @@
 -- The nets of a netlist are net bits: how they are written, and what this is read as.
 use Rattle.std.specs.Prelude.{◌≡◌, ℕ, List, [], ◌∷◌, Option, Some, None}
-use Rattle.text_scan.specs.Each.{Each}
+use Rattle.std.specs.List.{AllByRecursion as Each}
 use Rattle.netlist_core.specs.declared.netlist.Netlist.{Netlist}
 use Rattle.netlist_core.specs.Netlists.{Named}
 use Rattle.verilog_names.specs.Values.{bit_name}

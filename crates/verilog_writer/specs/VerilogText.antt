@@ -1,8 +1,8 @@
 -- A Verilog text in which some expressions are replaced by net bits, and the statements that it has then.
 use Rattle.std.specs.Prelude.{◌≡◌, ◌<◌, ◌^◌, ℕ, Bool, true, ◌&&◌, ◌==◌, ◌⊎◌, if◌then◌else◌, List, [], ◌∷◌, length, map, decimal, Option, Some, None, Ok}
-use Rattle.text_scan.specs.Each.{Each}
-use Rattle.text_scan.specs.Seams.{is_escapable}
-use Rattle.text_scan.specs.declared.span.Span.{Span}
+use Rattle.std.specs.List.{AllByRecursion as Each}
+use Rattle.verilog_syntax.specs.Seams.{is_escapable}
+use Rattle.base_types.specs.declared.span.Span.{Span}
 use Rattle.splice.specs.declared.Edit.{Edit}
 use Rattle.splice.specs.Spliced.{spliced, AreRising}
 use Rattle.verilog_syntax.specs.declared.statement.Item.{Item}

@@ -10,7 +10,7 @@ use net_edit::{Edits, PinEdit, PortEdit};
 use netlist_core::{Assign, Connection, NetId, Netlist};
 use splice::{Edit, spliced};
 use std::alloc::Global;
-use text_scan::{Name, NoMemory, Text};
+use base_types::{Name, NoMemory, Text};
 
 fn connection_at<'a>(pin: &Name, connections: &'a [Connection]) -> Option<&'a Connection>
     ensures value { option_map (λ connection. connection.now) result ≡ connection_at pin.now connections.now }

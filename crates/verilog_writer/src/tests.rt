@@ -11,7 +11,7 @@ use netlist_core::{Bit, NetId, Netlist};
 use std::alloc::{Alloc, Global};
 use std::process::Abort;
 use std::test::Fail;
-use text_scan::{NoMemory, Rows, Text};
+use base_types::{NoMemory, Rows, Text};
 use verilog_reader::read_netlist;
 
 const READ: &[u8] = b"module m ( si, so, \\a.b , v );

@@ -5,7 +5,7 @@ use Rattle.std.proofs.lemmas.List.{take_all, drop_more, drop_all, get_or-set_sam
 use Rattle.std.proofs.lemmas.Option.{slice_get-get_or}
 use Rattle.std.proofs.lemmas.Bool.{cases_lt}
 use Rattle.std.proofs.lemmas.Int.{to_z_pos}
-use Rattle.text_scan.specs.declared.span.Point.{Point}
+use Rattle.base_types.specs.declared.span.Point.{Point}
 use Rattle.wire_cost.specs.Lengths.{ChainEnds, link_of, links_from, links_of, length_of, forward_sum, end_of, first_of}
 use Rattle.wire_cost.proofs.Walks.{exit_at, end_of-take}
 

@@ -2,7 +2,7 @@
 use Rattle.std.proofs.Common.{◌≡◌, ℕ, ◌+◌, ◌-◌, ◌<◌, ◌≤◌, List, [], ◌∷◌, ◌++◌, length, take, get_or, Option, refl, ap, ◌∙◌, arith, slice_get, sum}
 use Rattle.std.proofs.lemmas.List.{take_more}
 use Rattle.std.proofs.lemmas.List.Sums.{sum_by-cons}
-use Rattle.text_scan.specs.declared.span.Point.{Point}
+use Rattle.base_types.specs.declared.span.Point.{Point}
 use Rattle.wire_cost.specs.Lengths.{ChainEnds, link_of, links_from, length_of, end_of, first_of}
 
 abbrev pub entry_at : ChainEnds → ℕ → Option Point

@@ -3,7 +3,7 @@ use Rattle.std.specs.Prelude.{ℕ, ◌+◌, ◌^◌, ◌-ℤ◌, ◌<◌, ◌≤
 use Rattle.std.specs.List.{concat}
 use Rattle.chain_rules.specs.Legality.{chain_at}
 use Rattle.chain_rules.specs.declared.plan.Plan.{Plan}
-use Rattle.text_scan.specs.declared.span.Point.{Point}
+use Rattle.base_types.specs.declared.span.Point.{Point}
 use Rattle.wire_cost.specs.declared.ends.Ends.{Ends}
 
 -- the way between two points along the axes

@@ -1,4 +1,4 @@
-use text_scan::{Point, Rows};
+use base_types::{Point, Rows};
 
 /// Where chains and units begin and end, in half database units. A start or stop that stands nowhere is `None`.
 #[derive(Debug, Drop)]

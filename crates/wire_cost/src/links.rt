@@ -3,7 +3,7 @@ ghost use Rattle.std.specs.Prelude.{◌≡◌, ℕ, pos, ◌+◌, ◌^◌, ◌<�
 ghost use Rattle.wire_cost.specs.Lengths.{ArePlaced, AreNear, IsChainAt, IsNear, IsNearOrNowhere, chain_ends, end_of, first_of, gap_of, link_of};
 
 use crate::ends::Ends;
-use text_scan::Point;
+use base_types::Point;
 
 #[inline(always)]
 fn gap(a: Point, b: Point) -> u64

@@ -6,7 +6,7 @@ ghost use Rattle.wire_cost.specs.Lengths.{AreNear, ArePlaced, AreWithin, IsChain
 
 use crate::ends::Ends;
 use chain_rules::Plan;
-use text_scan::Point;
+use base_types::Point;
 
 const FAR: u64 = 2199023255552;
 

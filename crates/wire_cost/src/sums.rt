@@ -6,7 +6,7 @@ use crate::ends::Ends;
 use crate::links::wire;
 use std::alloc::Global;
 use std::marker::Model;
-use text_scan::{NoMemory, Point};
+use base_types::{NoMemory, Point};
 
 /// The sums of the first links of the chain last filled in, with room for further chains. Contracts see the room, as a
 /// number of units, and both lists of sums.

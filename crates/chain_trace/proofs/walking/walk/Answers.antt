@@ -6,7 +6,7 @@ use Rattle.chain_trace.specs.declared.path.Source.{Source}
 use Rattle.chain_trace.specs.declared.path.Source.TheVariants as sources
 use Rattle.chain_trace.specs.declared.path.Sink.TheVariants as sinks
 use Rattle.chain_trace.specs.declared.drivers.Found.TheVariants.{Only}
-use Rattle.text_scan.specs.declared.kind.Kind.TheVariants as kinds
+use Rattle.base_types.specs.declared.kind.Kind.TheVariants as kinds
 use Rattle.chain_trace.specs.Paths.{IsScanPath}
 use Rattle.chain_trace.specs.Faults.{IsMet, IsAmong, fault_at}
 use Rattle.chain_trace.specs.Drivers.{AreMarks}

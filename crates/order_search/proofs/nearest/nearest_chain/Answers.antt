@@ -1,7 +1,7 @@
 use Rattle.std.proofs.Common.{◌≡◌, ℕ, ◌+◌, ◌<◌, ◌≤◌, List, [], ◌∷◌, ◌++◌, length, take, drop, get_or, sym, ap, ◌∙◌, arith, subst, Option, None, slice_get}
 use Rattle.std.specs.List.{All, remove}
 use Rattle.std.proofs.lemmas.List.{get_or_default, length_push, take_rest}
-use Rattle.text_scan.specs.declared.span.Point.{Point}
+use Rattle.base_types.specs.declared.span.Point.{Point}
 use Rattle.chain_rules.specs.Legality.{chain_at}
 use Rattle.wire_cost.specs.declared.ends.Ends.{Ends}
 use Rattle.wire_cost.specs.Lengths.{AreWithin, IsNearOrNowhere, chain_ends, end_of, link_of}

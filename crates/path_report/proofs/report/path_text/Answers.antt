@@ -1,7 +1,7 @@
 use Rattle.std.proofs.Common.{Err, refl, sym, subst}
 use Rattle.std.proofs.lemmas.Result.{err_from_is_err_and}
-use Rattle.text_scan.specs.declared.fault.ReadFault.{ReadFault}
-use Rattle.text_scan.specs.declared.name.Text.{Text}
+use Rattle.base_types.specs.declared.fault.ReadFault.{ReadFault}
+use Rattle.base_types.specs.declared.name.Text.{Text}
 use Rattle.chain_trace.specs.Faults.{IfFault}
 use Rattle.path_report.specs.Reports.{IsPathFault, AreRead, OfPort}
 use Rattle.path_report.proofs.Faults.{excluded, verilog_fault, path_fault}

@@ -1,5 +1,5 @@
 use Rattle.std.proofs.Common.{Err, subst, arith}
-use Rattle.text_scan.specs.declared.fault.Fault.{Fault}
+use Rattle.base_types.specs.declared.fault.Fault.{Fault}
 use Rattle.desk_io.specs.declared.slot.Slot.TheVariants.{Verilog}
 use Rattle.desk_io.specs.declared.names.Names.{Names}
 use Rattle.desk_io.specs.Prefixes.{IsTooLarge, HasFailedToTake, HasRunOut}

@@ -1,6 +1,6 @@
 use Rattle.std.proofs.Common.{◌≡◌, ◌≤◌, ◌++◌, Bool, true, sym, ap, ◌∙◌, subst, take, arith}
 use Rattle.std.specs.Bool.{OnTrue}
-use Rattle.text_scan.specs.declared.kind.Kind.TheVariants.{VerilogNumber}
+use Rattle.base_types.specs.declared.kind.Kind.TheVariants.{VerilogNumber}
 use Rattle.verilog_syntax.specs.declared.reading.Placed.{Placed}
 use Rattle.verilog_names.specs.Declarations.{declarations, declarations_in}
 use Rattle.verilog_checks.specs.Faults.{bad_number, vector_bits}

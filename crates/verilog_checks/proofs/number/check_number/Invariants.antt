@@ -1,5 +1,5 @@
 use Rattle.std.proofs.Common.{◌≡◌, ◌≤◌, true, take, drop}
-use Rattle.text_scan.specs.declared.kind.Kind.TheVariants.{VerilogNumber}
+use Rattle.base_types.specs.declared.kind.Kind.TheVariants.{VerilogNumber}
 use Rattle.verilog_names.specs.Declarations.{declarations}
 use Rattle.verilog_checks.specs.Faults.{check_from, bad_number, check_number}
 use Rattle.verilog_checks.specs.Steps.{are_small, AreCounted}

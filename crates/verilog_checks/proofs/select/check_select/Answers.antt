@@ -1,5 +1,5 @@
 use Rattle.std.proofs.Common.{sym, ◌∙◌}
-use Rattle.text_scan.specs.declared.kind.Kind.TheVariants.{BadSelect}
+use Rattle.base_types.specs.declared.kind.Kind.TheVariants.{BadSelect}
 use Rattle.verilog_checks.specs.Faults.{bad_select}
 use Rattle.verilog_checks.proofs.Passes.{passes, fails, passed}
 use Rattle.verilog_checks.proofs.Ports.{bad_is}

@@ -1,5 +1,5 @@
 use Rattle.std.proofs.Common.{◌≡◌, take, drop}
-use Rattle.text_scan.specs.declared.kind.Kind.TheVariants.{BadSelect}
+use Rattle.base_types.specs.declared.kind.Kind.TheVariants.{BadSelect}
 use Rattle.verilog_checks.specs.Faults.{check_from, bad_select, check_select}
 use Rattle.verilog_checks.proofs.select.check_select.Given as goal
 

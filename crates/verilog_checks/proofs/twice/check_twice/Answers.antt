@@ -1,6 +1,6 @@
 use Rattle.std.proofs.Common.{◌++◌, ◌∷◌, [], List, take, refl, sym, ap, ◌∙◌, subst}
 use Rattle.std.proofs.lemmas.List.{take_more, take_all}
-use Rattle.text_scan.specs.declared.kind.Kind.TheVariants.{VerilogTwice}
+use Rattle.base_types.specs.declared.kind.Kind.TheVariants.{VerilogTwice}
 use Rattle.verilog_syntax.specs.declared.reading.Placed.{Placed}
 use Rattle.verilog_names.specs.Declarations.{declarations}
 use Rattle.verilog_checks.specs.Faults.{bad_twice}

@@ -1,6 +1,6 @@
 use Rattle.std.proofs.Common.{length, refl, ap, ◌∙◌}
 use Rattle.std.proofs.lemmas.List.Folds.{length-prefix_len}
-use Rattle.text_scan.specs.VerilogTokens.{is_digit}
+use Rattle.verilog_syntax.specs.VerilogTokens.{is_digit}
 use Rattle.verilog_reader.proofs.LastBits.{behind_two}
 use Rattle.verilog_reader.proofs.constant.base_and_digits.Goals as goal
 

@@ -1,6 +1,6 @@
 use Rattle.std.proofs.Common.{◌≡◌, ◌<◌, ◌^◌, List, length, sym, subst, Ok, Err, Result}
 use Rattle.std.specs.Result.{IfOk}
-use Rattle.text_scan.specs.declared.memory.NoMemory.{NoMemory}
+use Rattle.base_types.specs.declared.memory.NoMemory.{NoMemory}
 use Rattle.netlist_core.specs.declared.netlist.Netlist.{Netlist}
 use Rattle.netlist_core.specs.Netlists.{IsNetlist}
 use Rattle.verilog_syntax.specs.declared.reading.Placed.{Placed}

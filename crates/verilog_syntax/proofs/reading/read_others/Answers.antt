@@ -1,6 +1,6 @@
 use Rattle.std.proofs.Common.{◌≡◌, sym, ap, ◌∙◌, List, Err, subst}
 use Rattle.std.proofs.lemmas.Result.{err_from_is_err_and}
-use Rattle.text_scan.specs.Tokens.{tokens_of, Tokenized}
+use Rattle.token_forms.specs.Tokens.{tokens_of, Tokenized}
 use Rattle.verilog_syntax.specs.declared.reading.Placed.{Placed}
 use Rattle.verilog_syntax.specs.declared.source.Ended.TheVariants.{Semicolon}
 use Rattle.verilog_syntax.specs.Reading.{Answers}

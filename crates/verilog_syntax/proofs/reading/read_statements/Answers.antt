@@ -1,5 +1,5 @@
-use Rattle.text_scan.specs.Tokens.{tokens_of}
-use Rattle.text_scan.specs.VerilogTokens.{verilog_tokens}
+use Rattle.token_forms.specs.Tokens.{tokens_of}
+use Rattle.verilog_syntax.specs.VerilogTokens.{verilog_tokens}
 use Rattle.verilog_syntax.proofs.ChunkReads.{fault_found}
 use Rattle.verilog_syntax.proofs.reading.read_statements.Goals as goal
 

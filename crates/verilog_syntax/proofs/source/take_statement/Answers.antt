@@ -2,7 +2,7 @@ use Rattle.std.proofs.Common.{sym, ◌∙◌, ap}
 use Rattle.std.specs.Str.{bytes_eq}
 use Rattle.std.specs.Prelude.{codes, [], ◌∷◌, List, ℕ}
 use Rattle.std.proofs.lemmas.List.Elements.{All-push}
-use Rattle.text_scan.specs.Tokens.{IsSpanOf, tokens_of}
+use Rattle.token_forms.specs.Tokens.{IsSpanOf, tokens_of}
 use Rattle.verilog_syntax.specs.Chunks.{chunk_of, tokens_left}
 use Rattle.verilog_syntax.proofs.ChunkTakes.{goes_on}
 use Rattle.verilog_syntax.proofs.source.take_statement.Goals as goal

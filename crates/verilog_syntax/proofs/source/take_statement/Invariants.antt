@@ -1,5 +1,5 @@
 use Rattle.std.proofs.Common.{◌≡◌, length}
-use Rattle.text_scan.specs.Tokens.{tokens_of, AreSpansOf}
+use Rattle.token_forms.specs.Tokens.{tokens_of, AreSpansOf}
 use Rattle.verilog_syntax.specs.Chunks.{tokens_left, chunk_of}
 use Rattle.verilog_syntax.proofs.ChunkTakes.{with_taken}
 use Rattle.verilog_syntax.proofs.source.take_statement.Given as goal

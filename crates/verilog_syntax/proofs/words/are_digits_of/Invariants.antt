@@ -1,5 +1,5 @@
 use Rattle.std.proofs.Common.{◌≡◌, drop}
-use Rattle.text_scan.specs.VerilogSplit.{are_digits_of}
+use Rattle.verilog_syntax.specs.VerilogSplit.{are_digits_of}
 use Rattle.verilog_syntax.proofs.Digits.{rest_of}
 use Rattle.verilog_syntax.proofs.words.are_digits_of.Given as goal
 

@@ -1,7 +1,7 @@
 use Rattle.std.proofs.Common.{arith}
 use Rattle.std.proofs.lemmas.Result.{err_from_is_err_and}
 use Rattle.verilog_syntax.specs.Reading.{connection_at}
-use Rattle.text_scan.proofs.Lists.{begins, item_stops, mark_stops, goes_on_if, closes_if}
+use Rattle.token_forms.proofs.Lists.{begins, item_stops, mark_stops, goes_on_if, closes_if}
 use Rattle.verilog_syntax.proofs.parser.Parser.connections.Goals as goal
 
 pub loop-connections-init : goal.loop-connections-init

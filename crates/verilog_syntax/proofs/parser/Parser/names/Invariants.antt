@@ -1,7 +1,7 @@
 use Rattle.std.proofs.Common.{◌≤◌, length}
-use Rattle.text_scan.specs.Parsing.{list_at}
+use Rattle.token_forms.specs.Parsing.{list_at}
 use Rattle.verilog_syntax.specs.Reading.{name_at}
-use Rattle.text_scan.proofs.Lists.{SoFar}
+use Rattle.token_forms.proofs.Lists.{SoFar}
 use Rattle.verilog_syntax.proofs.parser.Parser.names.Given as goal
 
 abbrev pub invariant-loop-names : goal.invariant-loop-names

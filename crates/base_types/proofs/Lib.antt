@@ -1,0 +1,3 @@
+pub mod CountedPlaces
+pub mod FaultOrder
+pub mod LineLemmas

@@ -1,0 +1,4 @@
+pub mod Faults
+pub mod FirstFault
+pub mod Lines
+pub mod Names

@@ -1,6 +1,0 @@
-use Rattle.std.proofs.Common.{◌≡◌, take}
-use Rattle.text_scan.specs.Names.{plain_name}
-use Rattle.text_scan.proofs.escapes.plain_name.Given as goal
-
-abbrev pub invariant-loop-b : goal.invariant-loop-b
-invariant-loop-b l = l.plain.items ≡ plain_name (take l.b-index l.bytes)

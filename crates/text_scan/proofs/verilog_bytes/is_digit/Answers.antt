@@ -1,6 +1,0 @@
-use Rattle.std.proofs.Common.{arith}
-use Rattle.text_scan.proofs.ByteKinds.{digit_at}
-use Rattle.text_scan.proofs.verilog_bytes.is_digit.Goals as goal
-
-pub returns : goal.returns
-returns c = record { value = rw c.from.ensures (digit_at c.args.b (omega arith)) }

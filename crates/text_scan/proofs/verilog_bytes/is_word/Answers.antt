@@ -1,6 +1,0 @@
-use Rattle.std.proofs.Common.{arith}
-use Rattle.text_scan.proofs.ByteKinds.{word_at}
-use Rattle.text_scan.proofs.verilog_bytes.is_word.Goals as goal
-
-pub returns : goal.returns
-returns c = record { value = rw c.from.ensures (word_at c.args.b (omega arith)) }

@@ -1,6 +1,0 @@
-use Rattle.std.proofs.Common.{arith}
-use Rattle.text_scan.proofs.ByteKinds.{start_at}
-use Rattle.text_scan.proofs.verilog_bytes.is_word_start.Goals as goal
-
-pub returns : goal.returns
-returns c = record { value = rw c.from.ensures (start_at c.args.b (omega arith)) }

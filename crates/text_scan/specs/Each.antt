@@ -1,6 +1,0 @@
--- A fact of each member of a list, member by member.
-use Rattle.std.specs.Prelude.{List, [], ◌∷◌}
-
-abbrev pub Each : {X : Type 0} → (X → Type 0) → List X → Type 0
-Each P [] = Unit {0}
-Each P (x ∷ xs) = P x × Each P xs

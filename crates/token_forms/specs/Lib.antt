@@ -1,0 +1,10 @@
+pub mod Classes
+pub mod Forms
+pub mod Laws
+pub mod Parsing
+pub mod Parts
+pub mod Pieces
+pub mod Runs
+pub mod Splits
+pub mod Statements
+pub mod Tokens
