@@ -8,9 +8,9 @@ use crate::paths::cell_of;
 use crate::stop::Stop;
 use crate::table::CellTable;
 use crate::values::{is_empty, member_at};
+use base_types::{Fault, FileKind, Kind, Name, ReadFault, Spot};
 use indexmap::IndexMap;
 use std::alloc::Global;
-use base_types::{Fault, FileKind, Kind, Name, ReadFault, Spot};
 use toml::Table;
 
 fn shape_fault(cell: Name) -> ReadFault

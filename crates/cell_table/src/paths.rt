@@ -5,8 +5,8 @@ ghost use Rattle.cell_table.specs.Cells.{Gives, are_sized, bits_of, out_of, outs
 use crate::pins::has_pin_twice;
 use crate::stop::Stop;
 use crate::values::{array_at, bit_of, has_keys, is_empty, table_at, text_at};
-use std::alloc::Global;
 use base_types::{Name, Rows};
+use std::alloc::Global;
 use toml::value::Array;
 use toml::{Table, Value};
 

@@ -6,11 +6,11 @@ ghost use Rattle.chain_trace.specs.Faults.{IfFault};
 ghost use Rattle.path_report.specs.Reports.{step_text, path_text, no_port, IsPathText, IsPathFault};
 
 use crate::steps::{path_parity, push_step};
+use base_types::{Fault, FileKind, Kind, NoMemory, ReadFault, Spot, Text};
 use cell_table::{CellTable, read_table};
 use chain_trace::{Path, Step, output_named, plain_of, trace};
 use netlist_core::{Netlist, classes_of};
 use std::alloc::Global;
-use base_types::{Fault, FileKind, Kind, NoMemory, ReadFault, Spot, Text};
 use verilog_reader::read_netlist;
 
 fn no_port() -> ReadFault
