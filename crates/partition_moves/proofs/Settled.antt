@@ -1,10 +1,11 @@
 -- Chains with a unit left out, and when a step is a gain.
-use Rattle.std.proofs.Common.{◌≡◌, ◌≢◌, ℕ, ◌+◌, ◌<◌, ◌≤◌, ◌⊎◌, List, length, get_or, remove, sym, ap, ◌∙◌, arith, subst, inl, inr, IsTrue, nat_lt}
+use Rattle.std.proofs.Common.{◌≡◌, ◌≢◌, ℕ, ◌+◌, ◌<◌, ◌≤◌, ◌⊎◌, List, [], ◌∷◌, ◌++◌, Vec, length, take, get_or, remove, sym, ap, ◌∙◌, arith, subst, inl, inr, IsTrue, nat_lt}
 use Rattle.std.proofs.lemmas.Bool.{cases_eq, cases_lt}
 use Rattle.std.proofs.lemmas.Bool.Decides.{nat_tests}
-use Rattle.std.proofs.lemmas.List.{length-set}
+use Rattle.std.proofs.lemmas.List.{map_push, take_all, take_more}
 use Rattle.std.proofs.lemmas.List.Edits.{get_or-remove_above, get_or-remove_below, length-remove}
 use Rattle.chain_rules.specs.Legality.{IsLegal, IsIn, IsOpen, chain_at, moved_plan, swapped_plan, taken_out, with_chain}
+use Rattle.chain_rules.specs.Plans.{lists_of}
 use Rattle.chain_rules.specs.declared.plan.Plan.{Plan}
 use Rattle.chain_rules.specs.declared.unit.Position.{Position}
 use Rattle.chain_rules.specs.declared.unit.Rules.{Rules}
@@ -67,3 +68,12 @@ others_other p c i d us e n = e ∙ sym (with_chain_other p c d (remove (chain_a
 
 pub in_range : (rules : Rules) (ends : Ends) (p : Plan) (c : ℕ) (us : List ℕ) → c < length p.chains → AreSearchable rules ends → IsLegal rules p → us ≡ chain_at p c → IsChainAt ends c us
 in_range rules ends p c us h a g e = subst (IsChainAt ends c) (sym e) (chain_in_range rules ends p c h a g)
+
+-- a copy of one more chain
+pub copied_more : {A : Type 0} (ws : List (Vec ℕ A)) (w : Vec ℕ A) (xs : List (List ℕ)) (i : ℕ) → i < length xs → w.items ≡ get_or xs i [] → lists_of ws ≡ take i xs → lists_of (ws ++ w ∷ []) ≡ take (i + 1) xs
+copied_more ws w xs i h e f = map_push (λ u. u.items) ws w ∙ (ap (λ (us : List ℕ). lists_of ws ++ us ∷ []) e ∙ (ap (λ (uss : List (List ℕ)). uss ++ get_or xs i [] ∷ []) f ∙ sym (take_more xs i [] h)))
+
+pub copied_all : (p q : Plan) (xs : List (List ℕ)) (n : ℕ) → q.chains ≡ xs → xs ≡ take n p.chains → length p.chains ≤ n → q ≡ p
+copied_all p q xs n e f h =
+    let make : List (List ℕ) → Plan = λ (ys : List (List ℕ)). (let r : Plan = record { chains = ys } in r) in
+    ap make (e ∙ f ∙ take_all n p.chains h)

@@ -6,8 +6,8 @@ ghost use Rattle.order_search.specs.Searches.{AreSearchable};
 ghost use Rattle.order_search.specs.Trials.{IsGain, NoMoveOf, NoMoveTo, at};
 ghost use Rattle.partition_moves.specs.Quiet.{HasNoMove};
 
-use chain_rules::{Plan, Position, Rules, can_move};
 use base_types::NoMemory;
+use chain_rules::{Plan, Position, Rules, can_move};
 use wire_cost::{Ends, entry_of, exit_of, point_after, point_before, wire};
 
 // Whether a move that is told to be shorter or not is also legal.

@@ -120,13 +120,7 @@ fn swap_units(plan: &mut Plan, c: usize, i: usize, other: Position, spare: &mut 
 }
 
 // Exchanges each unit of a chain once, where an exchange makes the plan shorter, and tells whether one did.
-fn swaps_from(
-    rules: &Rules,
-    ends: &Ends,
-    plan: &mut Plan,
-    c: usize,
-    spare: &mut Vec<u32>,
-) -> bool
+fn swaps_from(rules: &Rules, ends: &Ends, plan: &mut Plan, c: usize, spare: &mut Vec<u32>) -> bool
     requires searchable { AreSearchable rules.now ends.now }
     requires legal { IsLegal rules.now plan.old }
     requires chain { c < length plan.old.chains }
@@ -147,12 +141,7 @@ fn swaps_from(
 }
 
 /// Goes once over all units and exchanges each that an exchange makes the plan shorter by; tells whether there was one.
-pub(crate) fn swap_pass(
-    rules: &Rules,
-    ends: &Ends,
-    plan: &mut Plan,
-    spare: &mut Vec<u32>,
-) -> bool
+pub(crate) fn swap_pass(rules: &Rules, ends: &Ends, plan: &mut Plan, spare: &mut Vec<u32>) -> bool
     requires searchable { AreSearchable rules.now ends.now }
     requires legal { IsLegal rules.now plan.old }
     ensures legal { IsLegal rules.now plan.new }

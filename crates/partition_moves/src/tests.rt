@@ -1,14 +1,14 @@
+ghost use Rattle.std.specs.Prelude.{◌<◌};
+
 use crate::settle_all;
-use chain_rules::{ChainRule, Plan, Rules, Unit};
+use base_types::{NoMemory, Point, Rows};
 use chain_rules::plain::is_legal;
+use chain_rules::{ChainRule, Plan, Rules, Unit};
 use order_search::plain::{is_settled, length_of};
 use order_search::{Effort, are_searchable};
 use std::alloc::{Alloc, Global};
 use std::process::Abort;
-use base_types::{NoMemory, Point, Rows};
 use wire_cost::Ends;
-
-ghost use Rattle.std.specs.Prelude.{◌<◌};
 
 // A number below `sides`, from a pseudorandom sequence.
 fn roll(seed: &mut u64, sides: u64) -> u64
@@ -101,20 +101,32 @@ fn random_case(alloc: Global, seed: &mut u64) -> Result<(Rules, Ends), NoMemory>
     Ok((rules, ends))
 }
 
-// Settled plans of small random rules are legal, no longer, and settled by the plain test.
+// The settled plan is legal, no longer, and settled by the plain test.
+fn settles(
+    rt: &(impl Abort + Alloc<A = Global>),
+    rules: &Rules,
+    ends: &Ends,
+) -> Result<(), NoMemory> {
+    assert!(rt; are_searchable(rules, ends));
+    let mut plan = rules.read.copy(rt.alloc())?;
+    assert!(rt; is_legal(rules, &plan));
+    let before = length_of(rules, ends, &plan);
+    settle_all(rt.alloc(), rules, ends, &mut plan)?;
+    assert!(rt; is_legal(rules, &plan), "legal");
+    assert!(rt; length_of(rules, ends, &plan) <= before, "no longer");
+    assert!(rt;
+        is_settled(rt.alloc(), Effort::Full, rules, ends, &plan)?,
+        "settled"
+    );
+    Ok(())
+}
+
 #[test]
 fn random_rules(rt: HostRuntime) -> Result<(), NoMemory> {
-    let alloc = rt.alloc();
     let mut seed = 2024;
     for _ in 0..400 {
-        let (rules, ends) = random_case(alloc, &mut seed)?;
-        assert!(rt; are_searchable(&rules, &ends), "searchable");
-        let mut plan = rules.read.copy(alloc)?;
-        let before = length_of(&rules, &ends, &rules.read);
-        settle_all(alloc, &rules, &ends, &mut plan)?;
-        assert!(rt; is_legal(&rules, &plan), "legal");
-        assert!(rt; length_of(&rules, &ends, &plan) <= before, "no longer");
-        assert!(rt; is_settled(alloc, Effort::Full, &rules, &ends, &plan)?, "settled");
+        let (rules, ends) = random_case(rt.alloc(), &mut seed)?;
+        settles(&rt, &rules, &ends)?;
     }
     Ok(())
 }
@@ -163,10 +175,22 @@ fn two_chains(rt: HostRuntime) -> Result<(), NoMemory> {
     ];
     let other = [
         Point { x: 82000, y: 2000 },
-        Point { x: 22000, y: 202000 },
-        Point { x: 42000, y: 202000 },
-        Point { x: 62000, y: 202000 },
-        Point { x: 82000, y: 202000 },
+        Point {
+            x: 22000,
+            y: 202000,
+        },
+        Point {
+            x: 42000,
+            y: 202000,
+        },
+        Point {
+            x: 62000,
+            y: 202000,
+        },
+        Point {
+            x: 82000,
+            y: 202000,
+        },
     ];
     add_flops(&mut rules, &mut ends, &one, 2000, 100000, 4)?;
     add_flops(&mut rules, &mut ends, &other, 202000, 120000, 5)?;
@@ -178,8 +202,8 @@ fn two_chains(rt: HostRuntime) -> Result<(), NoMemory> {
     let mut plan = rules.read.copy(alloc)?;
     settle_all(alloc, &rules, &ends, &mut plan)?;
     assert!(rt; plan.len() == 2, "two");
-    assert!(rt; plan.chain(0) == &[0, 1, 2, 3], "one more");
-    assert!(rt; plan.chain(1) == &[4, 5, 6, 7], "one less");
+    assert!(rt; plan.chain(0) == [0, 1, 2, 3].as_slice(), "one more");
+    assert!(rt; plan.chain(1) == [4, 5, 6, 7].as_slice(), "one less");
     assert_eq!(rt; length_of(&rules, &ends, &plan), 220000);
     Ok(())
 }
