@@ -7,9 +7,9 @@ ghost use Rattle.order_search.specs.Steps.{IsSettled};
 ghost use Rattle.order_search.specs.declared.effort.Effort.TheVariants.{Order};
 
 use crate::reversals::{SearchCount, settle_chain_counted};
+use base_types::NoMemory;
 use chain_rules::{Plan, Rules};
 use std::alloc::Global;
-use base_types::NoMemory;
 use wire_cost::{Ends, Sums};
 
 // The number of units in the longest chain.

@@ -8,10 +8,10 @@ ghost use Rattle.order_search.specs.Trials.{HasGain, IsGain, NoMoveOf, NoMoveTo,
 
 use crate::effort::Effort;
 use crate::reversals::reverse_run;
+use base_types::NoMemory;
 use chain_rules::plain::is_legal;
 use chain_rules::{Plan, Rules};
 use std::alloc::Global;
-use base_types::NoMemory;
 use wire_cost::{Ends, plan_length};
 
 /// The length of a legal plan.
