@@ -14,8 +14,8 @@ use chain_rules::{Plan, Rules};
 use std::alloc::Global;
 use wire_cost::{Ends, plan_length};
 
-// The length of a legal plan.
-pub(crate) fn length_of(rules: &Rules, ends: &Ends, plan: &Plan) -> i64
+/// The length of a legal plan.
+pub fn length_of(rules: &Rules, ends: &Ends, plan: &Plan) -> i64
     requires searchable { AreSearchable rules.now ends.now }
     requires legal { IsLegal rules.now plan.now }
     ensures value { result ≡ pos (plan_length_of ends.now plan.now) }

@@ -10,7 +10,7 @@ use Rattle.wire_cost.specs.Lengths.{AreWithin, chain_length_of}
 use Rattle.order_search.specs.Steps.{IsPinnedLast}
 use Rattle.order_search.proofs.Legal.{AreTurned, chain_apart, chain_within, legal_turned, pinned_last_in}
 use Rattle.order_search.proofs.Settling.{in_chain, order_settled, plan_le, turned_more}
-use Rattle.order_search.proofs.order.settle_order_counted.Goals as goal
+use Rattle.order_search.proofs.order.settle_plan.Goals as goal
 
 pub settle_chain_counted-more-requires-clause-units : goal.settle_chain_counted-more-requires-clause-units
 settle_chain_counted-more-requires-clause-units c =
@@ -42,8 +42,8 @@ loop-c-preserved c =
     let k : chain_length_of ends n ws ≤ chain_length_of ends n (chain_at q n) = subst (λ (us : List ℕ). chain_length_of ends n ws ≤ chain_length_of ends n us) e c.settle_chain_counted-more.ensures.no_longer in
     record {
       turned = turned_more rules ends c.args.plan.now q c.exchange.new.self c.exchange-in-loop-c.new.self n c.loop-c.units.items ws c.loop-c.invariant.turned (omega arith) c.exchange.ensures.plan d p c.settle_chain_counted-more.ensures.pinned k c.settle_chain_counted-more.ensures.settled;
-      empty = c.exchange-in-loop-c.ensures.units ∙ ap (λ (x : Plan). chain_at x n) c.exchange.ensures.plan ∙ in_chain q n c.loop-c.units.items (omega (arith, c.loop-c.invariant.turned.count)) ∙ c.loop-c.invariant.empty;
       room = λ j l. (let r = c.loop-c.invariant.room j l in omega (arith, c.settle_chain_counted-more.ensures.room, r));
+      same_room = c.settle_chain_counted-more.ensures.room ∙ c.loop-c.invariant.same_room;
     }
 
 pub returns-clause-legal : goal.returns-clause-legal
