@@ -1,7 +1,7 @@
 ghost use Rattle.std.specs.Prelude.{List, ℕ, Bool, Option, Some, None, Ok, Err, ◌≡◌, ◌∷◌, ◌++◌, [], ◌<◌, ◌≤◌, ◌+◌, ◌^◌, ◌==◌, ◌&&◌, if◌then◌else◌, length, drop, OnOk, OnErr};
 ghost use Rattle.token_forms.specs.Parsing.{Gives, GivesAll, TakesNoMemory, word_at};
 ghost use Rattle.token_forms.specs.Classes.{Class, is_in, begins, Only};
-ghost use Rattle.token_forms.specs.Forms.{Form, text_at, made, many, some, gathered_at, Passing, depth_behind, passes_at, listed, ◌▸◌};
+ghost use Rattle.token_forms.specs.Forms.{Form, text, text_at, made, many, some, gathered_at, Passing, depth_behind, passes_at, listed, ◌▸◌};
 ghost use Rattle.token_forms.specs.Laws.{IsStatement, IsExactly, IsExactlyFirst, AreExactly};
 ghost use Rattle.base_types.specs.declared.stop.Stop.TheVariants.{NoForm as no_form};
 
@@ -220,6 +220,39 @@ impl<'a, 's> Parser<'a, 's> {
         let mut values = Vec::new(self.alloc);
         values.push(first)?;
         self.listed_more(values)
+    }
+
+    /// Takes words of a kind with a comma before each, and puts them behind the first one.
+    fn texts_more<W: Word>(&mut self, front: Vec<TokenText<'a>>) -> Result<Rows<TokenText<'a>>, Stop>
+        ensures value { Gives result self.new.tokens ((made (λ xs. front.entry.items ++ xs) (many ("," ▸ text W.kind W.test))).reads self.old.tokens) }
+        ensures shorter { OnOk result (length self.new.tokens ≤ length self.old.tokens) }
+    {
+        let mut values = front;
+        while self.begins_word(b",") {
+            let value = self.text_behind_comma::<W>()?;
+            values.push(value)?;
+        }
+        values.shrink_to_fit();
+        Ok(Rows::of(values))
+    }
+
+    fn text_behind_comma<W: Word>(&mut self) -> Result<TokenText<'a>, Stop>
+        ensures value { Gives result self.new.tokens (("," ▸ text W.kind W.test).reads self.old.tokens) }
+        ensures shorter { OnOk result (length self.new.tokens < length self.old.tokens) }
+    {
+        self.word(b",")?;
+        self.text::<W>()
+    }
+
+    /// Takes one word of a kind or more, with commas between them.
+    pub fn texts<W: Word>(&mut self) -> Result<Rows<TokenText<'a>>, Stop>
+        ensures value { Gives result self.new.tokens ((listed (text W.kind W.test) ",").reads self.old.tokens) }
+        ensures shorter { OnOk result (length self.new.tokens < length self.old.tokens) }
+    {
+        let first = self.text::<W>()?;
+        let mut values = Vec::new(self.alloc);
+        values.push(first)?;
+        self.texts_more::<W>(values)
     }
 
     /// Takes as many pieces as there are, and puts them to a value.
