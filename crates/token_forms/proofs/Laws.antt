@@ -376,7 +376,13 @@ module _ {A : Type 0} (w : String) (a : Form A) (v : String) (la : IsLawful a) w
         front = u.holds.token ∷ (b.front ++ n.holds.token ∷ []);
         is = opened ∙ ap (λ (r : List Token). u.holds.token ∷ r) (inside ∙ sym (append_assoc b.front (n.holds.token ∷ []) k.1));
         holds = record {
-          mark = u.holds.token; run = b.front; next = n.holds.token; is = refl; opens = u.holds.text; holds = b.holds; closes = n.holds.text;
+          mark = u.holds.token;
+          run = b.front;
+          next = n.holds.token;
+          is = refl;
+          opens = u.holds.text;
+          holds = b.holds;
+          closes = n.holds.text;
           placed = ap (λ (f : List Token). run_place f q.1) run ∙ (ap (λ (r : List Token). run_place b.front r) closed ∙ placed_before b.front n.holds.token k.1);
         };
       }))))

@@ -223,7 +223,10 @@ impl<'a, 's> Parser<'a, 's> {
     }
 
     /// Takes words of a kind with a comma before each, and puts them behind the first one.
-    fn texts_more<W: Word>(&mut self, front: Vec<TokenText<'a>>) -> Result<Rows<TokenText<'a>>, Stop>
+    fn texts_more<W: Word>(
+        &mut self,
+        front: Vec<TokenText<'a>>,
+    ) -> Result<Rows<TokenText<'a>>, Stop>
         ensures value { Gives result self.new.tokens ((made (λ xs. front.entry.items ++ xs) (many ("," ▸ text W.kind W.test))).reads self.old.tokens) }
         ensures shorter { OnOk result (length self.new.tokens ≤ length self.old.tokens) }
     {
