@@ -15,7 +15,10 @@ use Rattle.base_types.specs.declared.fault.Fault.{Fault}
 use Rattle.base_types.specs.declared.fault.ReadFault.{ReadFault}
 use Rattle.base_types.specs.declared.fault.ReadFault.TheVariants as faults
 use Rattle.std.specs.Result.{IfErr}
-use Rattle.cell_table.specs.Cells.{Answers, Cells, cell_of, cells_of, with_cell, shape_fault}
+use Rattle.base_types.specs.Faults.{of_cell}
+use Rattle.base_types.specs.declared.kind.Kind.TheVariants.{TableShape}
+use Rattle.base_types.specs.FirstFault.{Answers}
+use Rattle.cell_table.specs.Cells.{Cells, cell_of, cells_of, with_cell}
 use Rattle.cell_table.specs.Least.{IsLeastBad, NamesLeastBad, AboveAll, Ascending}
 use Rattle.cell_table.proofs.Loops.{Entry}
 
@@ -41,7 +44,7 @@ found_above name n (member k d ms) e h found =
     ]
     in cases (order name k) refl found
 
-same_name : (n name : List ℕ) → shape_fault n ≡ shape_fault name → n ≡ name
+same_name : (n name : List ℕ) → of_cell TableShape n ≡ of_cell TableShape name → n ≡ name
 same_name n name h = let spot = ap (λ (f : Fault). f.spot) h in cc
 
 module _ (n : List ℕ) (d : Data) (ms : Members) (above : AboveAll n ms) where
@@ -70,14 +73,14 @@ module _ (n : List ℕ) (d : Data) (ms : Members) (above : AboveAll n ms) where
         least = λ other e found less. others other e (order other n) found less;
       }
 
-pub least_bad : (ms : Members) (name : List ℕ) → Ascending ms → cells_of ms ≡ Err (shape_fault name) → IsLeastBad ms name
+pub least_bad : (ms : Members) (name : List ℕ) → Ascending ms → cells_of ms ≡ Err (of_cell TableShape name) → IsLeastBad ms name
 unfolding cells_of
 least_bad no_members name h read = absurd cc
 least_bad (member n d ms) name h read =
-    let cases : (o : Option (List ScanPath)) (r : Result Cells Fault) → cell_of d ≡ o → cells_of ms ≡ r → with_cell n o r ≡ Err (shape_fault name) → IsLeastBad (member n d ms) name
-    = λ o r. elim o as (λ o. cell_of d ≡ o → cells_of ms ≡ r → with_cell n o r ≡ Err (shape_fault name) → IsLeastBad (member n d ms) name) [
-      | None ↦ λ bad rest f. let both : shape_fault n ≡ shape_fault name = cc in let same = same_name n name both in subst (IsLeastBad (member n d ms)) same (here n d ms h.0 bad)
-      | Some paths ↦ λ good. elim r as (λ r. cells_of ms ≡ r → with_cell n (Some paths) r ≡ Err (shape_fault name) → IsLeastBad (member n d ms) name) [
+    let cases : (o : Option (List ScanPath)) (r : Result Cells Fault) → cell_of d ≡ o → cells_of ms ≡ r → with_cell n o r ≡ Err (of_cell TableShape name) → IsLeastBad (member n d ms) name
+    = λ o r. elim o as (λ o. cell_of d ≡ o → cells_of ms ≡ r → with_cell n o r ≡ Err (of_cell TableShape name) → IsLeastBad (member n d ms) name) [
+      | None ↦ λ bad rest f. let both : of_cell TableShape n ≡ of_cell TableShape name = cc in let same = same_name n name both in subst (IsLeastBad (member n d ms)) same (here n d ms h.0 bad)
+      | Some paths ↦ λ good. elim r as (λ r. cells_of ms ≡ r → with_cell n (Some paths) r ≡ Err (of_cell TableShape name) → IsLeastBad (member n d ms) name) [
         | Ok cells ↦ λ rest f. absurd cc
         | Err fault ↦ λ rest f. behind n d ms h.0 name paths good (least_bad ms name h.1 (rest ∙ f))
       ]
@@ -95,5 +98,5 @@ ascending_from (e ∷ es) h = (above_from e.0 es h.0, ascending_from es h.1)
 
 pub names_least_bad : (r : Result Cells ReadFault) (ms : Members) → Ascending ms → Answers {X = Cells} r (cells_of ms) → IfErr r (NamesLeastBad ms)
 names_least_bad (Ok cells) ms h a = tt
-names_least_bad (Err (faults.Fault f)) ms h a = λ name is. let same : f ≡ shape_fault name = cc in least_bad ms name h (a ∙ ap (λ (g : Fault). Err g) same)
+names_least_bad (Err (faults.Fault f)) ms h a = λ name is. let same : f ≡ of_cell TableShape name = cc in least_bad ms name h (a ∙ ap (λ (g : Fault). Err g) same)
 names_least_bad (Err faults.NoMemory) ms h a = λ name is. absurd cc

@@ -6,7 +6,9 @@ use Rattle.std.specs.declared.cmp.Ordering.TheVariants.{Less}
 use Rattle.base_types.specs.declared.fault.ReadFault.{ReadFault}
 use Rattle.base_types.specs.declared.fault.ReadFault.TheVariants as faults
 use Rattle.toml.specs.Data.{Data, Members, no_members, member, get_member}
-use Rattle.cell_table.specs.Cells.{cell_of, shape_fault}
+use Rattle.base_types.specs.Faults.{of_cell}
+use Rattle.base_types.specs.declared.kind.Kind.TheVariants.{TableShape}
+use Rattle.cell_table.specs.Cells.{cell_of}
 
 -- the cell is there, its entry isn't of the form, and that of no cell with a lesser name isn't
 pub record IsLeastBad (cells : Members) (name : List ℕ) : Type 0 where
@@ -17,7 +19,7 @@ pub record IsLeastBad (cells : Members) (name : List ℕ) : Type 0 where
 
 -- a fault of shape names the least bad cell
 abbrev pub NamesLeastBad : Members → ReadFault → Type 0
-NamesLeastBad cells e = (name : List ℕ) → e ≡ faults.Fault (shape_fault name) → IsLeastBad cells name
+NamesLeastBad cells e = (name : List ℕ) → e ≡ faults.Fault (of_cell TableShape name) → IsLeastBad cells name
 
 -- each name is below those behind it
 abbrev pub AboveAll : List ℕ → Members → Type 0

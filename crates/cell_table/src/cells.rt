@@ -1,27 +1,17 @@
 ghost use Rattle.std.specs.Prelude.{◌≡◌, Some, IfErr, option_map};
 ghost use Rattle.toml.specs.View.{table_view};
 ghost use Rattle.toml.specs.Data.{Members};
+ghost use Rattle.base_types.specs.FirstFault.{Answers};
 ghost use Rattle.cell_table.specs.Least.{NamesLeastBad, Ascending};
-ghost use Rattle.cell_table.specs.Cells.{document_at, Answers, shape_fault, named_cells, cells_of, document_of, table_of};
+ghost use Rattle.cell_table.specs.Cells.{document_at, named_cells, cells_of, document_of, table_of};
 
 use crate::paths::cell_of;
-use crate::stop::Stop;
 use crate::table::CellTable;
 use crate::values::{is_empty, member_at};
+use base_types::{Fault, FileKind, Kind, Name, ReadFault, Spot, Stop};
 use indexmap::IndexMap;
 use std::alloc::Global;
-use base_types::{Fault, FileKind, Kind, Name, ReadFault, Spot};
 use toml::Table;
-
-fn shape_fault(cell: Name) -> ReadFault
-    ensures { result ≡ ReadFault.Fault (shape_fault cell) }
-{
-    ReadFault::Fault(Fault {
-        kind: Kind::TableShape,
-        file: FileKind::Table,
-        spot: Spot::Cell(cell),
-    })
-}
 
 #[tactic(auto, using(crate::proofs::LeastBad::ascending_from))]
 fn cells_of(alloc: Global, table: &Table) -> Result<CellTable, ReadFault>
@@ -33,7 +23,10 @@ fn cells_of(alloc: Global, table: &Table) -> Result<CellTable, ReadFault>
         let name = Vec::from_slice(alloc, name.as_bytes())?;
         let paths = match cell_of(alloc, value) {
             Ok(paths) => paths,
-            Err(Stop::NoForm) => return Err(shape_fault(Name::of(name))),
+            Err(Stop::NoForm) => return Err(ReadFault::Fault(Fault::of_cell(
+                Kind::TableShape,
+                Name::of(name),
+            ))),
             Err(Stop::NoMemory) => return Err(ReadFault::NoMemory),
         };
         cells.insert(name, paths)?;
@@ -62,7 +55,7 @@ fn document_of(alloc: Global, document: &Table) -> Result<CellTable, ReadFault>
 {
     match named_cells(document) {
         Some(cells) => cells_of(alloc, cells),
-        None => Err(shape_fault(Name::of(Vec::new(alloc)))),
+        None => Err(ReadFault::Fault(Fault::of_cell(Kind::TableShape, Name::of(Vec::new(alloc))))),
     }
 }
 

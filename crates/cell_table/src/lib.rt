@@ -9,7 +9,6 @@ mod cells;
 mod paths;
 mod pins;
 mod small;
-mod stop;
 mod table;
 mod values;
 

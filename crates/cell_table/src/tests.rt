@@ -1,7 +1,7 @@
 use crate::{CellTable, read_table, small_table};
+use base_types::{Kind, Name, ReadFault, Spot};
 use std::alloc::Global;
 use std::test::Fail;
-use base_types::{Kind, Name, ReadFault, Spot};
 
 fn count(table: &CellTable, alloc: Global, cell: &str) -> Result<Option<usize>, Fail> {
     let name = Name::copy(alloc, cell.as_bytes()).map_err(|_| "memory")?;

@@ -14,7 +14,7 @@ returns-in-Err-NoForm-clause-cells c =
     let same_name : c.of.result ≡ string_bytes c.in-Some.name.now = c.of.ensures.value ∙ c.in_ok-name.ensures.items ∙ c.as_bytes.ensures.value in
     let stops = cell_stops c.loop-name.cells.entries c.loop-name.name-iterator c.next.new.self c.in-Some.name.now c.in-Some.value.now c.of.result _
     c.in-Some.ensures.steps same_name (gives_none c.in-Err-NoForm.field-0 _ c.in-Err-NoForm.field-0-is c.in-Err-NoForm.ensures) c.loop-name.invariant.2.same in
-    rw c.shape_fault.ensures stops
+    rw c.of_cell.ensures.value stops
 
 pub loop-name-preserved : goal.loop-name-preserved
 loop-name-preserved c =

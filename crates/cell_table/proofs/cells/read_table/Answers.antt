@@ -4,7 +4,8 @@ use Rattle.std.proofs.lemmas.Option.{same_Some}
 use Rattle.std.proofs.lemmas.Result.{IfErr-weaker}
 use Rattle.toml.specs.Data.{Members}
 use Rattle.toml.specs.View.{table_view}
-use Rattle.cell_table.specs.Cells.{Answers, Cells, named_cells}
+use Rattle.base_types.specs.FirstFault.{Answers}
+use Rattle.cell_table.specs.Cells.{Cells, named_cells}
 use Rattle.cell_table.proofs.Documents.{taken, refused, read_at}
 use Rattle.cell_table.proofs.cells.read_table.Goals as goal
 
