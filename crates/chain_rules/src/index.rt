@@ -28,19 +28,21 @@ impl<'a> Model for Index<'a> {
 }
 
 impl<'a> Index<'a> {
+    /// The paths to look steps up in.
     pub fn of(paths: &'a [PathSpec]) -> Index<'a>
         ensures value { result ≡ paths.now }
     {
         Index { paths }
     }
 
+    /// The paths.
     pub fn paths(&self) -> &[PathSpec]
         ensures value { result.now ≡ self.now }
     {
         self.paths
     }
 
-    // The steps of a path.
+    /// The steps of a path.
     pub fn steps(&self, path: usize) -> &[StepSpec]
         requires path { path < length self.now }
         ensures value { result.now ≡ (path_at self.now path).steps }
@@ -49,7 +51,7 @@ impl<'a> Index<'a> {
         paths[path].steps.as_slice()
     }
 
-    // The bits of the steps of a path from one place up to and without another.
+    /// The bits of the steps of a path from one place up to and without another.
     pub fn bits(&self, path: usize, from: usize, to: usize) -> u32
         requires path { path < length self.now }
         requires from { from ≤ to }
@@ -60,7 +62,7 @@ impl<'a> Index<'a> {
         sum_bits(&self.steps(path)[from..to])
     }
 
-    // The place of a scan path of an instance.
+    /// The place of a scan path of an instance.
     pub fn find(&self, instance: u32, scan: u32) -> Option<Place>
         ensures found { IfSome result (λ p. IsPlace self.now p.path p.place × IsOf (step_at (path_at self.now p.path) p.place) instance scan) }
         ensures none { IfNone result ((n k : ℕ) → IsPlace self.now n k → ¬ IsOf (step_at (path_at self.now n) k) instance scan) }

@@ -44,6 +44,7 @@ impl Part {
         })
     }
 
+    /// Goes on to a stage.
     pub fn set_stage(&mut self, stage: Stage)
         ensures value { self.new ≡ record self.old { stage = stage } }
     {
@@ -58,6 +59,7 @@ impl Part {
         self.faults = self.faults.saturating_add(1);
     }
 
+    /// How many calls on the slot failed.
     pub fn faults(&self) -> u64
         ensures value { result ≡ self.now.faults }
     {
@@ -76,12 +78,14 @@ impl Part {
         count
     }
 
+    /// The bytes written so far.
     pub fn written(&self) -> &[u8]
         ensures value { result.now ≡ self.now.written }
     {
         &self.output[..self.used]
     }
 
+    /// Whether all room for written bytes is taken.
     pub fn is_full(&self) -> bool
         ensures value { IsTrue result ↔ (length self.now.written ≡ self.now.room) }
         ensures within { length self.now.written ≤ self.now.room }

@@ -45,6 +45,7 @@ impl Sample {
         }
     }
 
+    /// Prints the line of a kernel, with its times where these were asked for.
     pub fn print(&self, rt: &impl Print, kernel: Kernel, timed: bool) -> io::Result<()> {
         let name = kernel.name();
         let answers = if self.alike { "alike" } else { "NOT ALIKE" };

@@ -58,6 +58,7 @@ impl Bits {
         })
     }
 
+    /// The bits in order, from the left. Takes no memory.
     pub fn as_slice(&self) -> &[Bit]
         ensures value { result.now ≡ self.now }
     {

@@ -12,6 +12,7 @@ const CHAINS: usize = 32;
 pub struct Numbers(u64);
 
 impl Numbers {
+    /// The numbers of one seed, always the same.
     pub fn new() -> Numbers {
         Numbers(12345)
     }

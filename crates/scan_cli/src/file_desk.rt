@@ -19,6 +19,7 @@ pub struct FileDesk {
 }
 
 impl FileDesk {
+    /// A desk whose slots are all unopened, with no fault counted.
     pub fn new(rt: HostRuntime) -> FileDesk
         ensures unopened { (slot : Slot) → slice_index_or result.stages (number slot) Unopened ≡ Unopened }
         ensures faults { (slot : Slot) → slice_index result.faults (number slot) ≡ 0 }

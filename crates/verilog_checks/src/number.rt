@@ -52,6 +52,7 @@ fn is_big_index(digits: &[u8]) -> bool
     index_value(digits).is_none()
 }
 
+/// Whether a constant has a size of 0 or beyond 128.
 pub fn is_bad_size(text: &[u8]) -> bool
     ensures value { result ≡ is_bad_size text.now }
 {

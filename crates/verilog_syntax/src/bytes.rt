@@ -39,6 +39,7 @@ pub fn is_word_start(b: u8) -> bool
     KINDS[usize::from(b)] == 2
 }
 
+/// A decimal digit.
 #[inline(always)]
 pub fn is_digit(b: u8) -> bool
     ensures value { result ≡ is_digit b }

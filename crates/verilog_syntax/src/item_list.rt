@@ -54,6 +54,7 @@ impl<'a> Items<'a> {
         }
     }
 
+    /// The items in order. Takes no memory.
     pub fn as_slice(&self) -> &[Item<'a>]
         ensures value { result.now ≡ self.now }
     {
