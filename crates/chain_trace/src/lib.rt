@@ -1,6 +1,6 @@
 //! Traces the scan path of a scan output through a netlist, and tells its bits and their parities.
 //!
-//! Floor: paths, on netlist_core, cell_table and text_scan.
+//! Floor: paths, on cell_table, netlist_core and base_types.
 //! Contract: `trace` gives the only path that `specs/Paths.antt` allows, or the fault that `specs/Faults.antt` says is
 //! met first. Begin with `path.rt`.
 #![tactic(auto)]

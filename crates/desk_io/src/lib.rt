@@ -1,6 +1,6 @@
 //! The outside of a run: slots that are opened, read, written and closed, and the loops over them.
 //!
-//! Floor: ground, on text_scan and `thiserror`.
+//! Floor: ground, on base_types and `thiserror`.
 //! Contract: a call changes only its own slot; what was taken is the front of what the slot held, and what was put is
 //! a prefix of the text; a failure shows in the slot's count of faults. Begin with `desk.rt` and `specs/Desk.antt`.
 #![tactic(auto)]

@@ -2,6 +2,8 @@
 //!
 //! With the argument `times` it prints a table. With no argument it makes few rounds and prints only whether both gave
 //! the same answers, which is the same on every machine.
+//!
+//! Floor: benches, on lane_kernels.
 #![tactic(auto)]
 
 ghost use Rattle.std.specs.Prelude.{◌≡◌, ◌≤◌, ◌^◌, length, unsigned_abs};

@@ -1,7 +1,7 @@
 //! The edits that make other paths of a netlist's paths, and netlists with the scan wiring erased, by which a read netlist
 //! and a written one are compared.
 //!
-//! Floor: paths, on chain_trace, cell_table, netlist_core and text_scan.
+//! Floor: paths, on cell_table, netlist_core, chain_trace and base_types.
 //! Contract: `edits_for` gives the edits that `specs/Edits.antt` says, `is_free` tells the ports of `specs/Free.antt`, and
 //! `erased` gives the netlist that `specs/Erasure.antt` says, blank at the scan sinks.
 #![tactic(auto)]

@@ -1,6 +1,6 @@
 //! Orders the units within their chains: the plan of nearest neighbours, and plans that no reversed run makes shorter.
 //!
-//! Floor: planning, on wire_cost and chain_rules.
+//! Floor: planning, on chain_rules, wire_cost and base_types.
 //! Contract: `nearest_plan` gives what `specs/Nearest.antt` defines; a settled plan is what `specs/Steps.antt` says, for
 //! every search of this and of the crates above. Begin with `reversals.rt`.
 #![tactic(auto)]

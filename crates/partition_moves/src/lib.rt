@@ -1,6 +1,6 @@
 //! Settles plans for all steps: reversed runs, units moved to another place, and units of two chains exchanged.
 //!
-//! Floor: planning, on order_search, wire_cost and chain_rules.
+//! Floor: planning, on chain_rules, wire_cost, order_search and base_types.
 //! Contract: a settled plan is what `order_search/specs/Steps.antt` says. Begin with `settle.rt`.
 #![tactic(auto)]
 

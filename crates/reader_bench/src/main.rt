@@ -1,5 +1,7 @@
 //! Times `read_netlist` on a generated netlist, and then the trace of its one chain. With no word it takes a small one and
 //! prints what is the same at each run; with a number of megabytes it prints the times too.
+//!
+//! Floor: benches, on cell_table, netlist_core, chain_trace, verilog_reader, base_types and `anyhow`.
 #![tactic(auto)]
 
 ghost use Rattle.std.specs.Prelude.{◌<◌, ◌^◌, length};

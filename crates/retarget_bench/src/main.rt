@@ -3,6 +3,8 @@
 //! With no argument it takes few cells and few calls, shifts each call as read and as written, and
 //! prints only what is the same on every machine. With two numbers, of cells and of calls, it prints
 //! calls and megabytes of characters in a second, over all calls and at the fastest.
+//!
+//! Floor: benches, on stil_reader, stil_tester, retarget, call_checks, base_types and `anyhow`.
 #![tactic(auto)]
 
 ghost use Rattle.std.specs.Prelude.{◌≡◌, IfOk, length};

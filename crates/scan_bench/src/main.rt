@@ -1,5 +1,7 @@
 //! Times the tokens of a generated netlist. With no word it takes one megabyte and prints what is the same at each run;
 //! with a number of megabytes it prints the time and the memory too.
+//!
+//! Floor: benches, on verilog_syntax, base_types and `anyhow`.
 #![tactic(auto)]
 
 use anyhow::{Context, Result, ensure};

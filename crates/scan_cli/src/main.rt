@@ -1,6 +1,6 @@
 //! The command line program over real files.
 //!
-//! Floor: top, on scan_job.
+//! Floor: top, on desk_io, scan_job and base_types.
 #![tactic(auto)]
 
 mod file_desk;

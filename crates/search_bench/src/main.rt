@@ -2,6 +2,8 @@
 //!
 //! Without an argument it takes a small chain and prints its lengths, passes and steps alone; with a number of units it
 //! prints the times too.
+//!
+//! Floor: benches, on chain_rules, wire_cost, order_search and base_types.
 #![tactic(auto)]
 
 ghost use Rattle.std.specs.Prelude.{ℕ, ◌^◌, ◌<◌};

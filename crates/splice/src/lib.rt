@@ -1,6 +1,6 @@
 //! Replaces parts of a text.
 //!
-//! Floor: writers, on text_scan.
+//! Floor: writers, on token_forms and base_types.
 #![tactic(auto)]
 
 ghost use Rattle.std.specs.Prelude.{◌≡◌, length, IfOk};

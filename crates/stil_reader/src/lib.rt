@@ -1,6 +1,6 @@
 //! The patterns that a STIL text denotes.
 //!
-//! Floor: readers, on text_scan.
+//! Floor: readers, on base_types.
 #![tactic(auto)]
 
 mod statement;

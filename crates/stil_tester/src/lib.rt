@@ -1,6 +1,6 @@
 //! Shifts scan chains and plays patterns, cell by cell.
 //!
-//! Floor: patterns, on text_scan and stil_reader.
+//! Floor: patterns, on stil_reader and base_types.
 //! Contract: `shift_step`, `scan_call` and `play` do what `specs/Shifting.antt` and
 //! `specs/Runs.antt` say, and `device_law` says that no device tells patterns of the same
 //! meaning apart. Begin with `specs/Symbols.antt`.

@@ -1,6 +1,6 @@
 //! The faults of a Verilog module's statements beyond their form.
 //!
-//! Floor: readers, on verilog_names, verilog_syntax and text_scan.
+//! Floor: readers, on verilog_syntax, verilog_names, base_types and token_forms.
 //! Contract: `check_number`, `check_twice` and `check_select` answer the first statement that fails their test in
 //! `specs/Faults.antt`, or none; `check_twice` hands out the declared names that it gathered. Begin with `number.rt`.
 #![tactic(auto)]

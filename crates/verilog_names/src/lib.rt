@@ -1,6 +1,6 @@
 //! The names of a flat Verilog module: plain names, the bits of vectors, and the table of the names with their nets.
 //!
-//! Floor: readers, on verilog_syntax, text_scan and `indexmap`.
+//! Floor: readers, on verilog_syntax, base_types, token_forms and `indexmap`.
 //! Contract: values are those of `specs/Values.antt` and `specs/Declarations.antt`; `DeclaredNames` is seen as a list, as
 //! `specs/NameTables.antt` says. Begin with `declared.rt`.
 #![tactic(auto)]

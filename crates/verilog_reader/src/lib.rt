@@ -1,6 +1,6 @@
 //! Reads a flat Verilog netlist (IEEE 1364-2005, in this profile) into a `Netlist`, or answers its first fault.
 //!
-//! Floor: readers, on verilog_checks, verilog_names, verilog_syntax, netlist_core and text_scan.
+//! Floor: readers, on netlist_core, verilog_syntax, verilog_names, verilog_checks, base_types and token_forms.
 //! Contract: `read_netlist` gives what `specs/Denoted.antt` says the text denotes, and refuses exactly as
 //! `read_faultless` of verilog_checks says. Begin with `netlist.rt`.
 #![tactic(auto)]

@@ -1,7 +1,7 @@
 //! The statements of a flat Verilog module (IEEE 1364-2005, in this profile): what they are, how they are spelled, and how
 //! they are read.
 //!
-//! Floor: readers, on token_forms and base_types.
+//! Floor: readers, on base_types and token_forms.
 //! Contract: `read_statements` gives the statements that `specs/Reading.antt` says the text has, which are those that
 //! its tokens spell by `specs/Grammar.antt`, or the first that matches no form. Begin with `statement.rt`.
 //!

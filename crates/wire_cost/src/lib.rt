@@ -1,6 +1,6 @@
 //! Measures chains: the link between two places, the length of a chain and of a plan, and the sums of a chain's first links.
 //!
-//! Floor: planning, on text_scan and chain_rules.
+//! Floor: planning, on chain_rules and base_types.
 //! Contract: every number is the one that `specs/Lengths.antt` defines. Begin with `ends.rt`.
 #![tactic(auto)]
 
