@@ -8,7 +8,7 @@ use crate::statement::{Connection, Declared, Expression, Item, Range, Statement}
 use crate::words::{is_constant, is_decimal, is_name};
 use base_types::{Boxed, Rows, Span, Stop};
 use std::alloc::Global;
-use token_forms::{Tokens, TokenText};
+use token_forms::{TokenText, Tokens};
 
 /// How many braces are open behind an item.
 fn depth_behind(depth: usize, item: &Item<'_>) -> usize
