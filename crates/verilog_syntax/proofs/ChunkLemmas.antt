@@ -3,9 +3,12 @@ use Rattle.std.proofs.Common.{◌≡◌, ◌==◌, suc, ◌+◌, ◌<◌, Bool, 
 use Rattle.std.proofs.lemmas.Bool.{ne_eqb, eq-eqb}
 use Rattle.token_forms.specs.Tokens.{Token}
 use Rattle.token_forms.specs.Statements.{is_semicolon, begin_with, statements_of}
-use Rattle.verilog_syntax.specs.declared.source.Ended.TheVariants.{Semicolon, EndModule}
+use Rattle.token_forms.specs.declared.source.Ended.TheVariants.{Closed, Stopped}
 use Rattle.verilog_syntax.specs.Reading.{ends_module, body_len}
-use Rattle.verilog_syntax.specs.Chunks.{Chunk, put_before, chunk_of, is_closed, is_closed_behind, statements_behind, behind_module, one_of}
+use Rattle.token_forms.specs.Chunks.{Chunk, put_before, chunk_at}
+use Rattle.token_forms.specs.Chunks as steps
+use Rattle.token_forms.specs.declared.source.Step.TheVariants.{GoesOn, Closes, Stops}
+use Rattle.verilog_syntax.specs.Chunks.{step_at, chunk_of, is_closed, is_closed_behind, statements_behind, behind_module, one_of}
 
 abbrev pub body_of : List Token → List Token
 body_of ts = take (body_len ts) ts
@@ -17,10 +20,10 @@ pub record IsChunkOf (ts : List Token) (chunk : Chunk) : Type 0 where
   pub none : chunk.taken ≡ [] → statements_behind chunk.ended chunk.left ≡ []
   pub behind : drop (body_len ts + 1) ts ≡ behind_module chunk.ended chunk.left
   pub closed : is_closed ts ≡ is_closed_behind chunk.ended chunk.left
-  pub shorter : chunk.ended ≡ Semicolon → length chunk.left < length ts
-  pub some : chunk.ended ≡ Semicolon → chunk.taken ≡ [] → ⊥
+  pub shorter : chunk.ended ≡ Closed → length chunk.left < length ts
+  pub some : chunk.ended ≡ Closed → chunk.taken ≡ [] → ⊥
 
-at_end : (t : Token) (ts : List Token) → ends_module t ≡ true → IsChunkOf (t ∷ ts) (record { ended = EndModule; taken = []; left = ts })
+at_end : (t : Token) (ts : List Token) → ends_module t ≡ true → IsChunkOf (t ∷ ts) (record { ended = Stopped; taken = []; left = ts })
 unfolding statements_of
 at_end t ts e = record {
   statements = rw e refl;
@@ -38,7 +41,7 @@ body_more t ts e = let k : 1 + body_len ts ≡ suc (body_len ts) = omega arith i
 behind_more : (t : Token) (ts : List Token) → ends_module t ≡ false → drop (body_len (t ∷ ts) + 1) (t ∷ ts) ≡ drop (body_len ts + 1) ts
 behind_more t ts e = let k : 1 + body_len ts + 1 ≡ suc (body_len ts + 1) = omega arith in rw (e, k) refl
 
-at_semicolon : (t : Token) (ts : List Token) → ends_module t ≡ false → is_semicolon t ≡ true → IsChunkOf (t ∷ ts) (record { ended = Semicolon; taken = t ∷ []; left = ts })
+at_semicolon : (t : Token) (ts : List Token) → ends_module t ≡ false → is_semicolon t ≡ true → IsChunkOf (t ∷ ts) (record { ended = Closed; taken = t ∷ []; left = ts })
 unfolding statements_of
 at_semicolon t ts e k =
     let all : statements_of (body_of (t ∷ ts)) ≡ (t ∷ []) ∷ statements_of (body_of ts) = ap statements_of (body_more t ts e) ∙ rw k refl in
@@ -67,7 +70,7 @@ more t ts chunk e k is =
     }
 
 by_tests : (t : Token) (ts : List Token) (ends closes : Bool) → ends_module t ≡ ends → is_semicolon t ≡ closes → IsChunkOf ts (chunk_of ts)
-    → IsChunkOf (t ∷ ts) (cond ends (record { ended = EndModule; taken = []; left = ts }) (cond closes (record { ended = Semicolon; taken = t ∷ []; left = ts }) (put_before t (chunk_of ts))))
+    → IsChunkOf (t ∷ ts) (cond ends (record { ended = Stopped; taken = []; left = ts }) (cond closes (record { ended = Closed; taken = t ∷ []; left = ts }) (put_before t (chunk_of ts))))
 by_tests t ts true closes e k is = at_end t ts e
 by_tests t ts false true e k is = at_semicolon t ts e k
 by_tests t ts false false e k is = more t ts (chunk_of ts) e k is
@@ -107,3 +110,17 @@ body_all (t ∷ ts) c = all_by_test t ts (ends_module t) refl (body_all ts) c
 
 pub unclosed_len : (ts : List Token) → is_closed ts ≡ false → (body_len ts == length ts) ≡ true
 unclosed_len ts c = eq-eqb (body_len ts) (length ts) (body_all ts c)
+
+-- so it is taken by the steps
+module _ {S : Type 0} (s : S) where
+  one_step : (ends closes : Bool) (t : Token) (ts : List Token) (more : Chunk)
+      → chunk_at (cond ends Stops (cond closes Closes GoesOn)) t ts more
+      ≡ cond ends (record { ended = Stopped; taken = []; left = ts }) (cond closes (record { ended = Closed; taken = t ∷ []; left = ts }) (put_before t more))
+  one_step true closes t ts more = refl
+  one_step false true t ts more = refl
+  one_step false false t ts more = refl
+
+  pub chunk_same : (ts : List Token) → steps.chunk_of (λ (s : S) text. (step_at text, s)) s ts ≡ chunk_of ts
+  chunk_same [] = refl
+  chunk_same (t ∷ ts) =
+      ap (λ (c : Chunk). chunk_at (step_at t.text) t ts c) (chunk_same ts) ∙ one_step (ends_module t) (is_semicolon t) t ts (chunk_of ts)

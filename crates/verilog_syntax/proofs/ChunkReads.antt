@@ -7,16 +7,16 @@ use Rattle.base_types.specs.declared.fault.ReadFault.{ReadFault}
 use Rattle.base_types.specs.declared.fault.ReadFault.TheVariants as faults
 use Rattle.base_types.specs.declared.kind.Kind.TheVariants.{VerilogSyntax}
 use Rattle.verilog_syntax.specs.declared.reading.Placed.{Placed}
-use Rattle.verilog_syntax.specs.declared.source.Ended.{Ended}
-use Rattle.verilog_syntax.specs.declared.source.Ended.TheVariants.{Semicolon, EndModule, Text}
+use Rattle.token_forms.specs.declared.source.Ended.{Ended}
+use Rattle.token_forms.specs.declared.source.Ended.TheVariants.{Closed, Stopped, Text}
 use Rattle.verilog_syntax.specs.Reading.{Answers, result_and_then, fault_at, line_of_tokens, read_statement, read_header, read_others, read_body, read_end, read_module}
 use Rattle.verilog_syntax.specs.Chunks.{chunk_of, is_closed, IsLast, read_last, read_behind, statements_behind, behind_module, one_of, with_front}
 use Rattle.verilog_syntax.proofs.ChunkLemmas.{IsChunkOf, is_chunk, closed_len, unclosed_len}
 
 -- how many turns a loop over statements may still take, where the last one ended so
 abbrev pub turns_left : Ended → List Token → ℕ
-turns_left Semicolon ts = 1 + length ts
-turns_left EndModule ts = 0
+turns_left Closed ts = 1 + length ts
+turns_left Stopped ts = 0
 turns_left Text ts = 0
 
 -- a statement, and those behind it
@@ -106,25 +106,25 @@ header_first : (text : List ℕ) (p : Placed) (ss : List (List Token)) (behind :
 unfolding read_last
 header_first text p ss behind = header_first-of p (read_others text ss) (read_end text behind)
 
-fewer_turns : (ended : Ended) (ts left : List Token) → (ended ≡ Semicolon → length left < length ts) → turns_left ended left < turns_left Semicolon ts
-fewer_turns Semicolon ts left shorter = let n = shorter refl in omega (arith, n)
-fewer_turns EndModule ts left shorter = omega arith
+fewer_turns : (ended : Ended) (ts left : List Token) → (ended ≡ Closed → length left < length ts) → turns_left ended left < turns_left Closed ts
+fewer_turns Closed ts left shorter = let n = shorter refl in omega (arith, n)
+fewer_turns Stopped ts left shorter = omega arith
 fewer_turns Text ts left shorter = omega arith
 
 -- behind endmodule
-pub close_goes : (text : List ℕ) (front : List Placed) (ts : List Token) (done : Unit {0}) → read_end text ts ≡ Ok done → with_front front (read_behind text EndModule ts) ≡ Ok front
+pub close_goes : (text : List ℕ) (front : List Placed) (ts : List Token) (done : Unit {0}) → read_end text ts ≡ Ok done → with_front front (read_behind text Stopped ts) ≡ Ok front
 unfolding read_others read_last
 close_goes text front ts done end = rw end (ap (λ (l : List Placed). Ok l) (append-nil front))
 
 pub close_stops : (text : List ℕ) (front : List Placed) (ts : List Token) (e : ReadFault) → Answers {X = Unit {0}} (Err e) (read_end text ts)
-    → Answers {X = List Placed} (Err e) (with_front front (read_behind text EndModule ts))
+    → Answers {X = List Placed} (Err e) (with_front front (read_behind text Stopped ts))
 unfolding read_others read_last
 close_stops text front ts (faults.Fault f) end = let k : read_end text ts ≡ Err f = end in rw k refl
 close_stops text front ts faults.NoMemory end = tt
 
-pub last_closed : (ended : Ended) → IsLast ended → (ended ≡ Text → ⊥) → ended ≡ EndModule
-last_closed Semicolon last other = absurd last
-last_closed EndModule last other = refl
+pub last_closed : (ended : Ended) → IsLast ended → (ended ≡ Text → ⊥) → ended ≡ Stopped
+last_closed Closed last other = absurd last
+last_closed Stopped last other = refl
 last_closed Text last other = absurd (other refl)
 
 -- a module that isn't closed
@@ -145,19 +145,19 @@ module _ (text : List ℕ) (ts : List Token) (ended : Ended) (taken left : List 
   pub chunk : IsChunkOf ts (record { ended = ended; taken = taken; left = left })
   chunk = subst (IsChunkOf ts) is (is_chunk ts)
 
-  unrolled : read_behind text Semicolon ts ≡ read_last text (one_of taken ++ statements_behind ended left) (behind_module ended left)
+  unrolled : read_behind text Closed ts ≡ read_last text (one_of taken ++ statements_behind ended left) (behind_module ended left)
   unrolled = rw (chunk.statements, chunk.behind) refl
 
   pub goes_on : (front front2 : List Placed) → with_front front (read_others text (one_of taken)) ≡ Ok front2
-      → with_front front (read_behind text Semicolon ts) ≡ with_front front2 (read_behind text ended left)
+      → with_front front (read_behind text Closed ts) ≡ with_front front2 (read_behind text ended left)
   goes_on front front2 read = ap (with_front front) unrolled ∙ taken_ok text front front2 taken (statements_behind ended left) (behind_module ended left) read
 
   pub stops : (front : List Placed) (e : ReadFault) → Answers {X = List Placed} (Err e) (with_front front (read_others text (one_of taken)))
-      → Answers {X = List Placed} (Err e) (with_front front (read_behind text Semicolon ts))
+      → Answers {X = List Placed} (Err e) (with_front front (read_behind text Closed ts))
   stops front (faults.Fault f) read = ap (with_front front) unrolled ∙ taken_fault text front f taken (statements_behind ended left) (behind_module ended left) read
   stops front faults.NoMemory read = tt
 
-  pub fewer : turns_left ended left < turns_left Semicolon ts
+  pub fewer : turns_left ended left < turns_left Closed ts
   fewer = fewer_turns ended ts left chunk.shorter
 
   module _ (line : ℕ) (line-is : line ≡ line_of_tokens text ts) (closed : is_closed ts ≡ true) where

@@ -3,7 +3,6 @@ pub mod Bodies
 pub mod ByteKinds
 pub mod ChunkLemmas
 pub mod ChunkReads
-pub mod ChunkTakes
 pub mod Closing
 pub mod Digits
 pub mod Forms

@@ -28,7 +28,7 @@ mod words;
 pub use bytes::{is_blank, is_digit, is_word, is_word_start};
 pub use item_list::Items;
 pub use laws::grammar_law;
-pub use lexer::VerilogLexer;
+pub use lexer::{Verilog, verilog_lexer};
 pub use number::is_digit_of;
 pub use pieces::verilog_tokens;
 pub use reading::{Placed, read_statements};

@@ -6,10 +6,11 @@ ghost use Rattle.verilog_syntax.specs.VerilogSplit.{IsTokenSplit};
 ghost use Rattle.verilog_syntax.specs.VerilogTokens.{is_blank, is_digit, is_word_start, is_word, closed_len, line_len, is_directive, number_len, slash_piece, open_piece, tick_piece, escaped_piece, piece_at, verilog_tokens};
 
 use crate::bytes::{is_blank, is_digit, is_word, is_word_start};
+use crate::lexer::Verilog;
 use crate::number::number_len;
 use base_types::{NoMemory, Span};
 use std::alloc::Global;
-use token_forms::Piece;
+use token_forms::{Piece, token_spans};
 
 fn is_directive(word: &[u8]) -> bool
     ensures { result ≡ is_directive word.now }
@@ -135,18 +136,6 @@ pub(crate) fn piece_at(bytes: &[u8]) -> Piece
     }
 }
 
-/// Puts a span behind the last one. The room grows by an eighth at a time: of a large file the spans are what takes
-/// memory.
-fn push_span(spans: &mut Vec<Span>, span: Span) -> Result<(), NoMemory>
-    ensures ok { OnOk result (spans.new.items ≡ spans.old.items ++ span ∷ []) }
-{
-    if spans.len() == spans.capacity() {
-        spans.reserve_exact(64 + spans.len() / 8)?;
-    }
-    spans.push(span)?;
-    Ok(())
-}
-
 /// The tokens of a Verilog text of less than 4 GiB, or want of memory: identifiers, escaped identifiers with the blank
 /// behind them, decimals, constants, and every other byte by itself. Blanks, comments, attributes and the five
 /// directives stand between them (IEEE 1364-2005, section 3). A token takes nine bytes of memory.
@@ -157,20 +146,5 @@ pub fn verilog_tokens(alloc: Global, bytes: &[u8]) -> Result<Vec<Span>, NoMemory
     ensures value { IfOk result (λ spans. spans.items ≡ verilog_tokens bytes.now) }
     ensures within { IfOk result (λ spans. AreSpansOf bytes.now spans.items) }
 {
-    let mut spans = Vec::new(alloc);
-    let mut at = 0;
-    while at < bytes.len() {
-        match piece_at(&bytes[at..]) {
-            Piece::Blank(len) => at += len,
-            Piece::Token(len) => {
-                let span = Span {
-                    start: at as u32,
-                    end: (at + len) as u32,
-                };
-                push_span(&mut spans, span)?;
-                at += len;
-            }
-        }
-    }
-    Ok(spans)
+    token_spans::<Verilog>(alloc, bytes)
 }

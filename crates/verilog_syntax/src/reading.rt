@@ -1,20 +1,20 @@
 ghost use Rattle.std.specs.Prelude.{◌≡◌, ◌<◌, ◌^◌, ◌++◌, Bool, true, if◌then◌else◌, Ok, Option, OnOk, length};
 ghost use Rattle.token_forms.specs.Parsing.{GivesAll};
-ghost use Rattle.token_forms.specs.Tokens.{tokens_of};
+ghost use Rattle.token_forms.specs.Tokens.{tokens_of, tokens_left};
 ghost use Rattle.verilog_syntax.specs.VerilogTokens.{verilog_tokens};
 ghost use Rattle.base_types.specs.declared.fault.ReadFault.TheVariants.{Fault as fault};
 ghost use Rattle.base_types.specs.declared.kind.Kind.TheVariants.{VerilogSyntax};
 ghost use Rattle.verilog_syntax.specs.declared.statement.Statement.{Statement};
-ghost use Rattle.verilog_syntax.specs.Chunks.{tokens_left, is_closed, is_closed_behind, IsLast, one_of, with_front, read_behind};
+ghost use Rattle.verilog_syntax.specs.Chunks.{is_closed, is_closed_behind, IsLast, one_of, with_front, read_behind};
 ghost use Rattle.verilog_syntax.specs.Reading.{Answers, fault_at, line_of_tokens, placed_or, read_statement, read_header, read_others, read_end, read_module, read_statements};
 
-use crate::VerilogLexer;
+use crate::{Verilog, verilog_lexer};
 use crate::parser::{header_of, statement_of};
-use crate::source::{Ended, Source, is_closed};
+use crate::source::take_statement;
 use crate::statement::Statement;
 use base_types::{Fault, FileKind, Kind, ReadFault, Rows, Spot, Stop};
 use std::alloc::Global;
-use token_forms::Tokens;
+use token_forms::{Ended, Source, Tokens};
 
 /// A statement, and the line of its first token, from 1.
 #[derive(Debug, Drop)]
@@ -66,7 +66,7 @@ fn read_header<'a>(
     placed_or(line, header_of(alloc, tokens))
 }
 
-fn line_of_tokens(source: &mut Source<'_>, tokens: &Tokens<'_, '_>) -> u64
+fn line_of_tokens(source: &mut Source<'_, Verilog>, tokens: &Tokens<'_, '_>) -> u64
     ensures value { result ≡ line_of_tokens source.old.source tokens.now }
     ensures same { source.new ≡ source.old }
 {
@@ -79,7 +79,7 @@ fn line_of_tokens(source: &mut Source<'_>, tokens: &Tokens<'_, '_>) -> u64
 /// Puts the statement that these tokens are behind those that are read; where there are no tokens there is none.
 fn read_next<'a>(
     alloc: Global,
-    source: &mut Source<'a>,
+    source: &mut Source<'a, Verilog>,
     tokens: Tokens<'a, '_>,
     mut statements: Rows<Placed<'a>>,
 ) -> Result<Rows<Placed<'a>>, ReadFault>
@@ -96,7 +96,7 @@ fn read_next<'a>(
 
 /// Behind `endmodule` nothing stands.
 #[tactic(auto, unfolding(crate::specs::Reading::read_end))]
-fn read_end(source: &mut Source<'_>) -> Result<(), ReadFault>
+fn read_end(source: &mut Source<'_, Verilog>) -> Result<(), ReadFault>
     ensures value { Answers result (read_end source.old.source (tokens_left source.old)) }
 {
     let Some(token) = source.next() else {
@@ -115,7 +115,7 @@ fn read_end(source: &mut Source<'_>) -> Result<(), ReadFault>
 fn read_close<'a>(
     line: u64,
     ended: Ended,
-    source: &mut Source<'_>,
+    source: &mut Source<'_, Verilog>,
     statements: Rows<Placed<'a>>,
 ) -> Result<Rows<Placed<'a>>, ReadFault>
     requires last { IsLast ended }
@@ -135,7 +135,7 @@ fn read_others<'a>(
     alloc: Global,
     line: u64,
     mut ended: Ended,
-    source: &mut Source<'a>,
+    source: &mut Source<'a, Verilog>,
     mut statements: Rows<Placed<'a>>,
 ) -> Result<Rows<Placed<'a>>, ReadFault>
     ensures value { is_closed_behind ended (tokens_left source.old) ≡ true
@@ -143,8 +143,8 @@ fn read_others<'a>(
     ensures closed { OnOk result (is_closed_behind ended (tokens_left source.old) ≡ true) }
 {
     let mut spans = Vec::new(alloc);
-    while matches!(ended, Ended::Semicolon) {
-        ended = source.statement(&mut spans)?;
+    while matches!(ended, Ended::Closed) {
+        ended = take_statement(source, &mut spans)?;
         let tokens = source.tokens(&spans);
         statements = read_next(alloc, source, tokens, statements)?;
     }
@@ -155,14 +155,14 @@ fn read_others<'a>(
 fn read_module<'a>(
     alloc: Global,
     line: u64,
-    source: &mut Source<'a>,
+    source: &mut Source<'a, Verilog>,
 ) -> Result<Rows<Placed<'a>>, ReadFault>
     requires first { line ≡ line_of_tokens source.old.source (tokens_left source.old) }
     ensures value { is_closed (tokens_left source.old) ≡ true → Answers result (read_module source.old.source (tokens_left source.old)) }
     ensures closed { OnOk result (is_closed (tokens_left source.old) ≡ true) }
 {
     let mut spans = Vec::new(alloc);
-    let ended = source.statement(&mut spans)?;
+    let ended = take_statement(source, &mut spans)?;
     let tokens = source.tokens(&spans);
     if tokens.is_empty() {
         return Err(fault_at(Kind::VerilogSyntax, line));
@@ -178,7 +178,7 @@ fn first_line(text: &[u8]) -> u64
     requires size { length text.now < 2 ^ 32 }
     ensures value { result ≡ line_of_tokens text.now (tokens_of text.now (verilog_tokens text.now)) }
 {
-    let mut source = Source::of(text);
+    let mut source: Source<'_, Verilog> = Source::of(text);
     match source.next() {
         Some(token) => source.line_at(token.span.start),
         None => 1,
@@ -191,7 +191,7 @@ fn fault_of(text: &[u8], line: u64, found: Fault) -> ReadFault
     requires size { length text.now < 2 ^ 32 }
     ensures value { result ≡ fault (if is_closed (tokens_of text.now (verilog_tokens text.now)) then found else fault_at VerilogSyntax line) }
 {
-    if is_closed(VerilogLexer::of(text)) {
+    if verilog_lexer(text).has_word(b"endmodule") {
         ReadFault::Fault(found)
     } else {
         fault_at(Kind::VerilogSyntax, line)

@@ -2,7 +2,7 @@ use Rattle.std.proofs.Common.{sym, ap, ◌∙◌, List, ◌∷◌, [], ◌++◌,
 use Rattle.std.proofs.lemmas.Result.{err_from_is_err_and}
 use Rattle.verilog_syntax.specs.declared.reading.Placed.{Placed}
 use Rattle.verilog_syntax.specs.Reading.{Answers}
-use Rattle.verilog_syntax.specs.Chunks.{tokens_left}
+use Rattle.token_forms.specs.Tokens.{tokens_left}
 use Rattle.verilog_syntax.proofs.ChunkReads.{chunk, empty, header_stops, header_goes}
 use Rattle.verilog_syntax.proofs.reading.read_module.Goals as goal
 

@@ -1,5 +1,6 @@
 use Rattle.std.proofs.Common.{◌≡◌}
-use Rattle.verilog_syntax.specs.Chunks.{tokens_left, is_closed_behind, read_behind, with_front}
+use Rattle.token_forms.specs.Tokens.{tokens_left}
+use Rattle.verilog_syntax.specs.Chunks.{is_closed_behind, read_behind, with_front}
 use Rattle.verilog_syntax.proofs.ChunkReads.{turns_left}
 use Rattle.verilog_syntax.proofs.reading.read_others.Given as goal
 
