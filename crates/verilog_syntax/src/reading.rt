@@ -8,10 +8,10 @@ ghost use Rattle.verilog_syntax.specs.declared.statement.Statement.{Statement};
 ghost use Rattle.verilog_syntax.specs.Chunks.{is_closed, is_closed_behind, IsLast, one_of, with_front, read_behind};
 ghost use Rattle.verilog_syntax.specs.Reading.{Answers, fault_at, line_of_tokens, placed_or, read_statement, read_header, read_others, read_end, read_module, read_statements};
 
-use crate::{Verilog, verilog_lexer};
 use crate::parser::{header_of, statement_of};
 use crate::source::take_statement;
 use crate::statement::Statement;
+use crate::{Verilog, verilog_lexer};
 use base_types::{Fault, FileKind, Kind, ReadFault, Rows, Spot, Stop};
 use std::alloc::Global;
 use token_forms::{Ended, Source, Tokens};

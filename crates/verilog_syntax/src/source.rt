@@ -27,7 +27,10 @@ impl Cut for Statements {
 }
 
 /// Takes the tokens of the next statement, with what ended them; their spans replace those that stood in the `Vec`.
-pub(crate) fn take_statement(source: &mut Source<'_, Verilog>, spans: &mut Vec<Span>) -> Result<Ended, NoMemory>
+pub(crate) fn take_statement(
+    source: &mut Source<'_, Verilog>,
+    spans: &mut Vec<Span>,
+) -> Result<Ended, NoMemory>
     ensures source { source.new.source ≡ source.old.source }
     ensures within { IfOk result (λ ended. AreSpansOf source.old.source spans.new.items) }
     ensures value { IfOk result (λ ended. chunk_of (tokens_left source.old)
