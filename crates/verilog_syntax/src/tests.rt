@@ -1,9 +1,10 @@
 ghost use Rattle.std.specs.Prelude.{◌<◌, ◌^◌, length};
 
-use crate::{Expression, Item, Placed, Range, Statement, TokenText, read_statements};
+use crate::{Expression, Item, Placed, Range, Statement, read_statements};
 use base_types::{Kind, NoMemory, ReadFault, Rows, Span, Spot};
 use std::alloc::Global;
 use std::test::Fail;
+use token_forms::TokenText;
 
 const THREE_FLOPS: &[u8] = b"module top ( clk, se, si, so, d0, d1, d2 );
   input clk, se, si, d0, d1, d2;
