@@ -1,4 +1,4 @@
-use Rattle.std.proofs.Common.{subst, sym, ap}
+use Rattle.std.proofs.Common.{subst, sym}
 use Rattle.token_forms.specs.Tokens.{Tokenized}
 use Rattle.verilog_syntax.specs.VerilogSplit.{IsTokenSplit}
 use Rattle.verilog_syntax.proofs.VerilogSplitLaw.{verilog_split}
