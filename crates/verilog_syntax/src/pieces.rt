@@ -1,4 +1,4 @@
-ghost use Rattle.std.specs.Prelude.{◌≡◌, ◌+◌, ◌<◌, ◌≤◌, ◌^◌, not, ◌==◌, [], ◌∷◌, ◌++◌, length, IfOk, OnOk};
+ghost use Rattle.std.specs.Prelude.{◌≡◌, ◌+◌, ◌<◌, ◌≤◌, ◌^◌, not, length, IfOk};
 ghost use Rattle.std.specs.List.{prefix_len};
 ghost use Rattle.token_forms.specs.Pieces.{piece_len};
 ghost use Rattle.token_forms.specs.Tokens.{AreSpansOf};

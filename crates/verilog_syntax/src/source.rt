@@ -1,8 +1,6 @@
 //! A Verilog text as its statements are taken from it, one after the other.
-ghost use Rattle.std.specs.Prelude.{◌≡◌, ◌∷◌, [], codes, if◌then◌else◌, IfOk};
-ghost use Rattle.std.specs.Str.{bytes_eq};
+ghost use Rattle.std.specs.Prelude.{◌≡◌, IfOk};
 ghost use Rattle.token_forms.specs.Tokens.{tokens_of, tokens_left, AreSpansOf};
-ghost use Rattle.token_forms.specs.declared.source.Step.TheVariants.{GoesOn, Closes, Stops};
 ghost use Rattle.verilog_syntax.specs.Chunks.{chunk_of, step_at};
 
 use crate::Verilog;
