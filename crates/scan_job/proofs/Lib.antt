@@ -1,3 +1,5 @@
-pub mod TopClauses
+pub mod Asked
+pub mod Sizes
 pub mod Phases
-pub mod Fits
+pub mod TopClauses
+pub mod OneFault
