@@ -11,8 +11,8 @@ use Rattle.std.specs.String.{string_cmp}
 use Rattle.base_types.specs.declared.fault.Fault.{Fault}
 use Rattle.toml.specs.View.{view, members_view}
 use Rattle.toml.specs.declared.value.Value.{Value}
-use Rattle.cell_table.specs.declared.stop.Stop.{Stop}
-use Rattle.cell_table.specs.declared.stop.Stop.TheVariants as stops
+use Rattle.base_types.specs.declared.stop.Stop.{Stop}
+use Rattle.base_types.specs.declared.stop.Stop.TheVariants as stops
 use Rattle.cell_table.specs.Cells.{Gives, Cells, cell_of, cells_of, with_cell, shape_fault}
 use Rattle.cell_table.specs.declared.paths.ScanPath.{ScanPath}
 use Rattle.cell_table.proofs.Loops.{Entry}

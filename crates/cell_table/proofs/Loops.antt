@@ -6,8 +6,8 @@ use Rattle.toml.specs.View.{view, items_view, members_view}
 use Rattle.toml.specs.declared.value.Value.{Value}
 use Rattle.toml.proofs.Views.{items_view-drop}
 use Rattle.cell_table.specs.Cells.{◌>>=◌, each_item, each_member, Gives}
-use Rattle.cell_table.specs.declared.stop.Stop.{Stop}
-use Rattle.cell_table.specs.declared.stop.Stop.TheVariants as stops
+use Rattle.base_types.specs.declared.stop.Stop.{Stop}
+use Rattle.base_types.specs.declared.stop.Stop.TheVariants as stops
 
 abbrev pub with_front : {X : Type 0} → List X → Option (List X) → Option (List X)
 with_front front read = read >>= λ xs. Some (front ++ xs)

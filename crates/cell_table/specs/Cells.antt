@@ -6,15 +6,15 @@ use Rattle.std.specs.Str.{bytes_eq, is_utf8}
 use Rattle.base_types.specs.declared.fault.Fault.{Fault}
 use Rattle.base_types.specs.declared.fault.FileKind.TheVariants.{Table as in_table}
 use Rattle.base_types.specs.declared.kind.Kind.TheVariants.{TableSyntax, TableShape}
-use Rattle.base_types.specs.declared.fault.Spot.TheVariants.{Cell as at_cell, Nowhere}
-use Rattle.base_types.specs.declared.fault.ReadFault.{ReadFault}
-use Rattle.base_types.specs.declared.fault.ReadFault.TheVariants as faults
+use Rattle.base_types.specs.declared.fault.Spot.TheVariants.{Nowhere}
+use Rattle.base_types.specs.Faults.{of_cell}
+use Rattle.base_types.specs.Names.{plain_name}
 use Rattle.toml.specs.Data.{Data, Items, no_items, item, Members, no_members, member, get, as_str, as_integer, as_array, as_table, get_member}
 use Rattle.toml.specs.Parse.{parse_document}
 use Rattle.cell_table.specs.declared.paths.OutPin.{OutPin}
 use Rattle.cell_table.specs.declared.paths.ScanPath.{ScanPath}
-use Rattle.cell_table.specs.declared.stop.Stop.{Stop}
-use Rattle.cell_table.specs.declared.stop.Stop.TheVariants as stops
+use Rattle.base_types.specs.declared.stop.Stop.{Stop}
+use Rattle.base_types.specs.declared.stop.Stop.TheVariants as stops
 
 infixl 10 ◌>>=◌
 abbrev pub ◌>>=◌ : {A B : Type 0} → Option A → (A → Option B) → Option B
@@ -30,11 +30,6 @@ abbrev pub Gives : {X : Type 0} → Result X Stop → Option X → Type 0
 Gives (Ok x) read = read ≡ Some x
 Gives (Err stops.NoForm) read = read ≡ None
 Gives (Err stops.NoMemory) read = Unit {0}
-
-abbrev pub Answers : {X : Type 0} → Result X ReadFault → Result X Fault → Type 0
-Answers (Ok x) read = read ≡ Ok x
-Answers (Err (faults.Fault f)) read = read ≡ Err f
-Answers (Err faults.NoMemory) read = Unit {0}
 
 abbrev pub items_len : Items → ℕ
 items_len no_items = 0
@@ -145,8 +140,9 @@ cell_of d = do
 abbrev pub Cells : Type 0
 Cells = List (List ℕ × List ScanPath)
 
+-- said by the cell's plain name
 abbrev pub shape_fault : List ℕ → Fault
-shape_fault cell = record { kind = TableShape; file = in_table; spot = at_cell cell }
+shape_fault cell = of_cell TableShape (plain_name cell)
 
 abbrev pub with_cell : List ℕ → Option (List ScanPath) → Result Cells Fault → Result Cells Fault
 with_cell name None others = Err (shape_fault name)

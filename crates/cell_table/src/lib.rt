@@ -6,14 +6,15 @@
 #![tactic(auto)]
 
 mod cells;
+mod laws;
 mod paths;
 mod pins;
 mod small;
-mod stop;
 mod table;
 mod values;
 
 pub use cells::read_table;
+pub use laws::table_law;
 pub use paths::{OutPin, ScanPath};
 pub use small::small_table;
 pub use table::CellTable;

@@ -3,10 +3,9 @@ ghost use Rattle.toml.specs.View.{view, items_view, array_view, table_view};
 ghost use Rattle.cell_table.specs.Cells.{Gives, are_sized, bits_of, out_of, outs_of, path_of, paths_of, cell_of};
 
 use crate::pins::has_pin_twice;
-use crate::stop::Stop;
 use crate::values::{array_at, bit_of, has_keys, is_empty, table_at, text_at};
+use base_types::{Name, Rows, Stop};
 use std::alloc::Global;
-use base_types::{Name, Rows};
 use toml::value::Array;
 use toml::{Table, Value};
 

@@ -2,9 +2,9 @@ ghost use Rattle.std.specs.Prelude.{◌≡◌, IfOk, map};
 ghost use Rattle.cell_table.specs.Cells.{pins_of, has_twice, has_pin_twice};
 
 use crate::paths::ScanPath;
+use base_types::NoMemory;
 use std::alloc::Global;
 use std::collections::HashSet;
-use base_types::NoMemory;
 
 /// All the pins of some paths, each in pin before its out pins.
 fn pins_of<'a>(alloc: Global, paths: &'a [ScanPath]) -> Result<Vec<&'a [u8]>, NoMemory>

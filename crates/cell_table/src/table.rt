@@ -2,10 +2,10 @@ ghost use Rattle.std.specs.Prelude.{◌≡◌, [], ◌∷◌, IfOk, option_map};
 ghost use Rattle.cell_table.specs.Table.{paths_at, one_path};
 
 use crate::paths::{OutPin, ScanPath};
+use base_types::{Name, NoMemory, Rows};
 use indexmap::IndexMap;
 use std::alloc::Global;
 use std::marker::Model;
-use base_types::{Name, NoMemory, Rows};
 
 /// The cells of a table, in the order of their names, with their scan paths.
 #[derive(Drop)]

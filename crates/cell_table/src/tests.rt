@@ -1,7 +1,7 @@
 use crate::{CellTable, read_table, small_table};
+use base_types::{Kind, Name, ReadFault, Spot};
 use std::alloc::Global;
 use std::test::Fail;
-use base_types::{Kind, Name, ReadFault, Spot};
 
 fn count(table: &CellTable, alloc: Global, cell: &str) -> Result<Option<usize>, Fail> {
     let name = Name::copy(alloc, cell.as_bytes()).map_err(|_| "memory")?;
@@ -38,6 +38,12 @@ fn names_the_least_cell(rt: HostRuntime) -> Result<(), Fail> {
         "[[cell.B.path]]\nin = \"A\"\nbits = [2]\nout = { Z = 0 }\n[[cell.A.path]]\nin = \"A\"\nbits = []\nout = { A = 0 }\n";
     let name = shape(alloc, text)?.ok_or("no shape fault")?;
     assert!(rt; name.bytes() == b"A".as_slice());
+    let escaped = shape(
+        alloc,
+        "[[cell.'S\\D'.path]]\nin = \"A\"\nbits = [2]\nout = { Q = 0 }\n",
+    )?
+    .ok_or("no shape fault")?;
+    assert!(rt; escaped.bytes() == b"SD".as_slice());
     let top = shape(alloc, "cell = 3\n")?.ok_or("no fault at the top")?;
     assert!(rt; top.bytes().is_empty());
     Ok(())

@@ -3,7 +3,7 @@ ghost use Rattle.toml.specs.Data.{get_member};
 ghost use Rattle.toml.specs.View.{view, array_view, table_view};
 ghost use Rattle.cell_table.specs.Cells.{Gives, text_at, array_at, table_at, has_keys, members_len, bit_of};
 
-use crate::stop::Stop;
+use base_types::Stop;
 use toml::value::Array;
 use toml::{Table, Value};
 

@@ -8,11 +8,11 @@ ghost use Rattle.chain_rewire.specs.Faults.{IsRewireFault};
 
 use crate::faults::words_fault;
 use crate::rewire::Rewire;
+use base_types::{Kind, ReadFault};
 use cell_table::CellTable;
 use chain_trace::{Path, input_named, output_named, plain_of, trace};
 use netlist_core::{Netlist, classes_of};
 use std::alloc::Global;
-use base_types::{Kind, ReadFault};
 
 /// The scan path from the scan-in to the scan-out of a netlist.
 pub(crate) fn path_between(

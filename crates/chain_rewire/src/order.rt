@@ -13,12 +13,12 @@ ghost use Rattle.chain_rewire.specs.Faults.{AreInstances, last_name, IsRewireFau
 use crate::faults::words_fault;
 use crate::names::Names;
 use crate::rewire::Rewire;
+use base_types::{Kind, Name, NoMemory, ReadFault, Rows};
 use chain_trace::{Path, Step};
 use net_edit::is_free;
 use netlist_core::Netlist;
 use std::alloc::Global;
 use std::collections::HashMap;
-use base_types::{Kind, Name, NoMemory, ReadFault, Rows};
 
 /// The name of a step's instance.
 fn instance_name<'a>(netlist: &'a Netlist, step: Step) -> &'a [u8]

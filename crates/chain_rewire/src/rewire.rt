@@ -7,11 +7,11 @@ ghost use Rattle.chain_rewire.specs.Faults.{IsRewireFault};
 
 use crate::between::path_between;
 use crate::order::ordered_path;
+use base_types::{Name, ReadFault, Rows, Text};
 use cell_table::CellTable;
 use chain_trace::{names_law, path_law};
 use net_edit::edits_for;
 use std::alloc::Global;
-use base_types::{Name, ReadFault, Rows, Text};
 use verilog_reader::{netlist_law, read_netlist};
 use verilog_writer::verilog_text;
 

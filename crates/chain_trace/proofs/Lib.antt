@@ -9,3 +9,6 @@ pub mod Named
 pub mod NamedNets
 pub mod NamedSides
 pub mod NamedPaths
+pub mod OneFault
+pub mod Sums
+pub mod FirstFaults

@@ -13,10 +13,11 @@ use Rattle.chain_trace.specs.declared.path.Source.TheVariants as sources
 use Rattle.chain_trace.specs.declared.path.Sink.{Sink}
 use Rattle.chain_trace.specs.declared.path.Sink.TheVariants as sinks
 use Rattle.chain_trace.specs.Paths.{IsOnlySource, AreOfOnePath, StandOnce, IsScanPath}
-use Rattle.chain_trace.specs.Faults.{Meets, IsMet, HasNoSource, HasTwoSources, IsAmong, IsTraceFault, IfFault}
+use Rattle.chain_trace.specs.Faults.{Meets, IsMet, HasNoSource, HasTwoSources, IsAmong, IsTraceFault}
+use Rattle.base_types.specs.FirstFault.{IfFault}
 use Rattle.chain_trace.specs.Drivers.{Says}
-use Rattle.chain_trace.specs.declared.drivers.Found.{Found}
-use Rattle.chain_trace.specs.declared.drivers.Found.TheVariants.{Only}
+use Rattle.chain_trace.specs.declared.tally.Found.{Found}
+use Rattle.chain_trace.specs.declared.tally.Found.TheVariants.{Only}
 use Rattle.base_types.specs.declared.fault.Fault.{Fault}
 use Rattle.base_types.specs.declared.fault.ReadFault.{ReadFault}
 use Rattle.base_types.specs.declared.fault.ReadFault.TheVariants as faults
@@ -132,7 +133,7 @@ no_path_two n cells output steps sink m two q p =
     let g = path_goes n cells output steps sink q m p in
     two_backs n cells sink g.rest q.input two g.backs
 
-again_twice : (steps rest : List Step) (step : Step) → IsAmong steps step → StandOnce (steps ++ step ∷ rest) → ⊥
+pub again_twice : (steps rest : List Step) (step : Step) → IsAmong steps step → StandOnce (steps ++ step ∷ rest) → ⊥
 again_twice steps rest step again once =
     let k = again.0 in
     let front : get_or (steps ++ step ∷ rest) k step ≡ get_or steps k step = get_or_append_left steps (step ∷ rest) step k again.1 in

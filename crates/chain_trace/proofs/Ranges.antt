@@ -195,19 +195,6 @@ instance_within n cells step sink only =
     let o = out_of n cells step only.feeds.from only.feeds.from_is in
     slice_get_within n.instances step.instance o.placed o.placed_is
 
--- which instance stands at a place
-pub placed_same : (n : Netlist) (items : List Instance) (i j : ℕ) (placed here : Instance) → items ≡ n.instances → j ≡ i → here ≡ get_or items i here
-    → slice_get n.instances j ≡ Some placed → here ≡ placed
-placed_same n items i j placed here e same is at =
-    is ∙ ap (λ (xs : List Instance). get_or xs i here) e ∙ ap (λ (k : ℕ). get_or n.instances k here) (sym same) ∙ get_or_from_slice_get n.instances j placed here at
-
--- no out pin stands on an instance without an entry
-pub no_entry : (n : Netlist) (cells : Cells) (i p : ℕ) → scan_path_at n cells i p ≡ None
-    → (s : Step) (net : NetId) → source_net n cells (sources.Out s) ≡ Some net → s.instance ≡ i → s.path ≡ p → s.out < 0
-no_entry n cells i p none s net e ei ep =
-    let o = out_of n cells s net e in
-    absurd (none-some o.path (sym none ∙ sym (ap (λ (x : ℕ). scan_path_at n cells x s.path) ei ∙ ap (λ (y : ℕ). scan_path_at n cells i y) ep) ∙ o.entry_is))
-
 -- an out pin is one of its entry
 pub outs_within : (n : Netlist) (cells : Cells) (i p len : ℕ) (entry : ScanPath) → scan_path_at n cells i p ≡ Some entry → length entry.outs ≤ len
     → (s : Step) (net : NetId) → source_net n cells (sources.Out s) ≡ Some net → s.instance ≡ i → s.path ≡ p → s.out < len
@@ -218,19 +205,11 @@ outs_within n cells i p len entry is le s net e ei ep =
     let lt = slice_get_within o.path.outs s.out o.out o.out_is in
     omega (arith, lt, ap (λ (x : ScanPath). length x.outs) same)
 
--- no path stands on an instance whose cell has no entry
-pub no_paths : (n : Netlist) (cells : Cells) (items : List Instance) (i : ℕ) (here : Instance) → items ≡ n.instances → here ≡ get_or items i here → paths_at here.cell cells ≡ None
-    → (s : Step) (net : NetId) → source_net n cells (sources.Out s) ≡ Some net → s.instance ≡ i → s.path < 0
-no_paths n cells items i here e is none s net es ei =
+-- a path that has an out pin is one of the instance's
+pub paths_within : (n : Netlist) (cells : Cells) (i len : ℕ) (paths : List ScanPath) → ((path : ℕ) → slice_get paths path ≡ scan_path_at n cells i path) → length paths ≤ len
+    → (s : Step) (net : NetId) → source_net n cells (sources.Out s) ≡ Some net → s.instance ≡ i → s.path < len
+paths_within n cells i len paths at le s net es ei =
     let o = out_of n cells s net es in
-    let same : here ≡ o.placed = placed_same n items i s.instance o.placed here e ei is o.placed_is in
-    absurd (none-some o.paths (sym none ∙ ap (λ (x : Instance). paths_at x.cell cells) same ∙ o.paths_is))
-
-pub paths_within : (n : Netlist) (cells : Cells) (items : List Instance) (i len : ℕ) (here : Instance) (paths : List ScanPath) → items ≡ n.instances → here ≡ get_or items i here
-    → paths_at here.cell cells ≡ Some paths → length paths ≤ len → (s : Step) (net : NetId) → source_net n cells (sources.Out s) ≡ Some net → s.instance ≡ i → s.path < len
-paths_within n cells items i len here paths e is at le s net es ei =
-    let o = out_of n cells s net es in
-    let same : here ≡ o.placed = placed_same n items i s.instance o.placed here e ei is o.placed_is in
-    let paths_same : o.paths ≡ paths = same_Some o.paths paths (sym o.paths_is ∙ sym (ap (λ (x : Instance). paths_at x.cell cells) same) ∙ at) in
-    let lt = slice_get_within o.paths s.path o.path o.path_is in
-    omega (arith, lt, ap (λ (x : List ScanPath). length x) paths_same)
+    let here : slice_get paths s.path ≡ Some o.path = at s.path ∙ ap (λ (x : ℕ). scan_path_at n cells x s.path) (sym ei) ∙ o.entry_is in
+    let lt = slice_get_within paths s.path o.path here in
+    omega arith

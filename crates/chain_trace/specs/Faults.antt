@@ -1,13 +1,11 @@
 -- Where no path meets a scan output: the first fault that is met going backward from it.
-use Rattle.std.specs.Prelude.{◌≡◌, ◌≢◌, ◌<◌, ◌⊎◌, ℕ, ◌==◌, List, [], ◌∷◌, length, slice_index_or, Option, Some, None, Result, Ok, Err}
+use Rattle.std.specs.Prelude.{◌≡◌, ◌≢◌, ◌<◌, ◌⊎◌, ℕ, ◌==◌, List, [], ◌∷◌, length, slice_index_or, Option, Some, None}
 use Rattle.std.specs.List.{slice_get, find}
 use Rattle.base_types.specs.declared.fault.Fault.{Fault}
 use Rattle.base_types.specs.declared.fault.FileKind.TheVariants.{Verilog}
-use Rattle.base_types.specs.declared.fault.Spot.TheVariants.{Line}
-use Rattle.base_types.specs.declared.fault.ReadFault.{ReadFault}
-use Rattle.base_types.specs.declared.fault.ReadFault.TheVariants as faults
-use Rattle.base_types.specs.declared.kind.Kind.{Kind}
 use Rattle.base_types.specs.declared.kind.Kind.TheVariants as kinds
+pub use Rattle.base_types.specs.FirstFault.{IfFault}
+use Rattle.base_types.specs.Faults.{at_line}
 use Rattle.netlist_core.specs.declared.netlist.NetId.{NetId}
 use Rattle.netlist_core.specs.declared.netlist.Port.{Port}
 use Rattle.netlist_core.specs.declared.netlist.Instance.{Instance}
@@ -31,9 +29,11 @@ pub record IsMet (n : Netlist) (cells : Cells) (output : NetId) (steps : List St
   pub meets : Meets n cells (sinks.Port output) steps sink
   pub once : StandOnce steps
 
+-- nothing feeds the sink
 abbrev pub HasNoSource : Netlist → Cells → Sink → Type 0
 HasNoSource n cells sink = (source : Source) → Feeds n cells source sink → ⊥
 
+-- two different sources feed the sink
 pub record HasTwoSources (n : Netlist) (cells : Cells) (sink : Sink) : Type 0 where
   pub one : Source
   pub other : Source
@@ -58,24 +58,23 @@ abbrev pub sink_line : Netlist → Sink → ℕ
 sink_line n (sinks.Port net) = line_of_port (find (λ port. port.net.0 == net.0) n.ports)
 sink_line n (sinks.In instance path) = line_of_instance (slice_get n.instances instance)
 
-abbrev pub fault_at : Kind → ℕ → Fault
-fault_at kind line = record { kind = kind; file = Verilog; spot = Line line }
-
+-- a sink that is met has no source: NoDriver, at its line
 pub record IsNoDriver (n : Netlist) (cells : Cells) (output : NetId) (fault : Fault) : Type 0 where
   pub steps : List Step
   pub sink : Sink
   pub met : IsMet n cells output steps sink
   pub none : HasNoSource n cells sink
-  pub is : fault ≡ fault_at kinds.NoDriver (sink_line n sink)
+  pub is : fault ≡ at_line kinds.NoDriver Verilog (sink_line n sink)
 
+-- a sink that is met has several sources: TwoDrivers, at its line
 pub record IsTwoDrivers (n : Netlist) (cells : Cells) (output : NetId) (fault : Fault) : Type 0 where
   pub steps : List Step
   pub sink : Sink
   pub met : IsMet n cells output steps sink
   pub two : HasTwoSources n cells sink
-  pub is : fault ≡ fault_at kinds.TwoDrivers (sink_line n sink)
+  pub is : fault ≡ at_line kinds.TwoDrivers Verilog (sink_line n sink)
 
--- the only source of a sink that is met is an out pin of a scan path that was met before
+-- the only source of a sink that is met is an out pin of a scan path that was met before: Loop, at the line of its instance
 pub record IsLoop (n : Netlist) (cells : Cells) (output : NetId) (fault : Fault) : Type 0 where
   pub steps : List Step
   pub sink : Sink
@@ -83,13 +82,8 @@ pub record IsLoop (n : Netlist) (cells : Cells) (output : NetId) (fault : Fault)
   pub step : Step
   pub only : IsOnlySource n cells (sources.Out step) sink
   pub again : IsAmong steps step
-  pub is : fault ≡ fault_at kinds.Loop (line_of_instance (slice_get n.instances step.instance))
+  pub is : fault ≡ at_line kinds.Loop Verilog (line_of_instance (slice_get n.instances step.instance))
 
+-- the fault that is met going backward from the output
 abbrev pub IsTraceFault : Netlist → Cells → NetId → Fault → Type 0
 IsTraceFault n cells output fault = IsNoDriver n cells output fault ⊎ (IsTwoDrivers n cells output fault ⊎ IsLoop n cells output fault)
-
--- the result is a refusal for another cause than want of memory, and this holds of its fault
-abbrev pub IfFault : {X : Type 0} → Result X ReadFault → (Fault → Type 0) → Type 0
-IfFault (Ok x) P = Unit {0}
-IfFault (Err (faults.Fault fault)) P = P fault
-IfFault (Err faults.NoMemory) P = Unit {0}

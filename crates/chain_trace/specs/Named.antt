@@ -6,7 +6,14 @@ use Rattle.netlist_core.specs.declared.netlist.Netlist.{Netlist}
 use Rattle.netlist_core.specs.Netlists.{named, plain_of, IsNetlist}
 use Rattle.cell_table.specs.Cells.{Cells}
 use Rattle.chain_trace.specs.declared.path.Path.{Path}
-use Rattle.chain_trace.specs.Paths.{has_port, IsScanPath}
+use Rattle.chain_trace.specs.declared.ports.End.{End}
+use Rattle.chain_trace.specs.declared.ports.End.TheVariants.{Input, Output}
+use Rattle.chain_trace.specs.Paths.{drives, is_driven, has_port, IsScanPath}
+
+-- a port of this direction can be such an end of a path
+abbrev pub can_be : End → Direction → Bool
+can_be Input = drives
+can_be Output = is_driven
 
 -- the bit of a port of such a direction that has this plain name
 pub record IsPortNamed (test : Direction → Bool) (n : Netlist) (name : List ℕ) (net : NetId) : Type 0 where

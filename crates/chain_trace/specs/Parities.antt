@@ -43,6 +43,23 @@ abbrev pub plus : Bool → Bool → Bool
 plus false b = b
 plus true b = not b
 
+abbrev pub odd : List Bool → Bool
+odd [] = false
+odd (b ∷ bs) = plus b (odd bs)
+
+-- the inversions on the way over a step: those before its bits, and that of its out pin
+abbrev pub entry_inversions : Option ScanPath → Option OutPin → List Bool
+entry_inversions None out = []
+entry_inversions (Some path) None = []
+entry_inversions (Some path) (Some out) = path.bits ++ out.inverted ∷ []
+
+abbrev pub step_inversions : Netlist → Cells → Step → List Bool
+step_inversions n cells step = entry_inversions (scan_path_at n cells step.instance step.path) (out_pin_at n cells step)
+
+-- whether the output shows the inverse of what the input gave
+abbrev pub path_parity : Netlist → Cells → List Step → Bool
+path_parity n cells steps = odd (flat_map (step_inversions n cells) steps)
+
 -- for each bit the sum modulo 2 of the inversions since the bit before it, where so much stands before the first mark
 abbrev pub parities : Bool → List Mark → List Bool
 parities odd [] = []
@@ -55,10 +72,15 @@ last_parity odd [] = odd
 last_parity odd (Turn inverted ∷ ms) = last_parity (plus odd inverted) ms
 last_parity odd (Bit bit ∷ ms) = last_parity false ms
 
+-- a path's bits with their parities, and the parity behind the last one
 pub record AreBitsOf (n : Netlist) (cells : Cells) (steps : List Step) (result : PathBits) : Type 0 where
   pub bits : result.bits ≡ bits_in (path_marks n cells steps)
   pub parity : result.parity ≡ parities false (path_marks n cells steps)
   pub out_parity : result.out_parity ≡ last_parity false (path_marks n cells steps)
+
+-- the parity of a path is the sum of its bits' parities and of that behind the last bit
+abbrev pub ParityLaw : Type 0
+ParityLaw = (n : Netlist) (cells : Cells) (steps : List Step) (all : PathBits) → AreBitsOf n cells steps all → path_parity n cells steps ≡ plus (odd all.parity) all.out_parity
 
 -- the step names an entry of the table
 abbrev pub NamesEntry : Netlist → Cells → Step → Type 0

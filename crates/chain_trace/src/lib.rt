@@ -12,14 +12,16 @@ mod laws;
 mod lines;
 mod path;
 mod ports;
+mod tally;
+mod tracer;
 mod tracing;
-mod walking;
 
 pub use bits::bits_of;
 pub use entry::{out_pin, scan_path, source_net};
-pub use laws::{names_law, path_law};
+pub use laws::{names_law, parity_law, path_law};
 pub use path::{BitId, Path, PathBits, Sink, Source, Step};
 pub use ports::{input_named, output_named, plain_of};
+pub use tracer::Tracer;
 pub use tracing::trace;
 
 #[cfg(test)]

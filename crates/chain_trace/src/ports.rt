@@ -3,7 +3,7 @@ ghost use Rattle.std.specs.Prelude.{◌≡◌, MatchOption};
 ghost use Rattle.netlist_core.specs.declared.netlist.NetId.{NetId};
 ghost use Rattle.netlist_core.specs.Netlists.{plain_of};
 ghost use Rattle.chain_trace.specs.Paths.{is_driven, drives, has_port};
-ghost use Rattle.chain_trace.specs.Named.{IsPortNamed};
+ghost use Rattle.chain_trace.specs.Named.{can_be, IsPortNamed};
 
 use netlist_core::{Direction, NetId, NetName, Netlist};
 
@@ -43,28 +43,45 @@ pub(crate) fn is_source_port(netlist: &Netlist, net: NetId) -> bool
     false
 }
 
-/// The bit of an output or inout port that has this plain name.
-pub fn output_named(netlist: &Netlist, name: &[u8]) -> Option<NetId>
-    ensures value { MatchOption result ((net : NetId) → IsPortNamed is_driven netlist.now name.now net → ⊥) (IsPortNamed is_driven netlist.now name.now) }
+// Which end of a path a port is asked for.
+#[derive(Clone, Copy)]
+pub(crate) enum End {
+    Input,
+    Output,
+}
+
+// Whether a port of this direction can be such an end.
+fn can_be(end: End, direction: Direction) -> bool
+    ensures value { result ≡ can_be end direction }
+{
+    match end {
+        End::Input => drives(direction),
+        End::Output => is_driven(direction),
+    }
+}
+
+fn port_named(netlist: &Netlist, end: End, name: &[u8]) -> Option<NetId>
+    ensures value { MatchOption result ((net : NetId) → IsPortNamed (can_be end) netlist.now name.now net → ⊥) (IsPortNamed (can_be end) netlist.now name.now) }
 {
     let nets = netlist.nets.as_slice();
     for port in netlist.ports.as_slice() {
-        if is_driven(port.direction) && plain_of(nets, port.net) == name {
+        if can_be(end, port.direction) && plain_of(nets, port.net) == name {
             return Some(port.net);
         }
     }
     None
 }
 
+/// The bit of an output or inout port that has this plain name.
+pub fn output_named(netlist: &Netlist, name: &[u8]) -> Option<NetId>
+    ensures value { MatchOption result ((net : NetId) → IsPortNamed is_driven netlist.now name.now net → ⊥) (IsPortNamed is_driven netlist.now name.now) }
+{
+    port_named(netlist, End::Output, name)
+}
+
 /// The bit of an input or inout port that has this plain name.
 pub fn input_named(netlist: &Netlist, name: &[u8]) -> Option<NetId>
     ensures value { MatchOption result ((net : NetId) → IsPortNamed drives netlist.now name.now net → ⊥) (IsPortNamed drives netlist.now name.now) }
 {
-    let nets = netlist.nets.as_slice();
-    for port in netlist.ports.as_slice() {
-        if drives(port.direction) && plain_of(nets, port.net) == name {
-            return Some(port.net);
-        }
-    }
-    None
+    port_named(netlist, End::Input, name)
 }

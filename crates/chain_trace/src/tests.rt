@@ -5,7 +5,7 @@ ghost use Rattle.netlist_core.specs.Joining.{AreClassesOf};
 ghost use Rattle.chain_trace.specs.Paths.{is_driven, has_port};
 
 use crate::ports::is_driven;
-use crate::{BitId, Step, bits_of, input_named, output_named, plain_of, trace};
+use crate::{BitId, Path, Step, Tracer, bits_of, input_named, output_named, plain_of, trace};
 use base_types::{Kind, Name, NoMemory, ReadFault, Rows, Span, Spot};
 use cell_table::{CellTable, read_table, small_table};
 use netlist_core::{
@@ -442,4 +442,62 @@ fn traces_many_flops(rt: HostRuntime) -> Result<(), Fail> {
     check_path(&rt, &chain, &table, SO, expected)?;
     let ring = many_flops(alloc, true)?;
     check_fault(&rt, &ring, &table, SO, Kind::Loop, 2 + u64::from(FLOPS))
+}
+
+fn check_traced(
+    rt: &impl Abort,
+    traced: Result<Path, ReadFault>,
+    flops: usize,
+    fault: Option<(Kind, u64)>,
+) -> Result<(), Fail> {
+    match traced {
+        Ok(path) => {
+            assert!(rt; fault.is_none());
+            assert_eq!(rt; path.steps.as_slice().len(), flops);
+            Ok(())
+        }
+        Err(ReadFault::Fault(met)) => match (fault, met.spot) {
+            (Some((kind, line)), Spot::Line(at)) => {
+                assert_eq!(rt; met.kind, kind);
+                assert_eq!(rt; at, line);
+                Ok(())
+            }
+            (_, _) => Err("another fault")?,
+        },
+        Err(ReadFault::NoMemory) => Err("memory")?,
+    }
+}
+
+// Of an inout port that stands among its own sources, of an output between flops, of one behind a flop that feeds itself,
+// of an inout port that nothing else drives, and of the first again.
+#[test]
+fn traces_all_outputs_by_one_tracer(rt: HostRuntime) -> Result<(), Fail> {
+    let alloc = rt.alloc();
+    let table = read_table(alloc, small_table().as_bytes())?;
+    let ports = [
+        (SI, Direction::Input, 2),
+        (D, Direction::Inout, 3),
+        (SO, Direction::Inout, 4),
+        (QB, Direction::Output, 5),
+        (QZ, Direction::Output, 6),
+    ];
+    let mut netlist = netlist_of(alloc, &ports, &[(SO, QC)])?;
+    for (line, input, out) in [(8, SI, QA), (9, QA, QB), (10, QB, QC), (11, QZ, QZ)] {
+        let pins = [("D", D), ("SI", input), ("Q", out)];
+        put_instance(&mut netlist, alloc, "SDF", line, &pins)?;
+    }
+    let classes = classes_for(&rt, &netlist, NetId(SO))?;
+    let tracer = Tracer::of(alloc, &netlist, &classes, &table)?;
+    for (output, flops, fault) in [
+        (SO, 3, None),
+        (QB, 2, None),
+        (QZ, 0, Some((Kind::Loop, 11))),
+        (D, 0, Some((Kind::NoDriver, 3))),
+        (SO, 3, None),
+    ] {
+        assert!(rt; is_output(&netlist, NetId(output)));
+        let traced = tracer.trace(alloc, NetId(output));
+        check_traced(&rt, traced, flops, fault)?;
+    }
+    Ok(())
 }

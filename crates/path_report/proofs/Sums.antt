@@ -8,18 +8,8 @@ use Rattle.cell_table.specs.Cells.{Cells, ◌>>=◌}
 use Rattle.chain_trace.specs.declared.path.Step.{Step}
 use Rattle.chain_trace.specs.Paths.{scan_path_at, out_pin_at}
 use Rattle.std.proofs.lemmas.List.{drop_more}
-use Rattle.chain_trace.specs.Parities.{plus}
-use Rattle.path_report.specs.Reports.{odd, entry_inversions}
-
-pub plus_none : (a : Bool) → plus a false ≡ a
-plus_none true = refl
-plus_none false = refl
-
-pub plus_more : (a b c : Bool) → plus (plus a b) c ≡ plus a (plus b c)
-plus_more true true true = refl
-plus_more true true false = refl
-plus_more true false c = refl
-plus_more false b c = refl
+use Rattle.chain_trace.proofs.Sums.{plus_none, plus_more}
+use Rattle.chain_trace.specs.Parities.{plus, odd, entry_inversions}
 
 pub odd_append : (xs ys : List Bool) → odd (xs ++ ys) ≡ plus (odd xs) (odd ys)
 odd_append [] ys = refl

@@ -1,10 +1,10 @@
--- The text of the scan path of an output, and the first fault where there is none.
+-- The text of the scan path of an output, and the faults for which there is none.
 use Rattle.std.specs.Prelude.{◌≡◌, ℕ, Bool, true, false, List, [], ◌∷◌, ◌++◌, length, codes, decimal, Option, Some, None, Ok, Err}
 use Rattle.std.specs.List.{flat_map, slice_get}
 use Rattle.base_types.specs.declared.fault.Fault.{Fault}
-use Rattle.base_types.specs.declared.fault.FileKind.TheVariants.{Words}
-use Rattle.base_types.specs.declared.fault.Spot.TheVariants.{Line}
 use Rattle.base_types.specs.declared.kind.Kind.TheVariants.{NoPort}
+use Rattle.base_types.specs.Faults.{of_words}
+use Rattle.base_types.specs.FirstFault.{IsFirstFault}
 use Rattle.netlist_core.specs.declared.netlist.NetId.{NetId}
 use Rattle.netlist_core.specs.declared.netlist.Instance.{Instance}
 use Rattle.netlist_core.specs.declared.netlist.Netlist.{Netlist}
@@ -18,7 +18,7 @@ use Rattle.chain_trace.specs.declared.path.Step.{Step}
 use Rattle.chain_trace.specs.declared.path.Path.{Path}
 use Rattle.chain_trace.specs.Paths.{scan_path_at, out_pin_at, is_driven, IsScanPath}
 use Rattle.chain_trace.specs.Named.{IsPortNamed}
-use Rattle.chain_trace.specs.Parities.{plus}
+use Rattle.chain_trace.specs.Parities.{path_parity}
 use Rattle.chain_trace.specs.Faults.{IsTraceFault}
 
 -- instance cell in-pin out-pin bits
@@ -31,24 +31,6 @@ entry_text (Some placed) (Some path) (Some out) =
 
 abbrev pub step_text : Netlist → Cells → Step → List ℕ
 step_text n cells step = entry_text (slice_get n.instances step.instance) (scan_path_at n cells step.instance step.path) (out_pin_at n cells step)
-
--- the inversions on the way over a step: those before its bits, and that of its out pin
-abbrev pub entry_inversions : Option ScanPath → Option OutPin → List Bool
-entry_inversions None out = []
-entry_inversions (Some path) None = []
-entry_inversions (Some path) (Some out) = path.bits ++ out.inverted ∷ []
-
-abbrev pub step_inversions : Netlist → Cells → Step → List Bool
-step_inversions n cells step = entry_inversions (scan_path_at n cells step.instance step.path) (out_pin_at n cells step)
-
--- the sum modulo 2
-abbrev pub odd : List Bool → Bool
-odd [] = false
-odd (b ∷ bs) = plus b (odd bs)
-
--- whether the output shows the inverse of what the input gave
-abbrev pub path_parity : Netlist → Cells → List Step → Bool
-path_parity n cells steps = odd (flat_map (step_inversions n cells) steps)
 
 abbrev pub parity_text : Bool → List ℕ
 parity_text false = codes "0"
@@ -69,9 +51,6 @@ pub record AreRead (table verilog : List ℕ) (cells : Cells) (n : Netlist) : Ty
   pub cells_are : table_of table ≡ Ok cells
   pub netlist_is : DenotesNetlist verilog n
 
-abbrev pub no_port : Fault
-no_port = record { kind = NoPort; file = Words; spot = Line 0 }
-
 -- the text of the scan path of an output
 pub record IsPathText (table verilog output text : List ℕ) : Type 0 where
   pub cells : Cells
@@ -83,11 +62,37 @@ pub record IsPathText (table verilog output text : List ℕ) : Type 0 where
   pub is : IsScanPath netlist cells net path
   pub same : text ≡ path_text netlist cells path
 
--- the first fault: of the table, of the Verilog, of the output's name, or the one that is met going backward from the output
-pub data IsPathFault (table verilog output : List ℕ) (fault : Fault) : Type 0 where
-  OfTable : table_of table ≡ Err fault → IsPathFault table verilog output fault
-  OfVerilog : (cells : Cells) → table_of table ≡ Ok cells → read_faultless verilog ≡ Err fault → IsPathFault table verilog output fault
-  OfPort : (cells : Cells) (n : Netlist) → AreRead table verilog cells n → ((net : NetId) → IsOutputNamed n output net → ⊥) → fault ≡ no_port
-      → IsPathFault table verilog output fault
-  OfPath : (cells : Cells) (n : Netlist) (net : NetId) → AreRead table verilog cells n → IsOutputNamed n output net → IsTraceFault n cells net fault
-      → IsPathFault table verilog output fault
+-- TableSyntax, TableShape: the table's text denotes no cells
+abbrev pub IsTableFault : List ℕ → Fault → Type 0
+IsTableFault table fault = table_of table ≡ Err fault
+
+-- VerilogSyntax, SecondModule, VerilogNumber, VerilogTwice, BadSelect: the Verilog text denotes no netlist
+abbrev pub IsVerilogFault : List ℕ → Fault → Type 0
+IsVerilogFault verilog fault = read_faultless verilog ≡ Err fault
+
+-- NoPort: no bit of an output or inout port of the netlist has the name
+pub record IsPortFault (verilog output : List ℕ) (fault : Fault) : Type 0 where
+  pub netlist : Netlist
+  pub netlist_is : DenotesNetlist verilog netlist
+  pub none : (net : NetId) → IsOutputNamed netlist output net → ⊥
+  pub is : fault ≡ of_words NoPort
+
+-- NoDriver, TwoDrivers, Loop: going backward from the output of this name the fault is met
+pub record IsOutputFault (table verilog output : List ℕ) (fault : Fault) : Type 0 where
+  pub cells : Cells
+  pub netlist : Netlist
+  pub read : AreRead table verilog cells netlist
+  pub net : NetId
+  pub port : IsOutputNamed netlist output net
+  pub met : IsTraceFault netlist cells net fault
+
+-- a fault of the texts and of the output's name
+pub data HoldsInTrace (table verilog output : List ℕ) (fault : Fault) : Type 0 where
+  OfTable : IsTableFault table fault → HoldsInTrace table verilog output fault
+  OfVerilog : IsVerilogFault verilog fault → HoldsInTrace table verilog output fault
+  OfPort : IsPortFault verilog output fault → HoldsInTrace table verilog output fault
+  OfOutput : IsOutputFault table verilog output fault → HoldsInTrace table verilog output fault
+
+-- the first of them
+abbrev pub IsPathFault : List ℕ → List ℕ → List ℕ → Fault → Type 0
+IsPathFault table verilog output fault = IsFirstFault (HoldsInTrace table verilog output) fault

@@ -1,27 +1,16 @@
 ghost use Rattle.std.specs.Prelude.{◌≡◌, ◌<◌, ◌^◌, ◌++◌, length, IfOk, OnOk};
 ghost use Rattle.std.specs.List.{flat_map};
 ghost use Rattle.base_types.specs.declared.fault.Fault.{Fault};
-ghost use Rattle.base_types.specs.declared.fault.ReadFault.TheVariants as faults;
-ghost use Rattle.chain_trace.specs.Faults.{IfFault};
-ghost use Rattle.path_report.specs.Reports.{step_text, path_text, no_port, IsPathText, IsPathFault};
+ghost use Rattle.base_types.specs.FirstFault.{IfFault, IsFirstFault};
+ghost use Rattle.path_report.specs.Reports.{step_text, path_text, IsPathText, HoldsInTrace};
 
 use crate::steps::{path_parity, push_step};
+use base_types::{Fault, Kind, NoMemory, ReadFault, Text};
 use cell_table::{CellTable, read_table};
 use chain_trace::{Path, Step, output_named, plain_of, trace};
 use netlist_core::{Netlist, classes_of};
 use std::alloc::Global;
-use base_types::{Fault, FileKind, Kind, NoMemory, ReadFault, Spot, Text};
 use verilog_reader::read_netlist;
-
-fn no_port() -> ReadFault
-    ensures value { result ≡ faults.Fault no_port }
-{
-    ReadFault::Fault(Fault {
-        kind: Kind::NoPort,
-        file: FileKind::Words,
-        spot: Spot::Line(0),
-    })
-}
 
 fn push_steps(
     alloc: Global,
@@ -70,9 +59,9 @@ fn text_of(
 /// netlist: `from PORT`, a line `INSTANCE CELL IN OUT BITS` for each step in the order in which the path shifts, `to PORT`,
 /// and `parity P`, which is 1 where the output shows the inverse of what the input gave.
 ///
-/// Refused by the first fault: of the table (TableSyntax, TableShape), of the Verilog (VerilogSyntax, SecondModule,
-/// VerilogNumber, VerilogTwice, BadSelect), NoPort where no bit of an output or inout port has the name, and NoDriver,
-/// TwoDrivers or Loop where the path has none.
+/// Refused by the first fault, that of the least kind: of the table (TableSyntax, TableShape), of the Verilog
+/// (VerilogSyntax, SecondModule, VerilogNumber, VerilogTwice, BadSelect), NoPort where no bit of an output or inout port has
+/// the name, and NoDriver, TwoDrivers or Loop where the output has no path.
 pub fn path_text(
     alloc: Global,
     table: &[u8],
@@ -81,13 +70,13 @@ pub fn path_text(
 ) -> Result<Text, ReadFault>
     requires size { length verilog.now < 2 ^ 32 }
     ensures text { IfOk result (IsPathText table.now verilog.now output.now) }
-    ensures fault { IfFault result (IsPathFault table.now verilog.now output.now) }
-    ensures no_fault { IfOk result (λ text. (fault : Fault) → IsPathFault table.now verilog.now output.now fault → ⊥) }
+    ensures fault { IfFault result (IsFirstFault (HoldsInTrace table.now verilog.now output.now)) }
+    ensures no_fault { OnOk result ((fault : Fault) → HoldsInTrace table.now verilog.now output.now fault → ⊥) }
 {
     let table = read_table(alloc, table)?;
     let netlist = read_netlist(alloc, verilog)?;
     let Some(net) = output_named(&netlist, output) else {
-        return Err(no_port());
+        return Err(ReadFault::Fault(Fault::of_words(Kind::NoPort)));
     };
     let classes = classes_of(alloc, &netlist)?;
     let path = trace(alloc, &netlist, &classes, &table, net)?;

@@ -16,10 +16,10 @@ ghost use Rattle.scan_job.specs.Ended.{HasRun, status_of};
 use crate::command::run_request;
 use crate::request::request_of;
 use crate::stop::Stop;
+use base_types::{NoMemory, Word};
 use desk_io::Desk;
 use scan_words::read_words;
 use std::alloc::Global;
-use base_types::{NoMemory, Word};
 
 fn status_of(ended: Result<(), Stop>) -> u8
     ensures value { result ≡ status_of ended }

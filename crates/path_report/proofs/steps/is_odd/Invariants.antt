@@ -1,6 +1,5 @@
 use Rattle.std.proofs.Common.{◌≡◌, drop}
-use Rattle.chain_trace.specs.Parities.{plus}
-use Rattle.path_report.specs.Reports.{odd}
+use Rattle.chain_trace.specs.Parities.{plus, odd}
 use Rattle.path_report.proofs.steps.is_odd.Given as goal
 
 abbrev pub invariant-loop-inverted : goal.invariant-loop-inverted

@@ -1,8 +1,7 @@
 use Rattle.std.proofs.Common.{◌+◌, drop, sym, ap, ◌∙◌}
 use Rattle.std.specs.Prelude.{Bool}
 use Rattle.std.specs.List.{flat_map}
-use Rattle.chain_trace.specs.Parities.{plus}
-use Rattle.path_report.specs.Reports.{odd, step_inversions}
+use Rattle.chain_trace.specs.Parities.{plus, odd, step_inversions}
 use Rattle.path_report.proofs.Sums.{flat_turn}
 use Rattle.path_report.proofs.steps.path_parity.Goals as goal
 

@@ -1,7 +1,6 @@
 use Rattle.std.proofs.Common.{◌≡◌, drop}
 use Rattle.std.specs.List.{flat_map}
-use Rattle.chain_trace.specs.Parities.{plus}
-use Rattle.path_report.specs.Reports.{odd, step_inversions, path_parity}
+use Rattle.chain_trace.specs.Parities.{plus, odd, step_inversions, path_parity}
 use Rattle.path_report.proofs.steps.path_parity.Given as goal
 
 abbrev pub invariant-loop-step : goal.invariant-loop-step

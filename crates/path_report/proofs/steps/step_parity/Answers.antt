@@ -1,9 +1,8 @@
 use Rattle.std.proofs.Common.{rules, ◌≡◌, ap, ◌∙◌, Some}
 use Rattle.std.specs.Prelude.{Bool}
 use Rattle.std.specs.List.{slice_get}
-use Rattle.chain_trace.specs.Parities.{plus}
+use Rattle.chain_trace.specs.Parities.{plus, odd}
 use Rattle.chain_trace.specs.Paths.{scan_path_at, out_pin_at}
-use Rattle.path_report.specs.Reports.{odd}
 use Rattle.path_report.proofs.Sums.{entry_odd, out_of_path}
 use Rattle.path_report.proofs.steps.step_parity.Goals as goal
 

@@ -1,8 +1,0 @@
-use Rattle.std.proofs.Common.{◌≡◌, false, take}
-use Rattle.std.specs.List.{list_any}
-use Rattle.chain_trace.specs.Paths.{drives}
-use Rattle.chain_trace.proofs.Named.{is_port}
-use Rattle.chain_trace.proofs.ports.input_named.Given as goal
-
-abbrev pub invariant-loop-port : goal.invariant-loop-port
-invariant-loop-port l = list_any (is_port drives l.netlist.nets l.name) (take l.port-index l.netlist.ports) ≡ false
