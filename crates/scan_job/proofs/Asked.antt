@@ -1,6 +1,7 @@
 -- Words that say an order say a request, and one at most.
-use Rattle.std.proofs.Common.{◌≡◌, ◌≢◌, ℕ, Bool, true, false, cond, ◌&&◌, ◌++◌, List, [], ◌∷◌, length, codes, Option, Some, None, refl, sym, ap, ◌∙◌, subst}
+use Rattle.std.proofs.Common.{◌≡◌, ◌≢◌, ◌==◌, ℕ, Bool, true, false, cond, ◌&&◌, ◌++◌, List, [], ◌∷◌, length, codes, Option, Some, None, refl, sym, ap, ◌∙◌, subst, arith}
 use Rattle.std.specs.Str.{bytes_eq}
+use Rattle.std.proofs.lemmas.Bool.Decides.{nat_tests}
 use Rattle.std.proofs.lemmas.Option.{same_Some}
 use Rattle.std.proofs.lemmas.Slice.Eq.{bytes_eq-Decides}
 use Rattle.scan_words.specs.declared.order.Order.{Order}
@@ -97,6 +98,9 @@ made_rewire values given further h apart =
       pins = distinct_pins (values (codes "in-pin")) (values (codes "out-pin")) c.value d.value c.is d.is (and_right _ _ apart);
     }
 
+zero_is : (n : ℕ) → (n == 0) ≡ true → n ≡ 0
+zero_is n h = grind (arith, nat_tests)
+
 made_trace : (values : Values) (given further : List Text) → each_value values (options_of verbs.Trace) ≡ Some given → is_count false (length further) ≡ true → IsMade verbs.Trace given further
 made_trace values given [] h count =
     let a = first values options.Table _ given h in
@@ -110,27 +114,29 @@ made_trace values given [] h count =
       order_is = ap (λ (vs : List Text). record { verb = verbs.Trace; values = vs; further = [] }) same;
       pins = tt;
     }
-made_trace values given (w ∷ ws) h count = absurd cc
+made_trace values given (w ∷ ws) h count = let none = zero_is (length (w ∷ ws)) count in absurd (omega (arith, none))
 
 made : (verb : Verb) (values : Values) (given further : List Text) → each_value values (options_of verb) ≡ Some given → are_apart values (options_of verb) ≡ true
     → is_count (takes_further verb) (length further) ≡ true → IsMade verb given further
 made verbs.Rewire values given further each apart count = made_rewire values given further each apart
 made verbs.Trace values given further each apart count = made_trace values given further each count
 
+abbrev further_in : Values → List Text
+further_in values = values (codes "further")
+
 -- the order of a command's values is asked for
 made_by : (verb : Verb) (values : Values) (order : Order) → order_by verb values ≡ Some order → IsAsked order
 unfolding order_by
-made_by verb values order h = found (each_value values (options_of verb)) refl (are_apart values (options_of verb)) refl (is_count (takes_further verb) (length further)) refl h
+made_by verb values order h =
+    found (each_value values (options_of verb)) refl (are_apart values (options_of verb)) refl (is_count (takes_further verb) (length (further_in values))) refl h
   where
-    abbrev further : List Text
-    further = values (codes "further")
-
-    found : (o : Option (List Text)) → each_value values (options_of verb) ≡ o → (a : Bool) → are_apart values (options_of verb) ≡ a → (c : Bool) → is_count (takes_further verb) (length further) ≡ c
-        → ((o >>= λ given. only_if a >>= λ apart. Some given) >>= λ given. only_if c >>= λ count. Some (record { verb = verb; values = given; further = further })) ≡ Some order → IsAsked order
+    found : (o : Option (List Text)) → each_value values (options_of verb) ≡ o → (a : Bool) → are_apart values (options_of verb) ≡ a
+        → (c : Bool) → is_count (takes_further verb) (length (further_in values)) ≡ c
+        → ((o >>= λ given. only_if a >>= λ apart. Some given) >>= λ given. only_if c >>= λ count. Some (record { verb = verb; values = given; further = further_in values })) ≡ Some order → IsAsked order
     found None each a apart c count k = absurd cc
     found (Some given) each false apart c count k = absurd cc
     found (Some given) each true apart false count k = absurd cc
-    found (Some given) each true apart true count k = subst IsAsked (same_Some _ _ k) (made verb values given further each apart count)
+    found (Some given) each true apart true count k = subst IsAsked (same_Some _ _ k) (made verb values given (further_in values) each apart count)
 
 pub asked : (words : List Text) (order : Order) → Says words order → IsAsked order
 asked words order s = made_by order.verb (λ name. values_of name s.parts) order s.values

@@ -250,7 +250,7 @@ none_late : (request : Request) (fault : Fault) → IsFoundWriting request fault
 none_late (requests.Rewire r) fault late = late
 none_late (requests.Trace r) fault late = late
 
-before_of : (request : Request) (files : Slot → List ℕ) (outputs : Outputs) → AreOutputsOf request files outputs → AreOutputsBefore request files outputs
+pub before_of : (request : Request) (files : Slot → List ℕ) (outputs : Outputs) → AreOutputsOf request files outputs → AreOutputsBefore request files outputs
 before_of request files outputs are = record { no_fault = λ fault is. absurd (are.no_fault fault is); texts = are.texts }
 
 -- a fault was found before any output was touched

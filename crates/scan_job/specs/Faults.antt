@@ -15,8 +15,8 @@ use Rattle.desk_io.specs.declared.slot.Slot.TheVariants.{Table, Lef, Verilog, De
 use Rattle.desk_io.specs.Desk.{IsInput}
 use Rattle.desk_io.specs.Inputs.{limit_of}
 use Rattle.desk_io.specs.Names.{IsNamed}
-use Rattle.chain_rewire.specs.Faults.{IsRewireFault}
-use Rattle.path_report.specs.Reports.{IsPathFault}
+use Rattle.chain_rewire.specs.Faults.{HoldsInRewire}
+use Rattle.path_report.specs.Reports.{HoldsInTrace}
 use Rattle.scan_job.specs.declared.request.Request.{Request}
 use Rattle.scan_job.specs.declared.request.RewireRequest.{RewireRequest}
 use Rattle.scan_job.specs.declared.request.TraceRequest.{TraceRequest}
@@ -51,10 +51,14 @@ pub record IsSizeFault (request : Request) (files : Slot → List ℕ) (fault : 
 abbrev pub AreSmall : Request → (Slot → List ℕ) → Type 0
 AreSmall request files = (slot : Slot) → IsInput slot → IsNamed (names_of request) slot → length (files slot) ≤ limit_of slot
 
--- the command's own first fault in its files
+-- a fault of the command's own in its files
+abbrev pub HoldsInCommand : Request → (Slot → List ℕ) → Fault → Type 0
+HoldsInCommand (requests.Rewire r) files = HoldsInRewire (files Verilog) (rewire_of r)
+HoldsInCommand (requests.Trace r) files = HoldsInTrace (files Table) (files Verilog) r.scan_out
+
+-- the first of them
 abbrev pub IsCommandFault : Request → (Slot → List ℕ) → Fault → Type 0
-IsCommandFault (requests.Rewire r) files fault = IsRewireFault (files Verilog) (rewire_of r) fault
-IsCommandFault (requests.Trace r) files fault = IsPathFault (files Table) (files Verilog) r.scan_out fault
+IsCommandFault request files fault = IsFirstFault (HoldsInCommand request files) fault
 
 abbrev pub HasNoCommandFault : Request → (Slot → List ℕ) → Type 0
 HasNoCommandFault request files = (fault : Fault) → IsCommandFault request files fault → ⊥
@@ -67,11 +71,9 @@ IsRunFault request files fault = IsFirstFault (IsSizeFault request files) fault 
 abbrev pub HasNoFault : Request → (Slot → List ℕ) → Type 0
 HasNoFault request files = (fault : Fault) → IsRunFault request files fault → ⊥
 
--- there is at most one such fault, as far as the command's own is one
+-- there is at most one such fault
 abbrev pub OneFaultLaw : Type 0
-OneFaultLaw =
-    (request : Request) (files : Slot → List ℕ) → ((f g : Fault) → IsCommandFault request files f → IsCommandFault request files g → f ≡ g)
-    → (f g : Fault) → IsRunFault request files f → IsRunFault request files g → f ≡ g
+OneFaultLaw = (request : Request) (files : Slot → List ℕ) (f g : Fault) → IsRunFault request files f → IsRunFault request files g → f ≡ g
 
 -- The kinds of faults that a command finds only while it writes its STIL output. Each command judges all that it reads before.
 abbrev pub IsFoundWriting : Request → Kind → Type 0

@@ -13,9 +13,9 @@ use crate::judge::judge;
 use crate::line::fault_line;
 use crate::request::{Request, names_of};
 use crate::stop::Stop;
+use base_types::{Fault, FileKind, Kind, ReadFault};
 use desk_io::{Desk, Inputs, InputsFault, Names, Slot, put_file, put_outputs, take_inputs};
 use std::alloc::Global;
-use base_types::{Fault, FileKind, Kind, ReadFault};
 
 /// The input of a slot, as faults name it.
 fn file_of(slot: Slot) -> FileKind
@@ -82,7 +82,12 @@ fn finish<D: Desk>(
 }
 
 /// Takes the inputs, judges them, and puts the outputs or says the fault.
-fn run_named<D: Desk>(alloc: Global, request: &Request, names: &Names, desk: &mut D) -> Result<(), Stop>
+fn run_named<D: Desk>(
+    alloc: Global,
+    request: &Request,
+    names: &Names,
+    desk: &mut D,
+) -> Result<(), Stop>
     requires named { names.now ≡ names_of request.now }
     requires pins { ArePinsApart request.now }
     requires unopened { AllUnopened (D.state desk.old) }
@@ -98,7 +103,11 @@ fn run_named<D: Desk>(alloc: Global, request: &Request, names: &Names, desk: &mu
 }
 
 /// Does what a request asks for.
-pub(crate) fn run_request<D: Desk>(alloc: Global, request: &Request, desk: &mut D) -> Result<(), Stop>
+pub(crate) fn run_request<D: Desk>(
+    alloc: Global,
+    request: &Request,
+    desk: &mut D,
+) -> Result<(), Stop>
     requires pins { ArePinsApart request.now }
     requires unopened { AllUnopened (D.state desk.old) }
     requires allowed { AllowsNames (names_of request.now) (D.allows desk.old) }

@@ -8,11 +8,11 @@ ghost use Rattle.scan_job.specs.Texts.{AreTexts};
 
 use crate::line::moved_line;
 use crate::request::{Request, RewireRequest, TraceRequest, rewire_of};
+use base_types::{ReadFault, Text};
 use chain_rewire::rewire_text;
 use desk_io::{Inputs, Outputs, Slot};
 use path_report::path_text;
 use std::alloc::Global;
-use base_types::{ReadFault, Text};
 
 /// The texts of `rewire`, or the first fault of its file and its words.
 fn judge_rewire(
@@ -37,11 +37,7 @@ fn judge_rewire(
 }
 
 /// The text of `trace`, or the first fault of its files.
-fn judge_trace(
-    alloc: Global,
-    request: &TraceRequest,
-    inputs: &Inputs,
-) -> Result<Outputs, ReadFault>
+fn judge_trace(alloc: Global, request: &TraceRequest, inputs: &Inputs) -> Result<Outputs, ReadFault>
     requires small { length (input_at inputs.now Verilog) < 2 ^ 32 }
     ensures no_fault { IfOk result (λ outputs. HasNoCommandFault (Request.Trace request.now) (input_at inputs.now)) }
     ensures texts { IfOk result (AreTexts (Request.Trace request.now) (input_at inputs.now)) }
@@ -60,11 +56,7 @@ fn judge_trace(
 }
 
 /// The texts of the command, or the first fault that it finds in its files.
-pub(crate) fn judge(
-    alloc: Global,
-    request: &Request,
-    inputs: &Inputs,
-) -> Result<Outputs, ReadFault>
+pub(crate) fn judge(alloc: Global, request: &Request, inputs: &Inputs) -> Result<Outputs, ReadFault>
     requires small { length (input_at inputs.now Verilog) < 2 ^ 32 }
     requires pins { ArePinsApart request.now }
     ensures no_fault { IfOk result (λ outputs. HasNoCommandFault request.now (input_at inputs.now)) }

@@ -7,8 +7,8 @@
 
 mod command;
 mod judge;
-mod line;
 mod laws;
+mod line;
 mod request;
 mod stop;
 mod top;

@@ -3,8 +3,8 @@ ghost use Rattle.scan_job.specs.Faults.{rewire_word, trace_word, file_word, spot
 ghost use Rattle.scan_job.specs.Texts.{moved_text};
 
 use crate::request::{Request, RewireRequest, TraceRequest};
-use std::alloc::Global;
 use base_types::{Fault, FileKind, NoMemory, Spot, Text};
+use std::alloc::Global;
 
 fn rewire_word(request: &RewireRequest, file: FileKind) -> &str
     ensures value { result.now ≡ rewire_word request.now file }

@@ -3,11 +3,11 @@ ghost use Rattle.desk_io.specs.declared.names.Names.{Names};
 ghost use Rattle.scan_words.specs.declared.verb.Verb.TheVariants as verbs;
 ghost use Rattle.scan_job.specs.Requests.{order_of, names_of, rewire_of, IsAsked};
 
+use base_types::{Name, NoMemory, Rows, Word};
 use chain_rewire::Rewire;
 use desk_io::Names;
 use scan_words::{Order, Verb};
 use std::alloc::Global;
-use base_types::{Name, NoMemory, Rows, Word};
 
 /// What the words of `rewire` ask for, by the names of its options.
 #[derive(Debug, Drop)]
@@ -82,7 +82,15 @@ fn rewire_request(
     ensures units { IfOk result (λ r. r.units ≡ further.now) }
 {
     match values {
-        [verilog, cell, in_pin, out_pin, scan_in, scan_out, out_verilog] => Ok(RewireRequest {
+        [
+            verilog,
+            cell,
+            in_pin,
+            out_pin,
+            scan_in,
+            scan_out,
+            out_verilog,
+        ] => Ok(RewireRequest {
             verilog: word_of(alloc, verilog)?,
             cell: name_of(alloc, cell)?,
             in_pin: name_of(alloc, in_pin)?,
