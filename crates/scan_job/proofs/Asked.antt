@@ -144,25 +144,3 @@ asked words order s = made_by order.verb (λ name. values_of name s.parts) order
 -- the pins of a request that the words say are apart
 pub pins_apart : (request : Request) → IsAsked (order_of request) → ArePinsApart request
 pins_apart request asked = subst ArePinsApart (order_once asked.request request asked.order_is) asked.pins
-
--- how many values a command has, and that only `rewire` has further words
-pub seven : (order : Order) → IsAsked order → order.verb ≡ verbs.Rewire → length order.values ≡ 7
-seven order asked is = by_request asked.request asked.order_is
-  where
-    by_request : (request : Request) → order_of request ≡ order → length order.values ≡ 7
-    by_request (requests.Rewire r) e = ap (λ (o : Order). length o.values) (sym e)
-    by_request (requests.Trace r) e = let verb = ap (λ (o : Order). o.verb) e in absurd cc
-
-pub three : (order : Order) → IsAsked order → order.verb ≡ verbs.Trace → (length order.values ≡ 3) × (order.further ≡ [])
-three order asked is = by_request asked.request asked.order_is
-  where
-    by_request : (request : Request) → order_of request ≡ order → (length order.values ≡ 3) × (order.further ≡ [])
-    by_request (requests.Rewire r) e = let verb = ap (λ (o : Order). o.verb) e in absurd cc
-    by_request (requests.Trace r) e = (ap (λ (o : Order). length o.values) (sym e), ap (λ (o : Order). o.further) (sym e))
-
--- an order is what it is made of
-pub same_order : (one other : Order) → one.verb ≡ other.verb → one.values ≡ other.values → one.further ≡ other.further → one ≡ other
-same_order one other verb values further =
-    ap (λ (v : Verb). record { verb = v; values = one.values; further = one.further }) verb
-    ∙ ap (λ (vs : List Text). record { verb = other.verb; values = vs; further = one.further }) values
-    ∙ ap (λ (ws : List Text). record { verb = other.verb; values = other.values; further = ws }) further

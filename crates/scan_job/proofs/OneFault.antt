@@ -1,9 +1,7 @@
 -- A run answers one fault at most.
-use Rattle.std.proofs.Common.{◌≡◌, ℕ, List, inl, inr}
+use Rattle.std.proofs.Common.{◌≡◌, inl, inr}
 use Rattle.base_types.specs.declared.fault.Fault.{Fault}
 use Rattle.base_types.specs.FirstFault.{IsFirstFault, FaultLaw}
-use Rattle.desk_io.specs.declared.slot.Slot.{Slot}
-use Rattle.scan_job.specs.declared.request.Request.{Request}
 use Rattle.scan_job.specs.Faults.{OneFaultLaw}
 use Rattle.scan_job.proofs.Sizes.{size_none}
 

@@ -1,28 +1,25 @@
 -- What a run leaves, from what its phases leave.
-use Rattle.std.proofs.Common.{◌≡◌, ◌≢◌, ◌<◌, ◌≤◌, ◌⊎◌, ℕ, zero, suc, Bool, true, false, ◌&&◌, List, [], ◌++◌, length, Option, Some, None, option_map, is_some, IfSome, IsSome, Result, Ok, Err, nat_lt, refl, sym, ◌∙◌, ap, subst, append-nil, length-append, arith, inl, inr}
+use Rattle.std.proofs.Common.{◌≡◌, ◌≢◌, ◌<◌, ◌≤◌, ◌⊎◌, ℕ, zero, suc, Bool, true, false, List, [], ◌++◌, length, Option, Some, None, option_map, IfSome, IsSome, Result, Ok, Err, nat_lt, refl, sym, ◌∙◌, ap, subst, append-nil, length-append, arith, inl, inr}
 use Rattle.std.proofs.lemmas.Bool.Decides.{nat_tests}
 use Rattle.base_types.specs.declared.fault.Fault.{Fault}
 use Rattle.desk_io.specs.declared.slot.Slot.{Slot}
 use Rattle.desk_io.specs.declared.slot.Slot.TheVariants.{Table, Lef, Verilog, Def, Stil, OutVerilog, OutDef, OutStil, Console}
-use Rattle.desk_io.specs.declared.names.Names.{Names}
 use Rattle.desk_io.specs.declared.outputs.Outputs.{Outputs}
 use Rattle.desk_io.specs.Number.{number}
 use Rattle.desk_io.specs.Desk.{SlotState, SameElsewhere, IsInput, IsOutput, IsUnopened, IsOpen, IsClosed, AllUnopened}
-use Rattle.desk_io.specs.Causes.{HasRisen, SomeRose, SameCounts}
+use Rattle.desk_io.specs.Causes.{HasRisen, SameCounts}
 use Rattle.desk_io.specs.Prefixes.{IsAtEnd, IsAppended, HasTakenFile, IsTooLarge, HasFailedToTake, HasRunOut, HoldsPrefix}
-use Rattle.desk_io.specs.Names.{name_at, IsNamed}
+use Rattle.desk_io.specs.Names.{name_at}
 use Rattle.desk_io.specs.Inputs.{limit_of, input_at, HasTakenInputs, HasStoppedAt}
 use Rattle.desk_io.specs.Outputs.{output_at, turn}
-use Rattle.base_types.specs.FirstFault.{ComesBefore, IsFirstFault}
 use Rattle.scan_job.specs.declared.request.Request.{Request}
 use Rattle.scan_job.specs.declared.request.Request.TheVariants as requests
 use Rattle.scan_job.specs.declared.stop.Stop.{Stop}
 use Rattle.scan_job.specs.declared.stop.Stop.TheVariants.{NoForm, Refused, InputFailed, OutputFailed, NoMemory}
-use Rattle.chain_rewire.specs.Rewiring.{IsRewired, AreErasedAlike}
 use Rattle.chain_rewire.specs.Faults.{IsRewireFault}
 use Rattle.path_report.specs.Reports.{IsPathText, IsPathFault}
 use Rattle.scan_job.specs.Requests.{names_of, rewire_of}
-use Rattle.scan_job.specs.Faults.{size_fault, IsSizeFault, AreSmall, IsCommandFault, HasNoCommandFault, IsRunFault, HasNoFault, IsFoundWriting}
+use Rattle.scan_job.specs.Faults.{size_fault, IsCommandFault, HasNoCommandFault, IsRunFault, HasNoFault, IsFoundWriting}
 use Rattle.scan_job.specs.Texts.{AreTexts, AreRewired, AreOutputsOf, AreOutputsBefore}
 use Rattle.scan_job.specs.TopCall.{Slots, IsUsed, Reads, SameEverywhere, SameUnused, SameOutputs, SameDesign, AreFilesRefused}
 use Rattle.scan_job.specs.Ended.{IsDone, IsRefused, IsInputFailed, IsOutputFailed, IsOutOfMemory, HasEnded}

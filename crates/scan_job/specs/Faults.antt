@@ -8,7 +8,7 @@ use Rattle.base_types.specs.declared.fault.Spot.{Spot}
 use Rattle.base_types.specs.declared.fault.Spot.TheVariants as spots
 use Rattle.base_types.specs.declared.kind.Kind.{Kind}
 use Rattle.base_types.specs.declared.kind.Kind.TheVariants.{FileSize}
-use Rattle.base_types.specs.Faults.{number_of, kind_name, at_line}
+use Rattle.base_types.specs.Faults.{kind_name, at_line}
 use Rattle.base_types.specs.FirstFault.{IsFirstFault}
 use Rattle.desk_io.specs.declared.slot.Slot.{Slot}
 use Rattle.desk_io.specs.declared.slot.Slot.TheVariants.{Table, Lef, Verilog, Def, Stil, OutVerilog, OutDef, OutStil, Console}

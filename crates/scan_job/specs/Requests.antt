@@ -1,14 +1,12 @@
 -- What the words of a command ask for, and the files that it names.
-use Rattle.std.specs.Prelude.{◌≡◌, ◌≢◌, ℕ, List, [], ◌∷◌, Option, Some, None}
+use Rattle.std.specs.Prelude.{◌≡◌, ◌≢◌, ℕ, List, [], ◌∷◌, Some, None}
 use Rattle.desk_io.specs.declared.names.Names.{Names}
 use Rattle.scan_words.specs.declared.order.Order.{Order}
-use Rattle.scan_words.specs.declared.verb.Verb.{Verb}
 use Rattle.scan_words.specs.declared.verb.Verb.TheVariants as verbs
 use Rattle.scan_words.specs.Written.{Says}
 use Rattle.chain_rewire.specs.declared.rewire.Rewire.{Rewire}
 use Rattle.scan_job.specs.declared.request.Request.{Request}
 use Rattle.scan_job.specs.declared.request.RewireRequest.{RewireRequest}
-use Rattle.scan_job.specs.declared.request.TraceRequest.{TraceRequest}
 use Rattle.scan_job.specs.declared.request.Request.TheVariants as requests
 
 -- the order whose values a request gives names: those of the options in the order in which the command lists them

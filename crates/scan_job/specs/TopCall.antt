@@ -1,5 +1,5 @@
 -- What a run leaves at its slots.
-use Rattle.std.specs.Prelude.{◌≡◌, ◌⊎◌, ℕ, List, Some}
+use Rattle.std.specs.Prelude.{◌≡◌, ◌⊎◌, ℕ, List}
 use Rattle.base_types.specs.declared.fault.Fault.{Fault}
 use Rattle.desk_io.specs.declared.slot.Slot.{Slot}
 use Rattle.desk_io.specs.declared.slot.Slot.TheVariants.{OutVerilog, OutDef, OutStil, Console}
