@@ -21,6 +21,10 @@ const NO_FORM: u8 = 1;
 /// The status of want of memory.
 const NO_MEMORY: u8 = 5;
 
+/// What is written to standard error where the words are of no written form.
+const USAGE: &str =
+    "usage: wrenpewter rewire --verilog FILE --cell NAME --in-pin NAME --out-pin NAME --scan-in NAME --scan-out NAME --out-verilog FILE INSTANCE ..\n       wrenpewter trace --table FILE --verilog FILE --scan-out NAME";
+
 /// The words behind the program's name.
 fn words_of(rt: &HostRuntime, alloc: Global) -> io::Result<Vec<Word>> {
     let mut words = Vec::new(alloc);
@@ -32,12 +36,17 @@ fn words_of(rt: &HostRuntime, alloc: Global) -> io::Result<Vec<Word>> {
 
 fn main(rt: HostRuntime) -> ExitCode {
     let alloc = rt.alloc();
-    match words_of(&rt, alloc) {
+    let status = match words_of(&rt, alloc) {
         Ok(words) => {
             let mut desk = FileDesk::new(rt);
-            ExitCode::from(run(alloc, &words, &mut desk))
+            run(alloc, &words, &mut desk)
         }
-        Err(error) if error.kind() == ErrorKind::OutOfMemory => ExitCode::from(NO_MEMORY),
-        Err(_) => ExitCode::from(NO_FORM),
+        Err(error) if error.kind() == ErrorKind::OutOfMemory => NO_MEMORY,
+        Err(_) => NO_FORM,
+    };
+    if status == NO_FORM {
+        // Where the usage can't be written, the status says it.
+        let _ = rt.eprintln(USAGE);
     }
+    ExitCode::from(status)
 }

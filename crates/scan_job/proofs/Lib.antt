@@ -1,3 +1,6 @@
-pub mod TopClauses
+pub mod Values
+pub mod Asked
+pub mod Sizes
 pub mod Phases
-pub mod Fits
+pub mod TopClauses
+pub mod OneFault

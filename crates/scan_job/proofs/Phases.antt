@@ -1,32 +1,30 @@
 -- What a run leaves, from what its phases leave.
-use Rattle.std.proofs.Common.{◌≡◌, ◌≢◌, ◌<◌, ◌≤◌, ◌⊎◌, ℕ, zero, suc, Bool, true, false, ◌&&◌, List, [], ◌++◌, length, Option, Some, None, option_map, is_some, IfSome, IsSome, Result, Ok, Err, nat_lt, refl, sym, ◌∙◌, ap, subst, append-nil, length-append, arith, inl, inr}
+use Rattle.std.proofs.Common.{◌≡◌, ◌≢◌, ◌<◌, ◌≤◌, ◌⊎◌, ℕ, zero, suc, Bool, true, false, List, [], ◌++◌, length, Option, Some, None, option_map, IfSome, IsSome, Result, Ok, Err, nat_lt, refl, sym, ◌∙◌, ap, subst, append-nil, length-append, arith, inl, inr}
 use Rattle.std.proofs.lemmas.Bool.Decides.{nat_tests}
 use Rattle.base_types.specs.declared.fault.Fault.{Fault}
 use Rattle.desk_io.specs.declared.slot.Slot.{Slot}
 use Rattle.desk_io.specs.declared.slot.Slot.TheVariants.{Table, Lef, Verilog, Def, Stil, OutVerilog, OutDef, OutStil, Console}
-use Rattle.desk_io.specs.declared.names.Names.{Names}
 use Rattle.desk_io.specs.declared.outputs.Outputs.{Outputs}
 use Rattle.desk_io.specs.Number.{number}
 use Rattle.desk_io.specs.Desk.{SlotState, SameElsewhere, IsInput, IsOutput, IsUnopened, IsOpen, IsClosed, AllUnopened}
-use Rattle.desk_io.specs.Causes.{HasRisen}
+use Rattle.desk_io.specs.Causes.{HasRisen, SameCounts}
 use Rattle.desk_io.specs.Prefixes.{IsAtEnd, IsAppended, HasTakenFile, IsTooLarge, HasFailedToTake, HasRunOut, HoldsPrefix}
-use Rattle.desk_io.specs.Names.{name_at, IsNamed}
+use Rattle.desk_io.specs.Names.{name_at}
 use Rattle.desk_io.specs.Inputs.{limit_of, input_at, HasTakenInputs, HasStoppedAt}
 use Rattle.desk_io.specs.Outputs.{output_at, turn}
-use Rattle.scan_words.specs.declared.order.Order.{Order}
-use Rattle.scan_words.specs.declared.verb.Verb.{Verb}
-use Rattle.scan_words.specs.declared.verb.Verb.TheVariants as verbs
+use Rattle.scan_job.specs.declared.request.Request.{Request}
+use Rattle.scan_job.specs.declared.request.Request.TheVariants as requests
 use Rattle.scan_job.specs.declared.stop.Stop.{Stop}
 use Rattle.scan_job.specs.declared.stop.Stop.TheVariants.{NoForm, Refused, InputFailed, OutputFailed, NoMemory}
-use Rattle.chain_rewire.specs.Rewiring.{IsRewired, AreErasedAlike}
 use Rattle.chain_rewire.specs.Faults.{IsRewireFault}
 use Rattle.path_report.specs.Reports.{IsPathText, IsPathFault}
-use Rattle.scan_job.specs.Commands.{value_at, names_by, names_of, rewire_of}
-use Rattle.scan_job.specs.FirstFault.{size_fault, is_too_large, first_too_large, input_slots, IsCommandFault, HasNoCommandFault, IsFirstFault, HasNoFault}
-use Rattle.scan_job.specs.Texts.{AreTexts, AreOutputsOf}
-use Rattle.scan_job.specs.TopCall.{Slots, IsUsed, IsFile, SameEverywhere, SameUnused, SameCounts, HoldsFiles, SameFiles, SameOutputs}
+use Rattle.scan_job.specs.Requests.{names_of, rewire_of}
+use Rattle.scan_job.specs.Faults.{size_fault, IsCommandFault, HasNoCommandFault, IsRunFault, HasNoFault, IsFoundWriting}
+use Rattle.scan_job.specs.Texts.{AreTexts, AreRewired, AreOutputsOf, AreOutputsBefore}
+use Rattle.scan_job.specs.TopCall.{Slots, IsUsed, Reads, SameEverywhere, SameUnused, SameOutputs, SameDesign, AreFilesRefused}
 use Rattle.scan_job.specs.Ended.{IsDone, IsRefused, IsInputFailed, IsOutputFailed, IsOutOfMemory, HasEnded}
 use Rattle.scan_job.specs.Phases.{HasPutLine, HasFailedAtLine, HasSaid, AreJudged, HasPutAll, HasPutSome, HasFinished}
+use Rattle.scan_job.proofs.Sizes.{size_first, size_none}
 
 -- what was taken to the end is the whole file
 text_is : (u v : Option (List ℕ)) (text file : List ℕ) → u ≡ Some file → u ≡ option_map (λ rest. text ++ rest) v → IfSome v (λ rest. rest ≡ []) → text ≡ file
@@ -86,28 +84,6 @@ early_turn Verilog output = absurd output
 early_turn Def output = absurd output
 early_turn Stil output = absurd output
 
-pub file_is_output : (slot : Slot) → IsFile slot → IsOutput slot
-file_is_output OutVerilog file = tt
-file_is_output OutDef file = tt
-file_is_output OutStil file = tt
-file_is_output Table file = absurd file
-file_is_output Lef file = absurd file
-file_is_output Verilog file = absurd file
-file_is_output Def file = absurd file
-file_is_output Stil file = absurd file
-file_is_output Console file = absurd file
-
-pub file_isnt_console : (slot : Slot) → IsFile slot → slot ≢ Console
-file_isnt_console OutVerilog file = λ e. cc
-file_isnt_console OutDef file = λ e. cc
-file_isnt_console OutStil file = λ e. cc
-file_isnt_console Table file = absurd file
-file_isnt_console Lef file = absurd file
-file_isnt_console Verilog file = absurd file
-file_isnt_console Def file = absurd file
-file_isnt_console Stil file = absurd file
-file_isnt_console Console file = absurd file
-
 -- one number is below another or not
 below_cases : (X : Type 0) (m n : ℕ) → (m < n → X) → ((m < n → ⊥) → X) → X
 below_cases X m n lower otherwise = cases (nat_lt m n) refl
@@ -152,8 +128,8 @@ number_cases one other =
     between_same m n low high = grind arith
 
 -- a slot is used or not
-used_or_not : (order : Order) (slot : Slot) → IsUsed order slot ⊎ (IsUsed order slot → ⊥)
-used_or_not order slot = cases (name_at (names_of order) slot)
+used_or_not : (request : Request) (slot : Slot) → IsUsed request slot ⊎ (IsUsed request slot → ⊥)
+used_or_not request slot = cases (name_at (names_of request) slot)
   where
     cases : (o : Option (List ℕ)) → IsSome o ⊎ (IsSome o → ⊥)
     cases None = inr (λ h. absurd cc)
@@ -178,8 +154,8 @@ apart : (input output : Slot) → IsInput input → IsOutput output → input �
 apart input output reads writes e = not_both output (at_slot IsInput input output e reads) writes
 
 -- a slot that isn't used is another than one that is
-unused_apart : (order : Order) (slot here : Slot) → (IsUsed order slot → ⊥) → IsUsed order here → slot ≢ here
-unused_apart order slot here unused used e = unused (at_slot (IsUsed order) here slot (sym e) used)
+unused_apart : (request : Request) (slot here : Slot) → (IsUsed request slot → ⊥) → IsUsed request here → slot ≢ here
+unused_apart request slot here unused used e = unused (at_slot (IsUsed request) here slot (sym e) used)
 
 state_same : (P : SlotState → Type 0) (one other : SlotState) → one ≡ other → P other → P one
 state_same P one other e held = subst P (sym e) held
@@ -203,133 +179,85 @@ appended_since bytes a b c e held = subst (λ (s : SlotState). IsAppended bytes 
 risen_since : (now : ℕ) (a b : SlotState) → b ≡ a → HasRisen b.faults now → HasRisen a.faults now
 risen_since now a b e risen = subst (λ (s : SlotState). HasRisen s.faults now) e risen
 
--- files that are too large
-
-not_large : (o : Option (List ℕ)) (limit len : ℕ) → (IsSome o → len ≤ limit) → (is_some o && nat_lt limit len) ≡ false
-not_large None limit len small = refl
-not_large (Some name) limit len small = let le = small refl in grind (arith, nat_tests)
-
-too_large : (o : Option (List ℕ)) (limit len : ℕ) → IsSome o → limit < len → (is_some o && nat_lt limit len) ≡ true
-too_large None limit len some over = absurd cc
-too_large (Some name) limit len some over = grind (arith, nat_tests)
-
-module _ (names : Names) (files : Slot → List ℕ) where
-  abbrev IsSmall : Slot → Type 0
-  IsSmall slot = IsNamed names slot → length (files slot) ≤ limit_of slot
-
-  fits : (slot : Slot) → IsSmall slot → is_too_large names files slot ≡ false
-  fits slot small = not_large (name_at names slot) (limit_of slot) (length (files slot)) small
-
-  pub none_too_large : ((slot : Slot) → IsInput slot → IsSmall slot) → first_too_large names files input_slots ≡ None
-  none_too_large small =
-      rw (fits Table (small Table tt), fits Lef (small Lef tt), fits Verilog (small Verilog tt), fits Def (small Def tt), fits Stil (small Stil tt)) refl
-
-  pub first_large : (slot : Slot) → IsInput slot → IsNamed names slot → limit_of slot < length (files slot)
-      → ((other : Slot) → IsInput other → number other < number slot → IsSmall other) → first_too_large names files input_slots ≡ Some (size_fault slot)
-  first_large Table input named over small = rw (too_large _ _ _ named over) refl
-  first_large Lef input named over small = rw (fits Table (small Table tt (omega arith)), too_large _ _ _ named over) refl
-  first_large Verilog input named over small = rw (fits Table (small Table tt (omega arith)), fits Lef (small Lef tt (omega arith)), too_large _ _ _ named over) refl
-  first_large Def input named over small =
-      rw (fits Table (small Table tt (omega arith)), fits Lef (small Lef tt (omega arith)), fits Verilog (small Verilog tt (omega arith)), too_large _ _ _ named over) refl
-  first_large Stil input named over small =
-      rw (fits Table (small Table tt (omega arith)), fits Lef (small Lef tt (omega arith)), fits Verilog (small Verilog tt (omega arith)), fits Def (small Def tt (omega arith)), too_large _ _ _ named over) refl
-  first_large OutVerilog input named over small = absurd input
-  first_large OutDef input named over small = absurd input
-  first_large OutStil input named over small = absurd input
-  first_large Console input named over small = absurd input
-
 -- a command looks at its inputs alone
 
-verilog_used : (order : Order) (verb : Verb) → order.verb ≡ verb → IsUsed order Verilog
-verilog_used order verbs.Rewire e = subst (λ (v : Verb). IsNamed (names_by v order) Verilog) (sym e) refl
-verilog_used order verbs.Trace e = subst (λ (v : Verb). IsNamed (names_by v order) Verilog) (sym e) refl
+abbrev AgreeAt : Request → (Slot → List ℕ) → (Slot → List ℕ) → Type 0
+AgreeAt request one other = (slot : Slot) → IsInput slot → IsUsed request slot → one slot ≡ other slot
 
-table_used : (order : Order) → order.verb ≡ verbs.Trace → IsUsed order Table
-table_used order e = subst (λ (v : Verb). IsNamed (names_by v order) Table) (sym e) refl
+command_same : (request : Request) (one other : Slot → List ℕ) (fault : Fault) → AgreeAt request one other → IsCommandFault request one fault → IsCommandFault request other fault
+command_same (requests.Rewire r) one other fault agree is = subst (λ (text : List ℕ). IsRewireFault text (rewire_of r) fault) (agree Verilog tt refl) is
+command_same (requests.Trace r) one other fault agree is =
+    subst (λ (table : List ℕ). IsPathFault table (other Verilog) r.scan_out fault) (agree Table tt refl)
+    (subst (λ (text : List ℕ). IsPathFault (one Table) text r.scan_out fault) (agree Verilog tt refl) is)
 
-abbrev AgreeAt : Verb → Order → (Slot → List ℕ) → (Slot → List ℕ) → Type 0
-AgreeAt verb order one other = (slot : Slot) → IsInput slot → IsUsed order slot → one slot ≡ other slot
+texts_same : (request : Request) (one other : Slot → List ℕ) (outputs : Outputs) → AgreeAt request one other → AreTexts request one outputs → AreTexts request other outputs
+texts_same (requests.Rewire r) one other outputs agree are = subst (λ (text : List ℕ). AreRewired r text outputs) (agree Verilog tt refl) are
+texts_same (requests.Trace r) one other outputs agree are =
+    subst (λ (table : List ℕ). IsPathText table (other Verilog) r.scan_out outputs.console) (agree Table tt refl)
+    (subst (λ (text : List ℕ). IsPathText (one Table) text r.scan_out outputs.console) (agree Verilog tt refl) are)
 
-command_same : (verb : Verb) (order : Order) (one other : Slot → List ℕ) (fault : Fault) → order.verb ≡ verb → AgreeAt verb order one other
-    → IsCommandFault verb order one fault → IsCommandFault verb order other fault
-command_same verbs.Rewire order one other fault e agree is =
-    subst (λ (text : List ℕ). IsRewireFault text (rewire_of order) fault) (agree Verilog tt (verilog_used order verbs.Rewire e)) is
-command_same verbs.Trace order one other fault e agree is =
-    subst (λ (table : List ℕ). IsPathFault table (other Verilog) (value_at order 2) fault) (agree Table tt (table_used order e))
-    (subst (λ (text : List ℕ). IsPathFault (one Table) text (value_at order 2) fault) (agree Verilog tt (verilog_used order verbs.Trace e)) is)
+-- the inputs of a request were taken
 
-texts_same : (verb : Verb) (order : Order) (one other : Slot → List ℕ) (outputs : Outputs) → order.verb ≡ verb → AgreeAt verb order one other → AreTexts verb order one outputs → AreTexts verb order other outputs
-texts_same verbs.Rewire order one other outputs e agree are =
-    let same = agree Verilog tt (verilog_used order verbs.Rewire e) in
-    record {
-      moved = are.moved;
-      rewired = subst (λ (text : List ℕ). IsRewired text (rewire_of order) outputs.verilog are.moved) same are.rewired;
-      console = are.console;
-      erased = subst (λ (text : List ℕ). AreErasedAlike text (rewire_of order) outputs.verilog) same are.erased;
-      path = are.path;
-    }
-texts_same verbs.Trace order one other outputs e agree are =
-    subst (λ (table : List ℕ). IsPathText table (other Verilog) (value_at order 2) outputs.console) (agree Table tt (table_used order e))
-    (subst (λ (text : List ℕ). IsPathText (one Table) text (value_at order 2) outputs.console) (agree Verilog tt (verilog_used order verbs.Trace e)) are)
-
--- the inputs of an order were taken
-
-module _ (order : Order) (texts : List (Option (List ℕ))) (a b : Slots) (taken : HasTakenInputs (names_of order) 5 texts a b) where
-  taken_here : (slot : Slot) → IsInput slot → IsUsed order slot → HasTakenFile (input_at texts slot) (a slot) (b slot)
+module _ (request : Request) (texts : List (Option (List ℕ))) (a b : Slots) (taken : HasTakenInputs (names_of request) 5 texts a b) where
+  taken_here : (slot : Slot) → IsInput slot → IsUsed request slot → HasTakenFile (input_at texts slot) (a slot) (b slot)
   taken_here slot input used = taken.taken slot input used (low_number slot input)
 
   output_kept : (slot : Slot) → IsOutput slot → b slot ≡ a slot
   output_kept slot output = taken.others slot (λ input used lt. not_both slot input output)
 
-  unused_kept : (slot : Slot) → (IsUsed order slot → ⊥) → b slot ≡ a slot
+  unused_kept : (slot : Slot) → (IsUsed request slot → ⊥) → b slot ≡ a slot
   unused_kept slot unused = taken.others slot (λ input used lt. unused used)
 
   counts_kept : (slot : Slot) → (b slot).faults ≡ (a slot).faults
   counts_kept slot = elim (input_or_output slot) [
-    | inl input ↦ elim (used_or_not order slot) [
+    | inl input ↦ elim (used_or_not request slot) [
       | inl used ↦ (taken_here slot input used).faults
       | inr unused ↦ ap (λ (s : SlotState). s.faults) (unused_kept slot unused)
     ]
     | inr output ↦ ap (λ (s : SlotState). s.faults) (output_kept slot output)
   ]
 
-  module _ (files : Slot → List ℕ) (holds : HoldsFiles order files a) where
-    file_is : (slot : Slot) → IsInput slot → IsUsed order slot → input_at texts slot ≡ files slot
+  module _ (files : Slot → List ℕ) (holds : Reads request files a) where
+    file_is : (slot : Slot) → IsInput slot → IsUsed request slot → input_at texts slot ≡ files slot
     file_is slot input used =
         let t = taken_here slot input used in
         text_is _ _ (input_at texts slot) (files slot) (holds slot input used) t.front t.at_end
 
-    is_small : (slot : Slot) → IsInput slot → IsUsed order slot → length (files slot) ≤ limit_of slot
+    is_small : (slot : Slot) → IsInput slot → IsUsed request slot → length (files slot) ≤ limit_of slot
     is_small slot input used =
         let small = taken.small slot input used (low_number slot input) in
         let same = ap length (file_is slot input used) in
         omega (arith, small, same)
 
-    none_large : first_too_large (names_of order) files input_slots ≡ None
-    none_large = none_too_large (names_of order) files is_small
+    found_first : (fault : Fault) → IsCommandFault request (input_at texts) fault → IsRunFault request files fault
+    found_first fault found = inr (is_small, command_same request (input_at texts) files fault file_is found)
 
-    found_first : (fault : Fault) → IsCommandFault order.verb order (input_at texts) fault → IsFirstFault order files fault
-    found_first fault found = rw none_large (command_same order.verb order (input_at texts) files fault refl file_is found)
+    none_first : HasNoCommandFault request (input_at texts) → HasNoFault request files
+    none_first none fault (inl large) = size_none request files is_small fault large.holds
+    none_first none fault (inr own) = none fault (command_same request files (input_at texts) fault (λ slot input used. sym (file_is slot input used)) own.1)
 
-    none_first : HasNoCommandFault order.verb order (input_at texts) → HasNoFault order files
-    none_first none fault first =
-        let own : IsCommandFault order.verb order files fault = rw none_large at first in
-        none fault (command_same order.verb order files (input_at texts) fault refl (λ slot input used. sym (file_is slot input used)) own)
-
-    judged_outputs : (outputs : Outputs) → AreJudged order texts outputs → AreOutputsOf order files outputs
+    judged_outputs : (outputs : Outputs) → AreJudged request texts outputs → AreOutputsOf request files outputs
     judged_outputs outputs judged = record {
       no_fault = none_first judged.no_fault;
-      texts = texts_same order.verb order (input_at texts) files outputs refl file_is judged.are;
+      texts = texts_same request (input_at texts) files outputs file_is judged.are;
     }
+
+-- no fault is found while the STIL output is written
+none_late : (request : Request) (fault : Fault) → IsFoundWriting request fault.kind → ⊥
+none_late (requests.Rewire r) fault late = late
+none_late (requests.Trace r) fault late = late
+
+pub before_of : (request : Request) (files : Slot → List ℕ) (outputs : Outputs) → AreOutputsOf request files outputs → AreOutputsBefore request files outputs
+before_of request files outputs are = record { no_fault = λ fault is. absurd (are.no_fault fault is); texts = are.texts }
 
 -- a fault was found before any output was touched
 
-pub record Found (order : Order) (fault : Fault) (a b : Slots) : Type 0 where
-  pub unused : SameUnused order a b
+pub record Found (request : Request) (fault : Fault) (a b : Slots) : Type 0 where
+  pub unused : SameUnused request a b
   pub outputs : SameOutputs a b
   pub counts : SameCounts a b
   pub none_open : (slot : Slot) → IsOpen (b slot) → ⊥
-  pub first : (files : Slot → List ℕ) → HoldsFiles order files a → IsFirstFault order files fault
+  pub first : (files : Slot → List ℕ) → Reads request files a → IsRunFault request files fault
 
 not_open_closed : (s : SlotState) → IsClosed s → IsOpen s → ⊥
 not_open_closed s shut open_now = cc
@@ -337,15 +265,25 @@ not_open_closed s shut open_now = cc
 not_open_unopened : (s : SlotState) → IsUnopened s → IsOpen s → ⊥
 not_open_unopened s never open_now = cc
 
-module _ (order : Order) (fault : Fault) (a b c : Slots) (f : Found order fault a b) where
+module _ (request : Request) (fault : Fault) (a b c : Slots) (f : Found request fault a b) where
   module _ (second : SameElsewhere Console b c) where
-    unused_since : SameUnused order a c
-    unused_since slot unused = second slot (unused_apart order slot Console unused refl) ∙ f.unused slot unused
+    unused_since : SameUnused request a c
+    unused_since slot unused = second slot (unused_apart request slot Console unused refl) ∙ f.unused slot unused
 
-    files_since : SameFiles a c
-    files_since slot file = second slot (file_isnt_console slot file) ∙ f.outputs slot (file_is_output slot file)
+    design_since : SameDesign a c
+    design_since = record {
+      verilog = second OutVerilog (λ e. cc) ∙ f.outputs OutVerilog tt;
+      def = second OutDef (λ e. cc) ∙ f.outputs OutDef tt;
+    }
 
-  put_line : HasPutLine (names_of order) fault b c → IsRefused order a c
+    files_since : (files : Slot → List ℕ) → AreFilesRefused request files fault a c
+    files_since files = record {
+      design = design_since;
+      stil = λ early. second OutStil (λ e. cc) ∙ f.outputs OutStil tt;
+      stil_begun = λ late. absurd (none_late request fault late);
+    }
+
+  put_line : HasPutLine request fault b c → IsRefused request a c
   put_line put = record {
     unused = unused_since put.elsewhere;
     none_open = λ slot open_now. elim (console_or_not slot) [
@@ -356,35 +294,36 @@ module _ (order : Order) (fault : Fault) (a b c : Slots) (f : Found order fault 
       | inl e ↦ at_slot (λ s. (c s).faults ≡ (a s).faults) Console slot (sym e) (put.line.faults ∙ f.counts Console)
       | inr ne ↦ ap (λ (s : SlotState). s.faults) (put.elsewhere slot ne) ∙ f.counts slot
     ];
+    design = design_since put.elsewhere;
     refused = λ files holds. record {
       fault = fault;
       first = f.first files holds;
-      untouched = files_since put.elsewhere;
+      outputs = files_since put.elsewhere files;
       line = appended_since _ (a Console) (b Console) (c Console) (f.outputs Console tt) put.line.appended;
     };
   }
 
-  failed_at_line : HasFailedAtLine (names_of order) fault b c → IsOutputFailed order a c
+  failed_at_line : HasFailedAtLine request fault b c → IsOutputFailed request a c
   failed_at_line failed = record {
     unused = unused_since failed.elsewhere;
-    rose = (Console, tt, risen_since _ (a Console) (b Console) (f.outputs Console tt) failed.risen);
+    rose = record { slot = Console; is = tt; risen = risen_since _ (a Console) (b Console) (f.outputs Console tt) failed.risen };
     inputs = λ slot input. ap (λ (s : SlotState). s.faults) (failed.elsewhere slot (apart slot Console input tt)) ∙ f.counts slot;
     prefixes = λ files holds. inr (inr (record {
       fault = fault;
       first = f.first files holds;
-      untouched = files_since failed.elsewhere;
+      outputs = files_since failed.elsewhere files;
       prefix = prefix_since _ (a Console) (b Console) (c Console) (f.outputs Console tt) failed.prefix;
     }));
   }
 
-  ran_out : SameEverywhere b c → IsOutOfMemory order a c
+  ran_out : SameEverywhere b c → IsOutOfMemory request a c
   ran_out same = record {
     unused = λ slot unused. same slot ∙ f.unused slot unused;
     counts = λ slot. ap (λ (s : SlotState). s.faults) (same slot) ∙ f.counts slot;
     outputs = λ slot output. same slot ∙ f.outputs slot output;
   }
 
-  pub said_ended : (ended : Result (Unit {0}) Stop) → HasSaid (names_of order) fault b c ended → HasEnded order a c ended
+  pub said_ended : (ended : Result (Unit {0}) Stop) → HasSaid request fault b c ended → HasEnded request a c ended
   said_ended (Ok done) said = absurd said
   said_ended (Err NoForm) said = absurd said
   said_ended (Err Refused) said = put_line said
@@ -394,28 +333,28 @@ module _ (order : Order) (fault : Fault) (a b c : Slots) (f : Found order fault 
 
 -- the taking of the inputs stopped at one of them
 
-module _ (order : Order) (slot : Slot) (a b : Slots) (did : SlotState → SlotState → Type 0) (stopped : HasStoppedAt (names_of order) slot a b did) where
+module _ (request : Request) (slot : Slot) (a b : Slots) (did : SlotState → SlotState → Type 0) (stopped : HasStoppedAt (names_of request) slot a b did) where
   here_kept : stopped.between slot ≡ a slot
   here_kept = stopped.before.others slot (λ input used lt. absurd (omega (arith, lt)))
 
   slot_or_not : (other : Slot) → (other ≡ slot) ⊎ (other ≢ slot)
   slot_or_not other = number_cases other slot
 
-  other_kept : (other : Slot) → other ≢ slot → ((IsInput other → IsUsed order other → number other < number slot → ⊥) → b other ≡ a other)
+  other_kept : (other : Slot) → other ≢ slot → ((IsInput other → IsUsed request other → number other < number slot → ⊥) → b other ≡ a other)
   other_kept other ne none = stopped.elsewhere other ne ∙ stopped.before.others other none
 
   output_as_was : (other : Slot) → IsOutput other → b other ≡ a other
   output_as_was other output = other_kept other (λ e. apart slot other stopped.input output (sym e)) (λ input used lt. not_both other input output)
 
-  unused_as_was : (other : Slot) → (IsUsed order other → ⊥) → b other ≡ a other
-  unused_as_was other unused = other_kept other (unused_apart order other slot unused stopped.named) (λ input used lt. unused used)
+  unused_as_was : (other : Slot) → (IsUsed request other → ⊥) → b other ≡ a other
+  unused_as_was other unused = other_kept other (unused_apart request other slot unused stopped.named) (λ input used lt. unused used)
 
-  early : (other : Slot) → ((IsInput other × IsUsed order other × (number other < number slot))) ⊎ (IsInput other → IsUsed order other → number other < number slot → ⊥)
+  early : (other : Slot) → ((IsInput other × IsUsed request other × (number other < number slot))) ⊎ (IsInput other → IsUsed request other → number other < number slot → ⊥)
   early other = elim (input_or_output other) [
     | inr output ↦ inr (λ input used lt. not_both other input output)
-    | inl input ↦ elim (used_or_not order other) [
+    | inl input ↦ elim (used_or_not request other) [
       | inr unused ↦ inr (λ reads used lt. unused used)
-      | inl used ↦ below_cases ((IsInput other × IsUsed order other × (number other < number slot)) ⊎ (IsInput other → IsUsed order other → number other < number slot → ⊥)) (number other) (number slot)
+      | inl used ↦ below_cases ((IsInput other × IsUsed request other × (number other < number slot)) ⊎ (IsInput other → IsUsed request other → number other < number slot → ⊥)) (number other) (number slot)
           (λ lt. inl (input, used, lt)) (λ nlt. inr (λ reads uses lt. nlt lt))
     ]
   ]
@@ -434,128 +373,128 @@ module _ (order : Order) (slot : Slot) (a b : Slots) (did : SlotState → SlotSt
 
 -- an input was too large
 
-module _ (order : Order) (slot : Slot) (a b : Slots) (unopened : AllUnopened a) (stopped : HasStoppedAt (names_of order) slot a b (IsTooLarge (limit_of slot))) where
+module _ (request : Request) (slot : Slot) (a b : Slots) (unopened : AllUnopened a) (stopped : HasStoppedAt (names_of request) slot a b (IsTooLarge (limit_of slot))) where
   abbrev large : SlotState → SlotState → Type 0
   large = IsTooLarge (limit_of slot)
 
-  other_small : (files : Slot → List ℕ) → HoldsFiles order files a → (other : Slot) → IsInput other → number other < number slot → IsUsed order other → length (files other) ≤ limit_of other
+  other_small : (files : Slot → List ℕ) → Reads request files a → (other : Slot) → IsInput other → number other < number slot → IsUsed request other → length (files other) ≤ limit_of other
   other_small files holds other input lt used =
       let t = stopped.before.taken other input used lt in
       let same = ap length (text_is _ _ (input_at stopped.texts other) (files other) (holds other input used) t.front t.at_end) in
       let small = stopped.before.small other input used lt in
       omega (arith, small, same)
 
-  over : (files : Slot → List ℕ) → HoldsFiles order files a → limit_of slot < length (files slot)
+  over : (files : Slot → List ℕ) → Reads request files a → limit_of slot < length (files slot)
   over files holds =
       over_limit _ _ stopped.here.taken (files slot) (limit_of slot)
-      (ap (λ (s : SlotState). s.unread) (here_kept order slot a b large stopped) ∙ holds slot stopped.input stopped.named) stopped.here.front stopped.here.over
+      (ap (λ (s : SlotState). s.unread) (here_kept request slot a b large stopped) ∙ holds slot stopped.input stopped.named) stopped.here.front stopped.here.over
 
-  pub found_large : Found order (size_fault slot) a b
+  pub found_large : Found request (size_fault slot) a b
   found_large = record {
-    unused = unused_as_was order slot a b large stopped;
-    outputs = output_as_was order slot a b large stopped;
-    counts = count_as_was order slot a b large stopped stopped.here.faults;
-    none_open = λ other open_now. elim (slot_or_not order slot a b large stopped other) [
+    unused = unused_as_was request slot a b large stopped;
+    outputs = output_as_was request slot a b large stopped;
+    counts = count_as_was request slot a b large stopped stopped.here.faults;
+    none_open = λ other open_now. elim (slot_or_not request slot a b large stopped other) [
       | inl e ↦ not_open_closed (b slot) stopped.here.closed (at_slot (λ s. IsOpen (b s)) other slot e open_now)
       | inr ne ↦ not_open_before other (state_same IsOpen (stopped.between other) (b other) (sym (stopped.elsewhere other ne)) open_now)
     ];
-    first = λ files holds. rw (first_large (names_of order) files slot stopped.input stopped.named (over files holds) (other_small files holds)) refl;
+    first = λ files holds. inl (size_first request files slot stopped.input stopped.named (over files holds) (λ other input lt used. other_small files holds other input lt used));
   }
     where
       not_open_before : (other : Slot) → IsOpen (stopped.between other) → ⊥
-      not_open_before other open_now = elim (early order slot a b large stopped other) [
+      not_open_before other open_now = elim (early request slot a b large stopped other) [
         | inl t ↦ not_open_closed (stopped.between other) (stopped.before.taken other t.0 t.1 t.2).closed open_now
         | inr none ↦ not_open_unopened (a other) (unopened other) (state_same IsOpen (a other) (stopped.between other) (sym (stopped.before.others other none)) open_now)
       ]
 
 -- an input failed, or memory ran out
 
-pub input_failed : (order : Order) (slot : Slot) (a b : Slots) → HasStoppedAt (names_of order) slot a b HasFailedToTake → IsInputFailed order a b
-input_failed order slot a b stopped = record {
-  unused = unused_as_was order slot a b HasFailedToTake stopped;
-  rose = (slot, stopped.input, risen_since _ (a slot) (stopped.between slot) (here_kept order slot a b HasFailedToTake stopped) stopped.here.risen);
-  outputs = output_as_was order slot a b HasFailedToTake stopped;
+pub input_failed : (request : Request) (slot : Slot) (a b : Slots) → HasStoppedAt (names_of request) slot a b HasFailedToTake → IsInputFailed request a b
+input_failed request slot a b stopped = record {
+  unused = unused_as_was request slot a b HasFailedToTake stopped;
+  rose = record { slot = slot; is = stopped.input; risen = risen_since _ (a slot) (stopped.between slot) (here_kept request slot a b HasFailedToTake stopped) stopped.here.risen };
+  outputs = output_as_was request slot a b HasFailedToTake stopped;
 }
 
-pub inputs_ran_out : (order : Order) (slot : Slot) (a b : Slots) → HasStoppedAt (names_of order) slot a b HasRunOut → IsOutOfMemory order a b
-inputs_ran_out order slot a b stopped = record {
-  unused = unused_as_was order slot a b HasRunOut stopped;
-  counts = count_as_was order slot a b HasRunOut stopped stopped.here.faults;
-  outputs = output_as_was order slot a b HasRunOut stopped;
+pub inputs_ran_out : (request : Request) (slot : Slot) (a b : Slots) → HasStoppedAt (names_of request) slot a b HasRunOut → IsOutOfMemory request a b
+inputs_ran_out request slot a b stopped = record {
+  unused = unused_as_was request slot a b HasRunOut stopped;
+  counts = count_as_was request slot a b HasRunOut stopped stopped.here.faults;
+  outputs = output_as_was request slot a b HasRunOut stopped;
 }
 
 -- all inputs were taken, and then the command finished
 
-module _ (order : Order) (texts : List (Option (List ℕ))) (a b c : Slots) (unopened : AllUnopened a) (taken : HasTakenInputs (names_of order) 5 texts a b) where
+module _ (request : Request) (texts : List (Option (List ℕ))) (a b c : Slots) (unopened : AllUnopened a) (taken : HasTakenInputs (names_of request) 5 texts a b) where
   abbrev kept : (slot : Slot) → IsOutput slot → b slot ≡ a slot
-  kept slot output = output_kept order texts a b taken slot output
+  kept slot output = output_kept request texts a b taken slot output
 
   not_open : (slot : Slot) → IsOpen (b slot) → ⊥
   not_open slot open_now = elim (input_or_output slot) [
-    | inl input ↦ elim (used_or_not order slot) [
-      | inl used ↦ not_open_closed (b slot) (taken_here order texts a b taken slot input used).closed open_now
-      | inr unused ↦ not_open_unopened (a slot) (unopened slot) (state_same IsOpen (a slot) (b slot) (sym (unused_kept order texts a b taken slot unused)) open_now)
+    | inl input ↦ elim (used_or_not request slot) [
+      | inl used ↦ not_open_closed (b slot) (taken_here request texts a b taken slot input used).closed open_now
+      | inr unused ↦ not_open_unopened (a slot) (unopened slot) (state_same IsOpen (a slot) (b slot) (sym (unused_kept request texts a b taken slot unused)) open_now)
     ]
     | inr output ↦ not_open_unopened (a slot) (unopened slot) (state_same IsOpen (a slot) (b slot) (sym (kept slot output)) open_now)
   ]
 
-  found_own : (fault : Fault) → IsCommandFault order.verb order (input_at texts) fault → Found order fault a b
+  found_own : (fault : Fault) → IsCommandFault request (input_at texts) fault → Found request fault a b
   found_own fault found = record {
-    unused = unused_kept order texts a b taken;
+    unused = unused_kept request texts a b taken;
     outputs = kept;
-    counts = counts_kept order texts a b taken;
+    counts = counts_kept request texts a b taken;
     none_open = not_open;
-    first = λ files holds. found_first order texts a b taken files holds fault found;
+    first = λ files holds. found_first request texts a b taken files holds fault found;
   }
 
-  put_all : HasPutAll order texts b c → IsDone order a c
+  put_all : HasPutAll request texts b c → IsDone request a c
   put_all p = record {
-    unused = λ slot unused. p.put.others slot (λ output used lt. unused used) ∙ unused_kept order texts a b taken slot unused;
+    unused = λ slot unused. p.put.others slot (λ output used lt. unused used) ∙ unused_kept request texts a b taken slot unused;
     none_open = λ slot open_now. elim (put_or_not slot) [
       | inl t ↦ not_open_closed (c slot) (p.put.put slot t.0 t.1 (early_turn slot t.0)).closed open_now
       | inr none ↦ not_open slot (state_same IsOpen (b slot) (c slot) (sym (p.put.others slot none)) open_now)
     ];
     closed = λ slot used. elim (input_or_output slot) [
-      | inl input ↦ state_same IsClosed (c slot) (b slot) (p.put.others slot (λ output uses lt. not_both slot input output)) (taken_here order texts a b taken slot input used).closed
+      | inl input ↦ state_same IsClosed (c slot) (b slot) (p.put.others slot (λ output uses lt. not_both slot input output)) (taken_here request texts a b taken slot input used).closed
       | inr output ↦ (p.put.put slot output used (early_turn slot output)).closed
     ];
-    read = λ slot input used. state_same IsAtEnd (c slot) (b slot) (p.put.others slot (λ output uses lt. not_both slot input output)) (taken_here order texts a b taken slot input used).at_end;
+    read = λ slot input used. state_same IsAtEnd (c slot) (b slot) (p.put.others slot (λ output uses lt. not_both slot input output)) (taken_here request texts a b taken slot input used).at_end;
     counts = λ slot. elim (put_or_not slot) [
-      | inl t ↦ (p.put.put slot t.0 t.1 (early_turn slot t.0)).faults ∙ counts_kept order texts a b taken slot
-      | inr none ↦ ap (λ (s : SlotState). s.faults) (p.put.others slot none) ∙ counts_kept order texts a b taken slot
+      | inl t ↦ (p.put.put slot t.0 t.1 (early_turn slot t.0)).faults ∙ counts_kept request texts a b taken slot
+      | inr none ↦ ap (λ (s : SlotState). s.faults) (p.put.others slot none) ∙ counts_kept request texts a b taken slot
     ];
     done = λ files holds. record {
       outputs = p.outputs;
-      are = judged_outputs order texts a b taken files holds p.outputs p.judged;
+      are = judged_outputs request texts a b taken files holds p.outputs p.judged;
       texts = λ slot output used. appended_since _ (a slot) (b slot) (c slot) (kept slot output) (p.put.put slot output used (early_turn slot output)).appended;
     };
   }
     where
-      put_or_not : (slot : Slot) → (IsOutput slot × IsUsed order slot) ⊎ (IsOutput slot → IsUsed order slot → turn slot < 4 → ⊥)
+      put_or_not : (slot : Slot) → (IsOutput slot × IsUsed request slot) ⊎ (IsOutput slot → IsUsed request slot → turn slot < 4 → ⊥)
       put_or_not slot = elim (input_or_output slot) [
         | inl input ↦ inr (λ output used lt. not_both slot input output)
-        | inr output ↦ elim (used_or_not order slot) [
+        | inr output ↦ elim (used_or_not request slot) [
           | inl used ↦ inl (output, used)
           | inr unused ↦ inr (λ writes used lt. unused used)
         ]
       ]
 
-  put_some : HasPutSome order texts b c → IsOutputFailed order a c
+  put_some : HasPutSome request texts b c → IsOutputFailed request a c
   put_some p =
       let s = p.stopped in
       let at : Slot = s.slot in
       let here : s.between at ≡ b at = s.before.others at (λ output used lt. absurd (omega (arith, lt))) in
       record {
         unused = λ slot unused.
-            s.elsewhere slot (unused_apart order slot at unused s.named)
-            ∙ s.before.others slot (λ output used lt. unused used) ∙ unused_kept order texts a b taken slot unused;
-        rose = (at, s.output, risen_since _ (a at) (s.between at) (here ∙ kept at s.output) s.risen);
+            s.elsewhere slot (unused_apart request slot at unused s.named)
+            ∙ s.before.others slot (λ output used lt. unused used) ∙ unused_kept request texts a b taken slot unused;
+        rose = record { slot = at; is = s.output; risen = risen_since _ (a at) (s.between at) (here ∙ kept at s.output) s.risen };
         inputs = λ slot input.
             ap (λ (state : SlotState). state.faults) (s.elsewhere slot (apart slot at input s.output) ∙ s.before.others slot (λ output used lt. not_both slot input output))
-            ∙ counts_kept order texts a b taken slot;
+            ∙ counts_kept request texts a b taken slot;
         prefixes = λ files holds. inr (inl (record {
           outputs = p.outputs;
-          are = judged_outputs order texts a b taken files holds p.outputs p.judged;
+          are = before_of request files p.outputs (judged_outputs request texts a b taken files holds p.outputs p.judged);
           prefixes = λ slot output used. elim (number_cases slot at) [
             | inl e ↦ at_slot (λ t. HoldsPrefix (output_at p.outputs t) (a t) (c t)) at slot (sym e)
                 (prefix_since _ (a at) (s.between at) (c at) (here ∙ kept at s.output) s.prefix)
@@ -567,22 +506,22 @@ module _ (order : Order) (texts : List (Option (List ℕ))) (a b c : Slots) (uno
         }));
       }
 
-  pub finished : (ended : Result (Unit {0}) Stop) → HasFinished order texts b c ended → HasEnded order a c ended
+  pub finished : (ended : Result (Unit {0}) Stop) → HasFinished request texts b c ended → HasEnded request a c ended
   finished (Ok done) f = put_all f
   finished (Err NoForm) f = absurd f
-  finished (Err Refused) f = put_line order f.fault a b c (found_own f.fault f.first) f.then_did
+  finished (Err Refused) f = put_line request f.fault a b c (found_own f.fault f.first) f.then_did
   finished (Err InputFailed) f = absurd f
   finished (Err OutputFailed) (inl p) = put_some p
-  finished (Err OutputFailed) (inr f) = failed_at_line order f.fault a b c (found_own f.fault f.first) f.then_did
+  finished (Err OutputFailed) (inr f) = failed_at_line request f.fault a b c (found_own f.fault f.first) f.then_did
   finished (Err NoMemory) same = record {
-    unused = λ slot unused. same slot ∙ unused_kept order texts a b taken slot unused;
-    counts = λ slot. ap (λ (s : SlotState). s.faults) (same slot) ∙ counts_kept order texts a b taken slot;
+    unused = λ slot unused. same slot ∙ unused_kept request texts a b taken slot unused;
+    counts = λ slot. ap (λ (s : SlotState). s.faults) (same slot) ∙ counts_kept request texts a b taken slot;
     outputs = λ slot output. same slot ∙ kept slot output;
   }
 
 -- the file of a named input has fewer than 2 ^ 32 bytes, and one that isn't named none
-pub small_input : (order : Order) (texts : List (Option (List ℕ))) (a b : Slots) → HasTakenInputs (names_of order) 5 texts a b → (slot : Slot) → IsInput slot → length (input_at texts slot) ≤ limit_of slot
-small_input order texts a b taken slot input = elim (used_or_not order slot) [
+pub small_input : (request : Request) (texts : List (Option (List ℕ))) (a b : Slots) → HasTakenInputs (names_of request) 5 texts a b → (slot : Slot) → IsInput slot → length (input_at texts slot) ≤ limit_of slot
+small_input request texts a b taken slot input = elim (used_or_not request slot) [
   | inl used ↦ taken.small slot input used (low_number slot input)
   | inr unused ↦ let none = ap length (taken.no_text slot (λ reads used lt. unused used)) in omega (arith, none)
 ]

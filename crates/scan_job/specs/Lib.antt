@@ -1,5 +1,5 @@
-pub mod Commands
-pub mod FirstFault
+pub mod Requests
+pub mod Faults
 pub mod Texts
 pub mod TopCall
 pub mod Ended

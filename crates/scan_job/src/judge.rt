@@ -1,48 +1,51 @@
-ghost use Rattle.std.specs.Prelude.{◌≡◌, ◌≢◌, ◌<◌, ◌^◌, Some, None, length, IfOk};
+ghost use Rattle.std.specs.Prelude.{◌≡◌, ◌≢◌, ◌<◌, ◌^◌, length, IfOk};
+ghost use Rattle.base_types.specs.FirstFault.{IfFault};
 ghost use Rattle.desk_io.specs.declared.slot.Slot.TheVariants.{Verilog};
 ghost use Rattle.desk_io.specs.Inputs.{input_at};
-ghost use Rattle.scan_words.specs.declared.verb.Verb.TheVariants as verbs;
-ghost use Rattle.scan_job.specs.FirstFault.{IsCommandFault, HasNoCommandFault, Refuses};
-ghost use Rattle.scan_job.specs.Texts.{AreTexts, AreRewired};
-ghost use Rattle.scan_job.specs.Commands.{value_at, IsFit};
+ghost use Rattle.scan_job.specs.Requests.{ArePinsApart};
+ghost use Rattle.scan_job.specs.Faults.{IsCommandFault, HasNoCommandFault};
+ghost use Rattle.scan_job.specs.Texts.{AreTexts};
 
-use crate::line::rewire_line;
-use crate::names::{rewire_of, value_at};
+use crate::line::moved_line;
+use crate::request::{Request, RewireRequest, TraceRequest, rewire_of};
 use base_types::{ReadFault, Text};
 use chain_rewire::rewire_text;
 use desk_io::{Inputs, Outputs, Slot};
 use path_report::path_text;
-use scan_words::{Order, Verb};
 use std::alloc::Global;
 
 /// The texts of `rewire`, or the first fault of its file and its words.
-fn judge_rewire(alloc: Global, order: &Order, inputs: &Inputs) -> Result<Outputs, ReadFault>
+fn judge_rewire(
+    alloc: Global,
+    request: &RewireRequest,
+    inputs: &Inputs,
+) -> Result<Outputs, ReadFault>
     requires small { length (input_at inputs.now Verilog) < 2 ^ 32 }
-    requires apart { value_at order.now 2 ≢ value_at order.now 3 }
-    ensures no_fault { IfOk result (λ outputs. HasNoCommandFault verbs.Rewire order.now (input_at inputs.now)) }
-    ensures texts { IfOk result (AreRewired order.now (input_at inputs.now)) }
-    ensures refused { Refuses result (IsCommandFault verbs.Rewire order.now (input_at inputs.now)) }
+    requires pins { request.now.in_pin ≢ request.now.out_pin }
+    ensures no_fault { IfOk result (λ outputs. HasNoCommandFault (Request.Rewire request.now) (input_at inputs.now)) }
+    ensures texts { IfOk result (AreTexts (Request.Rewire request.now) (input_at inputs.now)) }
+    ensures fault { IfFault result (IsCommandFault (Request.Rewire request.now) (input_at inputs.now)) }
 {
-    let rewire = rewire_of(alloc, order)?;
+    let rewire = rewire_of(alloc, request)?;
     let done = rewire_text(alloc, inputs.text(Slot::Verilog), &rewire)?;
     Ok(Outputs {
         verilog: done.verilog,
         def: Text::of(Vec::new(alloc)),
         stil: Text::of(Vec::new(alloc)),
-        console: rewire_line(alloc, done.moved)?,
+        console: moved_line(alloc, done.moved)?,
     })
 }
 
 /// The text of `trace`, or the first fault of its files.
-fn judge_trace(alloc: Global, order: &Order, inputs: &Inputs) -> Result<Outputs, ReadFault>
+fn judge_trace(alloc: Global, request: &TraceRequest, inputs: &Inputs) -> Result<Outputs, ReadFault>
     requires small { length (input_at inputs.now Verilog) < 2 ^ 32 }
-    ensures no_fault { IfOk result (λ outputs. HasNoCommandFault verbs.Trace order.now (input_at inputs.now)) }
-    ensures texts { IfOk result (AreTexts verbs.Trace order.now (input_at inputs.now)) }
-    ensures refused { Refuses result (IsCommandFault verbs.Trace order.now (input_at inputs.now)) }
+    ensures no_fault { IfOk result (λ outputs. HasNoCommandFault (Request.Trace request.now) (input_at inputs.now)) }
+    ensures texts { IfOk result (AreTexts (Request.Trace request.now) (input_at inputs.now)) }
+    ensures fault { IfFault result (IsCommandFault (Request.Trace request.now) (input_at inputs.now)) }
 {
     let table = inputs.text(Slot::Table);
     let verilog = inputs.text(Slot::Verilog);
-    let output = value_at(order, 2).as_bytes();
+    let output = request.scan_out.bytes();
     let console = path_text(alloc, table, verilog, output)?;
     Ok(Outputs {
         verilog: Text::of(Vec::new(alloc)),
@@ -53,15 +56,15 @@ fn judge_trace(alloc: Global, order: &Order, inputs: &Inputs) -> Result<Outputs,
 }
 
 /// The texts of the command, or the first fault that it finds in its files.
-pub(crate) fn judge(alloc: Global, order: &Order, inputs: &Inputs) -> Result<Outputs, ReadFault>
+pub(crate) fn judge(alloc: Global, request: &Request, inputs: &Inputs) -> Result<Outputs, ReadFault>
     requires small { length (input_at inputs.now Verilog) < 2 ^ 32 }
-    requires fit { IsFit order.now }
-    ensures no_fault { IfOk result (λ outputs. HasNoCommandFault order.now.verb order.now (input_at inputs.now)) }
-    ensures texts { IfOk result (AreTexts order.now.verb order.now (input_at inputs.now)) }
-    ensures refused { Refuses result (IsCommandFault order.now.verb order.now (input_at inputs.now)) }
+    requires pins { ArePinsApart request.now }
+    ensures no_fault { IfOk result (λ outputs. HasNoCommandFault request.now (input_at inputs.now)) }
+    ensures texts { IfOk result (AreTexts request.now (input_at inputs.now)) }
+    ensures fault { IfFault result (IsCommandFault request.now (input_at inputs.now)) }
 {
-    match order.verb {
-        Verb::Rewire => judge_rewire(alloc, order, inputs),
-        Verb::Trace => judge_trace(alloc, order, inputs),
+    match request {
+        Request::Rewire(request) => judge_rewire(alloc, request, inputs),
+        Request::Trace(request) => judge_trace(alloc, request, inputs),
     }
 }

@@ -1,31 +1,37 @@
-ghost use Rattle.std.specs.Prelude.{◌≡◌, ◌++◌, [], IfOk, OnOk, unwrap_or};
-ghost use Rattle.scan_job.specs.FirstFault.{file_word, spot_text, fault_text};
-ghost use Rattle.scan_job.specs.Texts.{rewire_text};
+ghost use Rattle.std.specs.Prelude.{◌≡◌, ◌++◌, IfOk, OnOk};
+ghost use Rattle.scan_job.specs.Faults.{rewire_word, trace_word, file_word, spot_text, fault_text};
+ghost use Rattle.scan_job.specs.Texts.{moved_text};
 
-use base_types::{Fault, FileKind, NoMemory, Spot, Text, Word};
-use desk_io::Names;
+use crate::request::{Request, RewireRequest, TraceRequest};
+use base_types::{Fault, FileKind, NoMemory, Spot, Text};
 use std::alloc::Global;
 
-fn word_text(word: &Option<Word>) -> &str
-    ensures value { result.now ≡ unwrap_or word.now [] }
+fn rewire_word(request: &RewireRequest, file: FileKind) -> &str
+    ensures value { result.now ≡ rewire_word request.now file }
 {
-    match word {
-        Some(word) => word.as_str(),
-        None => "",
+    match file {
+        FileKind::Verilog => request.verilog.as_str(),
+        _ => "words",
     }
 }
 
-/// The word by which a fault names its file.
-fn file_word(names: &Names, file: FileKind) -> &str
-    ensures value { result.now ≡ file_word names.now file }
+fn trace_word(request: &TraceRequest, file: FileKind) -> &str
+    ensures value { result.now ≡ trace_word request.now file }
 {
     match file {
-        FileKind::Table => word_text(&names.table),
-        FileKind::Lef => word_text(&names.lef),
-        FileKind::Verilog => word_text(&names.verilog),
-        FileKind::Def => word_text(&names.def),
-        FileKind::Stil => word_text(&names.stil),
-        FileKind::Words => "words",
+        FileKind::Table => request.table.as_str(),
+        FileKind::Verilog => request.verilog.as_str(),
+        _ => "words",
+    }
+}
+
+/// The word by which a fault of the command names its file.
+fn file_word(request: &Request, file: FileKind) -> &str
+    ensures value { result.now ≡ file_word request.now file }
+{
+    match request {
+        Request::Rewire(request) => rewire_word(request, file),
+        Request::Trace(request) => trace_word(request, file),
     }
 }
 
@@ -46,11 +52,11 @@ fn push_spot(alloc: Global, line: &mut Vec<u8>, spot: &Spot) -> Result<(), NoMem
 }
 
 /// The line of a fault: `file:spot: KIND` and a line feed.
-pub(crate) fn fault_line(alloc: Global, names: &Names, fault: &Fault) -> Result<Text, NoMemory>
-    ensures value { IfOk result (λ text. text ≡ fault_text names.now fault.now) }
+pub(crate) fn fault_line(alloc: Global, request: &Request, fault: &Fault) -> Result<Text, NoMemory>
+    ensures value { IfOk result (λ text. text ≡ fault_text request.now fault.now) }
 {
     let mut line = Vec::new(alloc);
-    line.extend_from_slice(file_word(names, fault.file).as_bytes())?;
+    line.extend_from_slice(file_word(request, fault.file).as_bytes())?;
     line.extend_from_slice(b":")?;
     push_spot(alloc, &mut line, &fault.spot)?;
     line.extend_from_slice(b": ")?;
@@ -60,8 +66,8 @@ pub(crate) fn fault_line(alloc: Global, names: &Names, fault: &Fault) -> Result<
 }
 
 /// What `rewire` says: `moved N` and a line feed.
-pub(crate) fn rewire_line(alloc: Global, moved: u64) -> Result<Text, NoMemory>
-    ensures value { IfOk result (λ text. text ≡ rewire_text moved) }
+pub(crate) fn moved_line(alloc: Global, moved: u64) -> Result<Text, NoMemory>
+    ensures value { IfOk result (λ text. text ≡ moved_text moved) }
 {
     let line = format!(in alloc; "moved {moved}\n")?;
     Ok(Text::of(line.into_bytes()))

@@ -136,21 +136,17 @@ fn a_chain_is_refused_by_its_first_fault(rt: HostRuntime) -> Result<(), Fail> {
 fn a_failing_call_ends_the_run(rt: HostRuntime) -> Result<(), Fail> {
     let alloc = rt.alloc();
     let words = rewiring(alloc, "a c b")?;
-    for (failing, empty_write, status, calls) in [
-        (1, 0, 3, 1),
-        (3, 0, 3, 3),
-        (5, 0, 4, 5),
-        (0, 6, 4, 6),
-        (9, 0, 4, 9),
+    for (name, failing, empty_write, status, calls) in [
+        ("the input isn't opened", 1, 0, 3, 1),
+        ("the second read fails", 3, 0, 3, 3),
+        ("the output isn't opened", 5, 0, 4, 5),
+        ("a write takes nothing", 0, 6, 4, 6),
+        ("the console isn't written", 9, 0, 4, 9),
     ] {
         let mut desk = desk(alloc, "", THREE_FLOPS, failing, empty_write)?;
-        assert_eq!(rt;
-            run(alloc, &words, &mut desk),
-            status,
-            "{failing} {empty_write}"
-        );
-        assert_eq!(rt; desk.calls(), calls, "{failing} {empty_write}");
-        assert_eq!(rt; desk.written(Slot::Console), b"".as_slice());
+        assert_eq!(rt; run(alloc, &words, &mut desk), status, "{name}");
+        assert_eq!(rt; desk.calls(), calls, "{name}");
+        assert_eq!(rt; desk.written(Slot::Console), b"".as_slice(), "{name}");
     }
     Ok(())
 }
@@ -237,20 +233,16 @@ fn a_path_is_refused_by_its_first_fault(rt: HostRuntime) -> Result<(), Fail> {
 fn a_failing_call_ends_a_trace(rt: HostRuntime) -> Result<(), Fail> {
     let alloc = rt.alloc();
     let words = tracing(alloc, "so")?;
-    for (failing, empty_write, status, calls) in [
-        (3, 0, 3, 3),
-        (5, 0, 3, 5),
-        (9, 0, 4, 9),
-        (0, 10, 4, 10),
+    for (name, failing, empty_write, status, calls) in [
+        ("the table isn't read to its end", 3, 0, 3, 3),
+        ("the Verilog isn't opened", 5, 0, 3, 5),
+        ("the console isn't opened", 9, 0, 4, 9),
+        ("a write takes nothing", 0, 10, 4, 10),
     ] {
         let mut desk = desk(alloc, TABLE, THREE_FLOPS, failing, empty_write)?;
-        assert_eq!(rt;
-            run(alloc, &words, &mut desk),
-            status,
-            "{failing} {empty_write}"
-        );
-        assert_eq!(rt; desk.calls(), calls, "{failing} {empty_write}");
-        assert_eq!(rt; desk.written(Slot::Console), b"".as_slice());
+        assert_eq!(rt; run(alloc, &words, &mut desk), status, "{name}");
+        assert_eq!(rt; desk.calls(), calls, "{name}");
+        assert_eq!(rt; desk.written(Slot::Console), b"".as_slice(), "{name}");
     }
     Ok(())
 }

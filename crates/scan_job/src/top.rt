@@ -6,12 +6,15 @@ ghost use Rattle.desk_io.specs.Desk.{IsInput, IsOutput, AllUnopened};
 ghost use Rattle.desk_io.specs.Names.{AllowsNames};
 ghost use Rattle.scan_words.specs.declared.order.Order.{Order};
 ghost use Rattle.scan_words.specs.Written.{Says};
-ghost use Rattle.scan_job.specs.Commands.{names_of};
-ghost use Rattle.scan_job.specs.FirstFault.{IsFirstFault, HasNoFault};
-ghost use Rattle.scan_job.specs.TopCall.{SaysNothing, SameEverywhere, SameUnused, SameCounts, NoneRose, SomeRose, NoneOpen, AllClosed, AllRead, HoldsFiles, HasRefused, HasDone, HoldsPrefixes};
+ghost use Rattle.desk_io.specs.Causes.{SomeRose, SameCounts};
+ghost use Rattle.scan_job.specs.declared.request.Request.{Request};
+ghost use Rattle.scan_job.specs.Requests.{Asks, order_of, names_of};
+ghost use Rattle.scan_job.specs.Faults.{IsRunFault, HasNoFault};
+ghost use Rattle.scan_job.specs.TopCall.{SaysNothing, SameEverywhere, SameUnused, SameDesign, NoneRose, NoneOpen, AllClosed, AllRead, Reads, HasRefused, HasDone, HasWritten};
 ghost use Rattle.scan_job.specs.Ended.{HasRun, status_of};
 
-use crate::command::run_order;
+use crate::command::run_request;
+use crate::request::request_of;
 use crate::stop::Stop;
 use base_types::{NoMemory, Word};
 use desk_io::Desk;
@@ -33,11 +36,14 @@ fn status_of(ended: Result<(), Stop>) -> u8
 
 fn run_words<D: Desk>(alloc: Global, words: &[Word], desk: &mut D) -> Result<(), Stop>
     requires unopened { AllUnopened (D.state desk.old) }
-    requires allowed { (order : Order) → Says words.now order → AllowsNames (names_of order) (D.allows desk.old) }
+    requires allowed { (request : Request) → Asks words.now request → AllowsNames (names_of request) (D.allows desk.old) }
     ensures ended { HasRun words.now (D.state desk.old) (D.state desk.new) result }
 {
     match read_words(alloc, words) {
-        Ok(Some(order)) => run_order(alloc, &order, desk),
+        Ok(Some(order)) => match request_of(alloc, &order) {
+            Ok(request) => run_request(alloc, &request, desk),
+            Err(NoMemory) => Err(Stop::NoMemory),
+        },
         Ok(None) => Err(Stop::NoForm),
         Err(NoMemory) => Err(Stop::NoMemory),
     }
@@ -51,25 +57,26 @@ fn run_words<D: Desk>(alloc: Global, words: &[Word], desk: &mut D) -> Result<(),
 /// console.
 pub fn run<D: Desk>(alloc: Global, words: &[Word], desk: &mut D) -> u8
     requires unopened { AllUnopened (D.state desk.old) }
-    requires allowed { (order : Order) → Says words.now order → AllowsNames (names_of order) (D.allows desk.old) }
+    requires allowed { (request : Request) → Asks words.now request → AllowsNames (names_of request) (D.allows desk.old) }
 
     ensures status { result ≤ 5 }
 
     // Words and slots.
     ensures no_form { result ≡ 1 → SaysNothing words.now }
-    ensures form { result ≢ 1 → result ≢ 5 → ((order : Order) × Says words.now order) }
+    ensures form { result ≢ 1 → result ≢ 5 → ((request : Request) × Asks words.now request) }
+    ensures asked { (order : Order) → Says words.now order → ((request : Request) × (order_of request ≡ order)) }
     ensures unopened { SaysNothing words.now → SameEverywhere (D.state desk.old) (D.state desk.new) }
-    ensures slots { (order : Order) → Says words.now order → SameUnused order (D.state desk.old) (D.state desk.new) }
-    ensures closed { result ≡ 0 → (order : Order) → Says words.now order → AllClosed order (D.state desk.new) }
+    ensures slots { (request : Request) → Asks words.now request → SameUnused request (D.state desk.old) (D.state desk.new) }
+    ensures closed { result ≡ 0 → (request : Request) → Asks words.now request → AllClosed request (D.state desk.new) }
     ensures none_open { (result ≡ 0) ⊎ (result ≡ 2) → NoneOpen (D.state desk.new) }
-    ensures read { result ≡ 0 → (order : Order) → Says words.now order → AllRead order (D.state desk.new) }
+    ensures read { result ≡ 0 → (request : Request) → Asks words.now request → AllRead request (D.state desk.new) }
 
     // Refusals: only where, and wherever, the files have a fault.
-    ensures refusal { result ≡ 2 → (order : Order) (files : Slot → List ℕ) → Says words.now order → HoldsFiles order files (D.state desk.old) →
-        HasRefused order files (D.state desk.old) (D.state desk.new) }
+    ensures refusal { result ≡ 2 → (request : Request) (files : Slot → List ℕ) → Asks words.now request → Reads request files (D.state desk.old) →
+        HasRefused request files (D.state desk.old) (D.state desk.new) }
     ensures refusal_counts { (result ≡ 0) ⊎ (result ≡ 2) → SameCounts (D.state desk.old) (D.state desk.new) }
-    ensures refuses { (order : Order) (files : Slot → List ℕ) → Says words.now order → HoldsFiles order files (D.state desk.old) →
-        (fault : Fault) → IsFirstFault order files fault → NoneRose (D.state desk.old) (D.state desk.new) → (result ≡ 2) ⊎ (result ≡ 5) }
+    ensures refuses { (request : Request) (files : Slot → List ℕ) → Asks words.now request → Reads request files (D.state desk.old) →
+        (fault : Fault) → IsRunFault request files fault → NoneRose (D.state desk.old) (D.state desk.new) → (result ≡ 2) ⊎ (result ≡ 5) }
 
     // Causes of faults of the outside.
     ensures input_fault { result ≡ 3 → SomeRose IsInput (D.state desk.old) (D.state desk.new) }
@@ -80,18 +87,18 @@ pub fn run<D: Desk>(alloc: Global, words: &[Word], desk: &mut D) -> u8
         (D.state desk.old slot).faults < (D.state desk.new slot).faults → (result ≡ 4) ⊎ (result ≡ 5) }
 
     // What stands in the outputs.
-    ensures prefixes { (order : Order) (files : Slot → List ℕ) → Says words.now order → HoldsFiles order files (D.state desk.old) →
-        HoldsPrefixes order files (D.state desk.old) (D.state desk.new) }
-    ensures untouched { (result ≡ 1) ⊎ (result ≡ 3) →
-        (D.state desk.new Console).written ≡ (D.state desk.old Console).written }
+    ensures prefixes { (request : Request) (files : Slot → List ℕ) → Asks words.now request → Reads request files (D.state desk.old) →
+        HasWritten request files (D.state desk.old) (D.state desk.new) }
+    ensures untouched { (result ≡ 1) ⊎ (result ≡ 2) ⊎ (result ≡ 3) ⊎ (result ≡ 5) → SameDesign (D.state desk.old) (D.state desk.new) }
+    ensures silent { (result ≡ 1) ⊎ (result ≡ 3) ⊎ (result ≡ 5) → D.state desk.new Console ≡ D.state desk.old Console }
 
     // Completeness.
-    ensures complete { (order : Order) (files : Slot → List ℕ) → Says words.now order → HoldsFiles order files (D.state desk.old) →
-        HasNoFault order files → NoneRose (D.state desk.old) (D.state desk.new) → (result ≡ 0) ⊎ (result ≡ 5) }
+    ensures complete { (request : Request) (files : Slot → List ℕ) → Asks words.now request → Reads request files (D.state desk.old) →
+        HasNoFault request files → NoneRose (D.state desk.old) (D.state desk.new) → (result ≡ 0) ⊎ (result ≡ 5) }
 
     // The texts of the command.
-    ensures done { result ≡ 0 → (order : Order) (files : Slot → List ℕ) → Says words.now order → HoldsFiles order files (D.state desk.old) →
-        HasDone order files (D.state desk.old) (D.state desk.new) }
+    ensures done { result ≡ 0 → (request : Request) (files : Slot → List ℕ) → Asks words.now request → Reads request files (D.state desk.old) →
+        HasDone request files (D.state desk.old) (D.state desk.new) }
 {
     status_of(run_words(alloc, words, desk))
 }

@@ -1,5 +1,5 @@
 -- The order that a parse finds is that of the words.
-use Rattle.std.proofs.Common.{◌≡◌, true, false, Bool, cond, List, [], ◌∷◌, map, codes, Option, Some, None, is_some, refl, sym, ap, ◌∙◌}
+use Rattle.std.proofs.Common.{◌≡◌, true, false, Bool, cond, not, ◌&&◌, List, [], ◌∷◌, ◌++◌, length, map, codes, Option, Some, None, is_some, refl, sym, ap, ap₂, ◌∙◌}
 use Rattle.std.specs.Prelude.{unwrap_or, option_map}
 use Rattle.clap.proofs.WalkLemmas.{raw_values-rows}
 use Rattle.clap.specs.Matches.{found_of}
@@ -13,19 +13,57 @@ use Rattle.scan_words.specs.declared.verb.Verb.TheVariants.{Rewire, Trace}
 use Rattle.std.specs.Str.{bytes_eq}
 use Rattle.std.proofs.lemmas.Slice.Eq.{bytes_eq-Decides}
 use Rattle.scan_words.specs.Command.{program, raw_of}
-use Rattle.scan_words.specs.Form.{◌>>=◌, Text, Part, each_value, values_of, parts_from, verb_name, option_names, takes_further, verb_of, order_by, verb_order, order_in, have_parts}
+use Rattle.scan_words.specs.Form.{◌>>=◌, Text, only_if, Part, values_of, parts_from, have_parts}
+use Rattle.scan_words.specs.declared.table.Need.{Need}
+use Rattle.scan_words.specs.declared.table.Need.TheVariants.{Needed, Optional, With}
+use Rattle.scan_words.specs.declared.table.OptionForm.{OptionForm}
+use Rattle.scan_words.specs.declared.table.ValueForm.{ValueForm}
+use Rattle.scan_words.specs.declared.table.ValueForm.TheVariants as forms
+use Rattle.scan_words.specs.Table.{Values, option_text, value_form, has_form, is_given, may_lack, may_stand, value_among, option_value, value_list, each_value, is_like, values_like, are_distinct, are_apart}
+use Rattle.scan_words.specs.Orders.{options_of, values_by, is_count, verb_name, option_names, takes_further, verb_of, order_by, verb_order, order_in}
 use Rattle.scan_words.proofs.Found.{values_in, values_in-parts}
 use Rattle.scan_words.proofs.Sim.{add_parts}
 use Rattle.scan_words.proofs.Top.{taken, matched, parts_exist}
 
-each_same : (f g : Text → List Text) → ((name : Text) → f name ≡ g name) → (names : List Text) → each_value f names ≡ each_value g names
-unfolding each_value
-each_same f g same [] = refl
-each_same f g same (n ∷ ns) = rw (same n, each_same f g same ns) refl
+-- what the words are found to say hangs on the values of each name alone
+module _ (f g : Values) (same : (name : Text) → f name ≡ g name) where
+  lack_same : (need : Need) → may_lack need f ≡ may_lack need g
+  lack_same Needed = refl
+  lack_same Optional = refl
+  lack_same (With other) = ap (λ (vs : List Text). not (is_given vs)) (same (option_text other))
 
-pub order_same : (verb : Verb) (f g : Text → List Text) → ((name : Text) → f name ≡ g name) → order_by verb f ≡ order_by verb g
-unfolding order_by
-order_same verb f g same = rw (each_same f g same (option_names verb), same (codes "further")) refl
+  stand_same : (need : Need) → may_stand need f ≡ may_stand need g
+  stand_same Needed = refl
+  stand_same Optional = refl
+  stand_same (With other) = ap is_given (same (option_text other))
+
+  among_same : (o : OptionForm) (vs : List Text) → value_among o f vs ≡ value_among o g vs
+  among_same o [] = ap (λ (b : Bool). cond b (Some None) None) (lack_same o.need)
+  among_same o (v ∷ []) = ap (λ (b : Bool). cond (b && has_form (value_form o.name) v) (Some (Some v)) None) (stand_same o.need)
+  among_same o (v ∷ w ∷ ws) = refl
+
+  value_same : (o : OptionForm) → option_value o f ≡ option_value o g
+  value_same o = ap (value_among o f) (same (option_text o.name)) ∙ among_same o (g (option_text o.name))
+
+  each_same : (table : List OptionForm) → each_value f table ≡ each_value g table
+  unfolding each_value
+  each_same [] = refl
+  each_same (o ∷ os) = ap₂ (λ (v : Option (Option Text)) (vs : Option (List Text)). v >>= λ value. vs >>= λ others. Some (value_list value ++ others)) (value_same o) (each_same os)
+
+  like_same : (form : ValueForm) (table : List OptionForm) → values_like form f table ≡ values_like form g table
+  like_same form [] = refl
+  like_same form (o ∷ os) = ap₂ (λ (xs ys : List Text). cond (is_like form (value_form o.name)) xs [] ++ ys) (same (option_text o.name)) (like_same form os)
+
+  apart_same : (table : List OptionForm) → are_apart f table ≡ are_apart g table
+  apart_same table = ap₂ (λ (xs ys : List Text). are_distinct xs && are_distinct ys) (like_same forms.File table) (like_same forms.Pin table)
+
+  by_same : (table : List OptionForm) → values_by f table ≡ values_by g table
+  by_same table = ap₂ (λ (o : Option (List Text)) (b : Bool). o >>= λ given. only_if b >>= λ apart. Some given) (each_same table) (apart_same table)
+
+  pub order_same : (verb : Verb) → order_by verb f ≡ order_by verb g
+  unfolding order_by
+  order_same verb = ap₂ (λ (o : Option (List Text)) (xs : List Text). o >>= λ given. only_if (is_count (takes_further verb) (length xs)) >>= λ count. Some (record { verb = verb; values = given; further = xs }))
+      (by_same (options_of verb)) (same (codes "further"))
 
 pub found_values : (m : ArgMatches) (parts : List Part) → rows_of (found_of m) ≡ add_parts [] parts → (name : Text) → raw_of m name ≡ values_of name parts
 found_values m parts rows name =
@@ -56,7 +94,7 @@ pub clap_agrees : (verb : Verb) (words : List Text) (m : ArgMatches) → have_pa
 clap_agrees verb words m fact found =
     let parts = some_parts verb words fact in
     let rows : rows_of (found_of m) ≡ add_parts [] parts.0 = same_Some _ _ (sym found ∙ ap (option_map (λ p. p.1)) (matched verb words parts.0 parts.1)) in
-    order_same verb (raw_of m) (λ name. values_of name parts.0) (found_values m parts.0 rows) ∙ sym (with_parts verb words parts.0 parts.1)
+    order_same (raw_of m) (λ name. values_of name parts.0) (found_values m parts.0 rows) verb ∙ sym (with_parts verb words parts.0 parts.1)
 
 -- and it refuses none of them
 pub clap_takes : (verb : Verb) (words : List Text) → have_parts (option_names verb) (takes_further verb) false words ≡ true → takes program (verb_name verb ∷ words) ≡ true

@@ -12,7 +12,8 @@ use Rattle.scan_words.specs.declared.form.WordKind.TheVariants as kinds
 use Rattle.scan_words.specs.declared.verb.Verb.{Verb}
 use Rattle.scan_words.specs.declared.verb.Verb.TheVariants.{Rewire, Trace}
 use Rattle.scan_words.specs.Command.{program}
-use Rattle.scan_words.specs.Form.{Text, Part, is_name, is_value, word_kind, long_kind, kind_turn, turn, have_parts, with_part, word_parts, parts_from, verb_name, option_names, takes_further}
+use Rattle.scan_words.specs.Form.{Text, Part, is_name, is_value, word_kind, long_kind, kind_turn, turn, have_parts, with_part, word_parts, parts_from}
+use Rattle.scan_words.specs.Orders.{verb_name, option_names, takes_further}
 use Rattle.scan_words.proofs.Rules.{Finds, finds}
 use Rattle.scan_words.proofs.Steps.{walk_at}
 use Rattle.scan_words.proofs.Sim.{Goes, add_parts, follows}

@@ -13,7 +13,8 @@ use Rattle.scan_words.specs.declared.order.Order.{Order}
 use Rattle.scan_words.specs.declared.form.WordKind.TheVariants as kinds
 use Rattle.scan_words.specs.declared.verb.Verb.{Verb}
 use Rattle.scan_words.specs.declared.verb.Verb.TheVariants.{Rewire, Trace}
-use Rattle.scan_words.specs.Form.{◌>>=◌, Text, Part, is_name, is_value, word_kind, long_kind, with_part, word_parts, parts_from, verb_name, option_names, takes_further, verb_of, values_of, each_value, only_if, is_count, are_apart, order_by, verb_order, order_in}
+use Rattle.scan_words.specs.Form.{◌>>=◌, Text, Part, is_name, is_value, word_kind, long_kind, with_part, word_parts, parts_from, values_of, only_if}
+use Rattle.scan_words.specs.Orders.{options_of, values_by, verb_name, option_names, takes_further, verb_of, is_count, order_by, verb_order, order_in}
 use Rattle.scan_words.proofs.Orders.{verb_word}
 use Rattle.scan_words.proofs.Sim.{part_first}
 use Rattle.scan_words.specs.Written.{dashed, attached, IsSpelled, AreSpelled, Says}
@@ -265,21 +266,15 @@ says_read words order s =
 -- an order keeps the command that it is made for
 order_verb : (verb : Verb) (values : Text → List Text) (order : Order) → order_by verb values ≡ Some order → verb ≡ order.verb
 unfolding order_by
-order_verb verb values order h = found (each_value values (option_names verb)) h
+order_verb verb values order h = found (values_by values (options_of verb)) h
   where
-    counted : (c : Option (Unit {0})) (options : List Text) → (c >>= λ count. Some (record { verb = verb; values = options; further = values (codes "further") })) ≡ Some order → verb ≡ order.verb
-    counted None options k = absurd cc
-    counted (Some done) options k = ap (λ (o : Order). o.verb) (same_Some _ _ k)
+    counted : (c : Option (Unit {0})) (given : List Text) → (c >>= λ counted. Some (record { verb = verb; values = given; further = values (codes "further") })) ≡ Some order → verb ≡ order.verb
+    counted None given k = absurd cc
+    counted (Some done) given k = ap (λ (o : Order). o.verb) (same_Some _ _ k)
 
-    kept : (a : Option (Unit {0})) (options : List Text)
-        → (a >>= λ apart. only_if (is_count (takes_further verb) (length (values (codes "further")))) >>= λ count. Some (record { verb = verb; values = options; further = values (codes "further") })) ≡ Some order → verb ≡ order.verb
-    kept None options k = absurd cc
-    kept (Some done) options k = counted (only_if (is_count (takes_further verb) (length (values (codes "further"))))) options k
-
-    found : (o : Option (List Text))
-        → (o >>= λ options. only_if (are_apart verb options) >>= λ apart. only_if (is_count (takes_further verb) (length (values (codes "further")))) >>= λ count. Some (record { verb = verb; values = options; further = values (codes "further") })) ≡ Some order → verb ≡ order.verb
+    found : (o : Option (List Text)) → (o >>= λ given. only_if (is_count (takes_further verb) (length (values (codes "further")))) >>= λ counted. Some (record { verb = verb; values = given; further = values (codes "further") })) ≡ Some order → verb ≡ order.verb
     found None k = absurd cc
-    found (Some options) k = kept (only_if (are_apart verb options)) options k
+    found (Some given) k = counted (only_if (is_count (takes_further verb) (length (values (codes "further"))))) given k
 
 -- what is read off the words they say
 parts_say : (verb : Verb) (behind : List Text) (order : Order) (o : Option (List Part)) → parts_from (option_names verb) (takes_further verb) None behind ≡ o

@@ -8,7 +8,7 @@ use Rattle.clap.specs.Simple.{App, Shape, new_app, new_rule, on_top, with_subcom
 use Rattle.clap.specs.Walk.{Rule, Text}
 use Rattle.scan_words.specs.declared.verb.Verb.{Verb}
 use Rattle.scan_words.specs.declared.verb.Verb.TheVariants.{Rewire, Trace}
-use Rattle.scan_words.specs.Form.{verb_name, option_names, takes_further}
+use Rattle.scan_words.specs.Orders.{verb_name, option_names, takes_further}
 use Rattle.clap.specs.declared.builder.action.ArgAction.TheVariants.{Append}
 
 abbrev pub bare_option : Text → Rule

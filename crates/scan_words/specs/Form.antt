@@ -4,9 +4,6 @@ use Rattle.std.specs.List.{list_any}
 use Rattle.std.specs.Option.{option_map_or}
 use Rattle.std.specs.Str.{bytes_eq}
 use Rattle.clap.specs.Lexer.{long_of}
-use Rattle.scan_words.specs.declared.order.Order.{Order}
-use Rattle.scan_words.specs.declared.verb.Verb.{Verb}
-use Rattle.scan_words.specs.declared.verb.Verb.TheVariants.{Rewire, Trace}
 use Rattle.scan_words.specs.declared.form.WordKind.{WordKind}
 use Rattle.scan_words.specs.declared.form.WordKind.TheVariants as kinds
 
@@ -63,63 +60,6 @@ parts_from names takes (Some name) (w ∷ ws) = if is_value w then with_part (na
 abbrev pub values_of : Text → List Part → List Text
 values_of name [] = []
 values_of name (p ∷ ps) = if bytes_eq p.0 name then p.1 ∷ values_of name ps else values_of name ps
-
--- the one value of each name
-abbrev pub only_value : List Text → Option Text
-only_value (v ∷ []) = Some v
-only_value _ = None
-
-unfoldable pub each_value : (Text → List Text) → List Text → Option (List Text)
-each_value values [] = Some []
-each_value values (name ∷ names) = do
-  value ← only_value (values name)
-  others ← each_value values names
-  Some (value ∷ others)
-
-abbrev pub option_names : Verb → List Text
-option_names Rewire = codes "verilog" ∷ codes "cell" ∷ codes "in-pin" ∷ codes "out-pin" ∷ codes "scan-in" ∷ codes "scan-out" ∷ codes "out-verilog" ∷ []
-option_names Trace = codes "table" ∷ codes "verilog" ∷ codes "scan-out" ∷ []
-
-abbrev pub takes_further : Verb → Bool
-takes_further Rewire = true
-takes_further Trace = false
-
--- as many further words as the command takes: none, or one or more
-abbrev pub is_count : Bool → ℕ → Bool
-is_count true n = not (n == 0)
-is_count false n = n == 0
-
--- the in pin and the out pin differ, and so do the files
-abbrev pub are_apart : Verb → List Text → Bool
-are_apart Rewire (verilog ∷ cell ∷ in_pin ∷ out_pin ∷ scan_in ∷ scan_out ∷ out_verilog ∷ []) = not (bytes_eq in_pin out_pin) && not (bytes_eq verilog out_verilog)
-are_apart Trace (table ∷ verilog ∷ scan_out ∷ []) = not (bytes_eq table verilog)
-are_apart verb values = false
-
--- the order of these values, by their names
-unfoldable pub order_by : Verb → (Text → List Text) → Option Order
-order_by verb values = do
-  options ← each_value values (option_names verb)
-  apart ← only_if (are_apart verb options)
-  count ← only_if (is_count (takes_further verb) (length (values (codes "further"))))
-  Some (record { verb = verb; values = options; further = values (codes "further") })
-
-abbrev pub verb_name : Verb → Text
-verb_name Rewire = codes "rewire"
-verb_name Trace = codes "trace"
-
-unfoldable pub verb_of : Text → Option Verb
-verb_of word = if bytes_eq word (codes "rewire") then Some Rewire else (if bytes_eq word (codes "trace") then Some Trace else None)
-
--- the order that the words behind a command say
-unfoldable pub verb_order : Verb → List Text → Option Order
-verb_order verb words = do
-  parts ← parts_from (option_names verb) (takes_further verb) None words
-  order_by verb (λ name. values_of name parts)
-
--- the order that the words of a written form say
-unfoldable pub order_in : List Text → Option Order
-order_in [] = None
-order_in (command ∷ words) = verb_of command >>= λ verb. verb_order verb words
 
 -- whether a word may stand, and whether an option waits for its value behind it
 abbrev pub kind_turn : Bool → WordKind → Option Bool

@@ -1,12 +1,16 @@
-ghost use Rattle.std.specs.Prelude.{◌≡◌, ◌↔◌, Some, IfOk, false, map, option_map, codes, drop, true, ◌∷◌};
+ghost use Rattle.std.specs.Prelude.{◌≡◌, ◌↔◌, Some, IfOk, false, codes, drop, true, ◌∷◌};
 ghost use Rattle.clap.specs.Words.{app_of, rule_of};
 ghost use Rattle.scan_words.specs.declared.order.Order.{Order};
 ghost use Rattle.scan_words.specs.Written.{Says};
 ghost use Rattle.scan_words.specs.Command.{bare_option, bare_further, app_for, app_of_verb, program, IsLocal, raw_of};
-ghost use Rattle.scan_words.specs.Form.{only_value, each_value, verb_name, option_names, takes_further, have_parts, are_apart, order_by, verb_order, order_in};
+ghost use Rattle.scan_words.specs.Form.{have_parts};
+ghost use Rattle.scan_words.specs.Table.{texts};
+ghost use Rattle.scan_words.specs.Orders.{verb_name, option_names, takes_further, order_by, verb_order, order_in};
 
 use crate::form::have_parts;
 use crate::order::Order;
+use crate::table::OptionForm;
+use crate::values::values_by;
 use crate::verb::Verb;
 use base_types::{NoMemory, Rows, Word};
 use clap::error::ErrorKind;
@@ -29,19 +33,19 @@ fn further_arg<'a>(alloc: Global) -> Arg<'a>
     Arg::new(alloc, "further").action(ArgAction::Append)
 }
 
-/// The command of this name, with options of these names.
-fn command_of<'a>(
+/// The command of this name, with the options of a table.
+pub(crate) fn command_of<'a>(
     alloc: Global,
     name: &'a str,
-    names: &[&'a str],
+    table: &[OptionForm],
     takes_further: bool,
 ) -> Result<Command<'a>, AllocError>
-    ensures app { IfOk result (λ command. app_of command ≡ app_for name.entry.now (map (λ n. n.now) names.now) takes_further) }
+    ensures app { IfOk result (λ command. app_of command ≡ app_for name.entry.now (texts table.now) takes_further) }
     ensures local { IfOk result IsLocal }
 {
     let mut command = Command::new(alloc, name);
-    for name in names {
-        command = command.arg(option_of(alloc, *name))?;
+    for option in table {
+        command = command.arg(option_of(alloc, option.name.text()))?;
     }
     if takes_further {
         command = command.arg(further_arg(alloc))?;
@@ -53,12 +57,7 @@ fn verb_command<'a>(alloc: Global, verb: Verb) -> Result<Command<'a>, AllocError
     ensures app { IfOk result (λ command. app_of command ≡ app_of_verb verb) }
     ensures local { IfOk result IsLocal }
 {
-    command_of(
-        alloc,
-        verb.name(),
-        verb.option_names(),
-        verb.takes_further(),
-    )
+    command_of(alloc, verb.name(), verb.options(), verb.takes_further())
 }
 
 /// The program, with a subcommand for each command.
@@ -76,34 +75,6 @@ fn program<'a>(alloc: Global) -> Result<Command<'a>, AllocError>
     Ok(command)
 }
 
-/// The value of an option that is given once.
-fn only_value<'m>(matches: &'m ArgMatches<'_>, name: &str) -> Option<&'m str>
-    ensures { option_map (λ value. value.now) result ≡ only_value (raw_of matches.now name.now) }
-{
-    match matches.get_strs(name) {
-        Some([value]) => Some(*value),
-        _ => None,
-    }
-}
-
-/// The one value of each name.
-fn values_of(
-    alloc: Global,
-    names: &[&str],
-    matches: &ArgMatches<'_>,
-) -> Result<Option<Rows<Word>>, NoMemory>
-    ensures { IfOk result (λ values. values ≡ each_value (raw_of matches.now) (map (λ name. name.now) names.now)) }
-{
-    let mut values = Rows::new(alloc);
-    for name in names {
-        let Some(value) = only_value(matches, *name) else {
-            return Ok(None);
-        };
-        values.push(Word::copy(alloc, value)?)?;
-    }
-    Ok(Some(values))
-}
-
 fn further_of(alloc: Global, matches: &ArgMatches<'_>) -> Result<Rows<Word>, NoMemory>
     ensures { IfOk result (λ further. further ≡ raw_of matches.now (codes "further")) }
 {
@@ -117,29 +88,13 @@ fn further_of(alloc: Global, matches: &ArgMatches<'_>) -> Result<Rows<Word>, NoM
     Ok(further)
 }
 
-/// Whether the values are apart that are to differ.
-fn are_apart(verb: Verb, values: &[Word]) -> bool
-    ensures { result ≡ are_apart verb values.now }
-{
-    match (verb, values) {
-        (Verb::Rewire, [verilog, _, in_pin, out_pin, _, _, out_verilog]) => {
-            in_pin.as_str() != out_pin.as_str() && verilog.as_str() != out_verilog.as_str()
-        }
-        (Verb::Trace, [table, verilog, _]) => table.as_str() != verilog.as_str(),
-        (Verb::Rewire | Verb::Trace, _) => false,
-    }
-}
-
-#[tactic(auto, unfolding(crate::specs::Form::order_by))]
+#[tactic(auto, unfolding(crate::specs::Orders::order_by))]
 fn order_of(alloc: Global, verb: Verb, matches: &ArgMatches<'_>) -> Result<Option<Order>, NoMemory>
     ensures { IfOk result (λ order. order ≡ order_by verb (raw_of matches.now)) }
 {
-    let Some(values) = values_of(alloc, verb.option_names(), matches)? else {
+    let Some(values) = values_by(alloc, verb.options(), matches)? else {
         return Ok(None);
     };
-    if !are_apart(verb, values.as_slice()) {
-        return Ok(None);
-    }
     let further = further_of(alloc, matches)?;
     if further.as_slice().is_empty() == verb.takes_further() {
         return Ok(None);
@@ -169,7 +124,7 @@ fn parsed(alloc: Global, verb: Verb, words: &[Word]) -> Result<Option<Order>, No
 }
 
 /// The order that the words say, or None exactly where they are of no written form.
-#[tactic(auto, unfolding(crate::specs::Form::order_in))]
+#[tactic(auto, unfolding(crate::specs::Orders::order_in))]
 pub fn read_words(alloc: Global, words: &[Word]) -> Result<Option<Order>, NoMemory>
     ensures value { IfOk result (λ order. order ≡ order_in words.now) }
     ensures form { (order : Order) → (Says words.now order ↔ order_in words.now ≡ Some order) }
@@ -180,7 +135,7 @@ pub fn read_words(alloc: Global, words: &[Word]) -> Result<Option<Order>, NoMemo
     let Some(verb) = Verb::of(command.as_str()) else {
         return Ok(None);
     };
-    if !have_parts(verb.option_names(), verb.takes_further(), behind) {
+    if !have_parts(verb.options(), verb.takes_further(), behind) {
         return Ok(None);
     }
     parsed(alloc, verb, words)

@@ -1,5 +1,7 @@
-ghost use Rattle.std.specs.Prelude.{◌≡◌, map};
-ghost use Rattle.scan_words.specs.Form.{verb_name, option_names, takes_further, verb_of};
+ghost use Rattle.std.specs.Prelude.{◌≡◌};
+ghost use Rattle.scan_words.specs.Orders.{verb_name, options_of, takes_further, verb_of};
+
+use crate::table::{Need, OptionForm, OptionName};
 
 /// A command.
 #[derive(Clone, Copy, Debug, PartialEq, Eq)]
@@ -10,20 +12,54 @@ pub enum Verb {
     Trace,
 }
 
-static REWIRE: [&str; 7] = [
-    "verilog",
-    "cell",
-    "in-pin",
-    "out-pin",
-    "scan-in",
-    "scan-out",
-    "out-verilog",
+static REWIRE: [OptionForm; 7] = [
+    OptionForm {
+        name: OptionName::Verilog,
+        need: Need::Needed,
+    },
+    OptionForm {
+        name: OptionName::Cell,
+        need: Need::Needed,
+    },
+    OptionForm {
+        name: OptionName::InPin,
+        need: Need::Needed,
+    },
+    OptionForm {
+        name: OptionName::OutPin,
+        need: Need::Needed,
+    },
+    OptionForm {
+        name: OptionName::ScanIn,
+        need: Need::Needed,
+    },
+    OptionForm {
+        name: OptionName::ScanOut,
+        need: Need::Needed,
+    },
+    OptionForm {
+        name: OptionName::OutVerilog,
+        need: Need::Needed,
+    },
 ];
 
-static TRACE: [&str; 3] = ["table", "verilog", "scan-out"];
+static TRACE: [OptionForm; 3] = [
+    OptionForm {
+        name: OptionName::Table,
+        need: Need::Needed,
+    },
+    OptionForm {
+        name: OptionName::Verilog,
+        need: Need::Needed,
+    },
+    OptionForm {
+        name: OptionName::ScanOut,
+        need: Need::Needed,
+    },
+];
 
 impl Verb {
-    #[tactic(auto, unfolding(crate::specs::Form::verb_of))]
+    #[tactic(auto, unfolding(crate::specs::Orders::verb_of))]
     pub(crate) fn of(word: &str) -> Option<Verb>
         ensures { result ≡ verb_of word.now }
     {
@@ -46,9 +82,9 @@ impl Verb {
         }
     }
 
-    /// The names of the options, in the order of their values.
-    pub(crate) fn option_names<'a>(self) -> &'a [&'a str]
-        ensures { map (λ name. name.now) result.now ≡ option_names self }
+    /// The table of the options, in the order of their values.
+    pub(crate) fn options<'a>(self) -> &'a [OptionForm]
+        ensures { result.now ≡ options_of self }
     {
         match self {
             Verb::Rewire => REWIRE.as_slice(),

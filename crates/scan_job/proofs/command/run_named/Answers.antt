@@ -5,8 +5,7 @@ use Rattle.desk_io.specs.declared.names.Names.{Names}
 use Rattle.desk_io.specs.Prefixes.{IsTooLarge, HasFailedToTake, HasRunOut}
 use Rattle.desk_io.specs.declared.inputs.InputsFault.{InputsFault}
 use Rattle.desk_io.specs.Inputs.{limit_of, HasTakenInputs, HasStoppedAt, HasStopped}
-use Rattle.scan_job.specs.Commands.{names_of}
-use Rattle.scan_job.specs.FirstFault.{size_fault}
+use Rattle.scan_job.specs.Faults.{size_fault}
 use Rattle.scan_job.specs.Phases.{HasSaid}
 use Rattle.scan_job.proofs.Phases.{small_input, finished, input_failed, inputs_ran_out, found_large, said_ended}
 use Rattle.scan_job.proofs.command.run_named.Goals as goal
@@ -16,7 +15,7 @@ finish-requires-clause-small g c =
     let a = g.D.Desk.state c.args.desk.now in
     let b = g.D.Desk.state c.take_inputs.new.desk in
     let taken = subst (λ (names : Names). HasTakenInputs names 5 c.in-Ok.inputs a b) c.requires.named c.in-Ok.ensures.ok in
-    let small = small_input c.args.order.now c.in-Ok.inputs a b taken Verilog tt in
+    let small = small_input c.args.request.now c.in-Ok.inputs a b taken Verilog tt in
     omega (arith, small)
 
 pub returns-in-Ok : goal.returns-in-Ok
@@ -24,7 +23,7 @@ returns-in-Ok g c =
     let a = g.D.Desk.state c.args.desk.now in
     let b = g.D.Desk.state c.take_inputs.new.desk in
     let taken = subst (λ (names : Names). HasTakenInputs names 5 c.in-Ok.inputs a b) c.requires.named c.in-Ok.ensures.ok in
-    record { ended = finished c.args.order.now c.in-Ok.inputs a b (g.D.Desk.state c.finish.new.desk) c.requires.unopened taken c.finish.result c.finish.ensures.ended }
+    record { ended = finished c.args.request.now c.in-Ok.inputs a b (g.D.Desk.state c.finish.new.desk) c.requires.unopened taken c.finish.result c.finish.ensures.ended }
 
 pub returns-in-Err-TooLarge : goal.returns-in-Err-TooLarge
 returns-in-Err-TooLarge g c =
@@ -33,9 +32,8 @@ returns-in-Err-TooLarge g c =
     let after = g.D.Desk.state c.refuse.new.desk in
     let slot = c.in-Err-TooLarge.slot in
     let stopped = subst (λ (names : Names). HasStoppedAt names slot a b (IsTooLarge (limit_of slot))) c.requires.named (subst (λ (fault : InputsFault). HasStopped c.args.names.now a b (Err fault)) c.in-Err-TooLarge.field-0-is c.in-Err-TooLarge.ensures.stopped) in
-    let said = subst (λ (names : Names). HasSaid names c.size_fault.result b after c.refuse.result) c.requires.named c.refuse.ensures.ended in
-    let said_it = subst (λ (fault : Fault). HasSaid (names_of c.args.order.now) fault b after c.refuse.result) c.size_fault.ensures.value said in
-    record { ended = said_ended c.args.order.now (size_fault slot) a b after (found_large c.args.order.now slot a b c.requires.unopened stopped) c.refuse.result said_it }
+    let said = subst (λ (fault : Fault). HasSaid c.args.request.now fault b after c.refuse.result) c.size_fault.ensures.value c.refuse.ensures.ended in
+    record { ended = said_ended c.args.request.now (size_fault slot) a b after (found_large c.args.request.now slot a b c.requires.unopened stopped) c.refuse.result said }
 
 pub returns-in-Err-Read : goal.returns-in-Err-Read
 returns-in-Err-Read g c =
@@ -43,7 +41,7 @@ returns-in-Err-Read g c =
     let b = g.D.Desk.state c.take_inputs.new.desk in
     let at = subst (λ (fault : InputsFault). HasStopped c.args.names.now a b (Err fault)) c.in-Err-Read.field-0-is c.in-Err-Read.ensures.stopped in
     let stopped = subst (λ (names : Names). HasStoppedAt names at.0 a b HasFailedToTake) c.requires.named at.1 in
-    record { ended = input_failed c.args.order.now at.0 a b stopped }
+    record { ended = input_failed c.args.request.now at.0 a b stopped }
 
 pub returns-in-Err-NoMemory : goal.returns-in-Err-NoMemory
 returns-in-Err-NoMemory g c =
@@ -51,4 +49,4 @@ returns-in-Err-NoMemory g c =
     let b = g.D.Desk.state c.take_inputs.new.desk in
     let at = subst (λ (fault : InputsFault). HasStopped c.args.names.now a b (Err fault)) c.in-Err-NoMemory.field-0-is c.in-Err-NoMemory.ensures.stopped in
     let stopped = subst (λ (names : Names). HasStoppedAt names at.0 a b HasRunOut) c.requires.named at.1 in
-    record { ended = inputs_ran_out c.args.order.now at.0 a b stopped }
+    record { ended = inputs_ran_out c.args.request.now at.0 a b stopped }

@@ -1,3 +1,4 @@
+use Rattle.scan_job.proofs.Asked.{asked}
 use Rattle.scan_job.proofs.TopClauses as top
 use Rattle.scan_job.proofs.top.run.Goals as goal
 
@@ -7,17 +8,26 @@ returns-clause-no_form g c = top.no_form _ _ _ _ _ c.status_of.ensures.value c.r
 pub returns-clause-unopened : goal.returns-clause-unopened
 returns-clause-unopened g c = top.unopened _ _ _ _ c.run_words.ensures.ended
 
+pub returns-clause-asked : goal.returns-clause-asked
+returns-clause-asked g c order says = let a = asked c.args.words.now order says in (a.request, a.order_is)
+
+pub returns-clause-untouched : goal.returns-clause-untouched
+returns-clause-untouched g c = top.untouched _ _ _ _ _ c.status_of.ensures.value c.run_words.ensures.ended
+
+pub returns-clause-silent : goal.returns-clause-silent
+returns-clause-silent g c = top.silent _ _ _ _ _ c.status_of.ensures.value c.run_words.ensures.ended
+
 pub returns-clause-refusal : goal.returns-clause-refusal
-returns-clause-refusal g c two order files says holds = top.refusal _ _ _ order says files holds _ _ c.status_of.ensures.value c.run_words.ensures.ended two
+returns-clause-refusal g c two request files says holds = top.refusal _ _ _ request says files holds _ _ c.status_of.ensures.value c.run_words.ensures.ended two
 
 pub returns-clause-refuses : goal.returns-clause-refuses
-returns-clause-refuses g c order files says holds = top.refuses _ _ _ order says files holds _ _ c.status_of.ensures.value c.run_words.ensures.ended
+returns-clause-refuses g c request files says holds = top.refuses _ _ _ request says files holds _ _ c.status_of.ensures.value c.run_words.ensures.ended
 
 pub returns-clause-prefixes : goal.returns-clause-prefixes
-returns-clause-prefixes g c order files says holds = top.prefixes _ _ _ order says files holds _ c.run_words.ensures.ended
+returns-clause-prefixes g c request files says holds = top.prefixes _ _ _ request says files holds _ c.run_words.ensures.ended
 
 pub returns-clause-complete : goal.returns-clause-complete
-returns-clause-complete g c order files says holds = top.complete _ _ _ order says files holds _ _ c.status_of.ensures.value c.run_words.ensures.ended
+returns-clause-complete g c request files says holds = top.complete _ _ _ request says files holds _ _ c.status_of.ensures.value c.run_words.ensures.ended
 
 pub returns-clause-done : goal.returns-clause-done
-returns-clause-done g c zero order files says holds = top.all_done _ _ _ order says files holds _ _ c.status_of.ensures.value c.run_words.ensures.ended zero
+returns-clause-done g c zero request files says holds = top.all_done _ _ _ request says files holds _ _ c.status_of.ensures.value c.run_words.ensures.ended zero

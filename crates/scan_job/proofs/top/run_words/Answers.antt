@@ -1,17 +1,33 @@
-use Rattle.std.proofs.Common.{◌≡◌, None, refl, sym, ◌∙◌}
-use Rattle.scan_words.specs.Form.{order_in}
-use Rattle.scan_job.proofs.Fits.{fits}
+use Rattle.std.proofs.Common.{◌≡◌, ℕ, List, None, refl, sym, ◌∙◌, subst}
+use Rattle.scan_words.specs.declared.order.Order.{Order}
+use Rattle.scan_words.specs.Orders.{order_in}
+use Rattle.scan_words.specs.Written.{Says}
+use Rattle.scan_job.specs.declared.request.Request.{Request}
+use Rattle.scan_job.specs.Requests.{Asks, order_of}
+use Rattle.scan_job.proofs.Asked.{asked, pins_apart}
 use Rattle.scan_job.proofs.top.run_words.Goals as goal
 
-pub run_order-requires-clause-allowed : goal.run_order-requires-clause-allowed
-run_order-requires-clause-allowed g c =
-    let order = c.in-Ok-Some.order in
-    c.requires.allowed order ((c.read_words.ensures.form order).1 (sym c.in-Ok-Some.ensures.value ∙ c.in-Ok-Some.field-0-is))
+asks : (words : List (List ℕ)) (order : Order) (request : Request) → Says words order → order_of request ≡ order → Asks words request
+asks words order request says is = subst (Says words) (sym is) says
 
-pub run_order-requires-clause-fit : goal.run_order-requires-clause-fit
-run_order-requires-clause-fit g c =
+pub request_of-requires : goal.request_of-requires
+request_of-requires g c =
     let order = c.in-Ok-Some.order in
-    fits c.args.words.now order ((c.read_words.ensures.form order).1 (sym c.in-Ok-Some.ensures.value ∙ c.in-Ok-Some.field-0-is))
+    record { asked = asked c.args.words.now order ((c.read_words.ensures.form order).1 (sym c.in-Ok-Some.ensures.value ∙ c.in-Ok-Some.field-0-is)) }
+
+pub run_request-requires-clause-pins : goal.run_request-requires-clause-pins
+run_request-requires-clause-pins g c =
+    let order = c.in-Ok-Some.order in
+    let request = c.in-Ok.request in
+    let says = (c.read_words.ensures.form order).1 (sym c.in-Ok-Some.ensures.value ∙ c.in-Ok-Some.field-0-is) in
+    pins_apart request (asked c.args.words.now (order_of request) (asks c.args.words.now order request says c.in-Ok.ensures.value))
+
+pub run_request-requires-clause-allowed : goal.run_request-requires-clause-allowed
+run_request-requires-clause-allowed g c =
+    let order = c.in-Ok-Some.order in
+    let request = c.in-Ok.request in
+    let says = (c.read_words.ensures.form order).1 (sym c.in-Ok-Some.ensures.value ∙ c.in-Ok-Some.field-0-is) in
+    c.requires.allowed request (asks c.args.words.now order request says c.in-Ok.ensures.value)
 
 pub returns-in-Ok-None : goal.returns-in-Ok-None
 returns-in-Ok-None g c = record {

@@ -1,12 +1,15 @@
 use Rattle.std.proofs.Common.{◌∷◌, false, Bool, List, ap, ap₂, sym, ◌∙◌, drop}
-use Rattle.scan_words.specs.Form.{Text, have_parts, verb_of}
+use Rattle.scan_words.specs.Form.{Text, have_parts}
+use Rattle.scan_words.specs.declared.table.OptionForm.{OptionForm}
+use Rattle.scan_words.specs.Table.{texts}
+use Rattle.scan_words.specs.Orders.{verb_of}
 use Rattle.scan_words.proofs.Orders.{verb_word, no_order}
 use Rattle.scan_words.proofs.Written.{form}
 use Rattle.scan_words.proofs.parse.read_words.Goals as goal
 
 pub returns-then-not-have_parts-clause-value : goal.returns-then-not-have_parts-clause-value
 returns-then-not-have_parts-clause-value c =
-    let test = ap₂ (λ (names : List Text) (further : Bool). have_parts names further false c.in-Some.behind.now) c.option_names.ensures c.takes_further.ensures in
+    let test = ap₂ (λ (table : List OptionForm) (further : Bool). have_parts (texts table) further false c.in-Some.behind.now) c.options.ensures c.takes_further.ensures in
     sym (no_order c.args.words.now c.in-Some.command.now c.in-Some.behind.now c.in-Some-of.verb c.in-Some.ensures.cases.0 (ap verb_of (sym c.as_str.ensures.value) ∙ sym c.in-Some-of.ensures) (sym test ∙ sym c.if-not-have_parts.ensures))
 
 pub parsed-requires-clause-command : goal.parsed-requires-clause-command

@@ -1,0 +1,146 @@
+-- Words that say an order say a request, and one at most.
+use Rattle.std.proofs.Common.{◌≡◌, ◌≢◌, ◌==◌, ℕ, Bool, true, false, cond, ◌&&◌, ◌++◌, List, [], ◌∷◌, length, codes, Option, Some, None, refl, sym, ap, ◌∙◌, subst, arith}
+use Rattle.std.specs.Str.{bytes_eq}
+use Rattle.std.proofs.lemmas.Bool.Decides.{nat_tests}
+use Rattle.std.proofs.lemmas.Option.{same_Some}
+use Rattle.std.proofs.lemmas.Slice.Eq.{bytes_eq-Decides}
+use Rattle.scan_words.specs.declared.order.Order.{Order}
+use Rattle.scan_words.specs.declared.verb.Verb.{Verb}
+use Rattle.scan_words.specs.declared.verb.Verb.TheVariants as verbs
+use Rattle.scan_words.specs.declared.table.OptionName.{OptionName}
+use Rattle.scan_words.specs.declared.table.OptionName.TheVariants as options
+use Rattle.scan_words.specs.declared.table.OptionForm.{OptionForm}
+use Rattle.scan_words.specs.Form.{◌>>=◌, Text, only_if, values_of}
+use Rattle.scan_words.specs.Table.{Values, option_text, value_form, has_form, value_among, value_list, each_value, are_distinct, are_apart}
+use Rattle.scan_words.specs.Orders.{needed, options_of, takes_further, is_count, order_by}
+use Rattle.scan_words.specs.Written.{Says}
+use Rattle.scan_job.specs.declared.request.Request.{Request}
+use Rattle.scan_job.specs.declared.request.Request.TheVariants as requests
+use Rattle.scan_job.specs.Requests.{order_of, ArePinsApart, IsAsked}
+
+-- the request of a verb, its values and the further words
+request_by : Verb → List Text → List Text → Request
+request_by verbs.Rewire (a ∷ b ∷ c ∷ d ∷ e ∷ f ∷ g ∷ []) further =
+    requests.Rewire (record { verilog = a; cell = b; in_pin = c; out_pin = d; scan_in = e; scan_out = f; out_verilog = g; units = further })
+request_by verbs.Rewire values further = requests.Trace (record { table = []; verilog = []; scan_out = [] })
+request_by verbs.Trace (a ∷ b ∷ c ∷ []) further = requests.Trace (record { table = a; verilog = b; scan_out = c })
+request_by verbs.Trace values further = requests.Trace (record { table = []; verilog = []; scan_out = [] })
+
+request_back : (request : Request) → request_by (order_of request).verb (order_of request).values (order_of request).further ≡ request
+unfolding request_by
+request_back (requests.Rewire r) = refl
+request_back (requests.Trace r) = refl
+
+-- an order is that of one request at most
+pub order_once : (one other : Request) → order_of one ≡ order_of other → one ≡ other
+order_once one other same = sym (request_back one) ∙ ap (λ (o : Order). request_by o.verb o.values o.further) same ∙ request_back other
+
+-- the values and the further words of a command's order
+abbrev IsMade : Verb → List Text → List Text → Type 0
+IsMade verb values further = IsAsked (record { verb = verb; values = values; further = further })
+
+-- the value of an option that stands, and those behind it
+record First (values : Values) (name : OptionName) (table : List OptionForm) (given : List Text) : Type 0 where
+  value : Text
+  rest : List Text
+  is : values (option_text name) ≡ value ∷ []
+  others : each_value values table ≡ Some rest
+  same : given ≡ value ∷ rest
+
+module _ (values : Values) (name : OptionName) (table : List OptionForm) (given : List Text) where
+  by_form : (v : Text) (b : Bool) → values (option_text name) ≡ v ∷ [] → (others : Option (List Text)) → each_value values table ≡ others
+      → (cond b (Some (Some v)) None >>= λ value. others >>= λ vs. Some (value_list value ++ vs)) ≡ Some given → First values name table given
+  by_form v false is others e h = absurd cc
+  by_form v true is None e h = absurd cc
+  by_form v true is (Some vs) e h = record { value = v; rest = vs; is = is; others = e; same = sym (same_Some _ _ h) }
+
+  by_values : (vs : List Text) → values (option_text name) ≡ vs
+      → (value_among (needed name) values vs >>= λ value. each_value values table >>= λ others. Some (value_list value ++ others)) ≡ Some given → First values name table given
+  by_values [] is h = absurd cc
+  by_values (v ∷ []) is h = by_form v (has_form (value_form name) v) is (each_value values table) refl h
+  by_values (v ∷ w ∷ ws) is h = absurd cc
+
+  first : each_value values (needed name ∷ table) ≡ Some given → First values name table given
+  unfolding each_value
+  first h = by_values (values (option_text name)) refl h
+
+none_left : (values : Values) (given : List Text) → each_value values [] ≡ Some given → given ≡ []
+unfolding each_value
+none_left values given h = sym (same_Some _ _ h)
+
+and_right : (a b : Bool) → (a && b) ≡ true → b ≡ true
+and_right true b h = h
+and_right false b h = absurd cc
+
+distinct_pins : (xs ys : List Text) (c d : Text) → xs ≡ c ∷ [] → ys ≡ d ∷ [] → are_distinct (xs ++ (ys ++ [])) ≡ true → c ≢ d
+distinct_pins xs ys c d one other h = λ same.
+    let both : are_distinct (c ∷ d ∷ []) ≡ true = subst (λ (zs : List Text). are_distinct (zs ++ (d ∷ [] ++ [])) ≡ true) one (subst (λ (zs : List Text). are_distinct (xs ++ (zs ++ [])) ≡ true) other h) in
+    let eq : bytes_eq d c ≡ true = (bytes_eq-Decides d c).1 (sym same) in
+    absurd cc
+
+made_rewire : (values : Values) (given further : List Text) → each_value values (options_of verbs.Rewire) ≡ Some given → are_apart values (options_of verbs.Rewire) ≡ true → IsMade verbs.Rewire given further
+made_rewire values given further h apart =
+    let a = first values options.Verilog _ given h in
+    let b = first values options.Cell _ a.rest a.others in
+    let c = first values options.InPin _ b.rest b.others in
+    let d = first values options.OutPin _ c.rest c.others in
+    let e = first values options.ScanIn _ d.rest d.others in
+    let f = first values options.ScanOut _ e.rest e.others in
+    let g = first values options.OutVerilog _ f.rest f.others in
+    let last = none_left values g.rest g.others in
+    let same : a.value ∷ b.value ∷ c.value ∷ d.value ∷ e.value ∷ f.value ∷ g.value ∷ [] ≡ given
+    = sym (a.same ∙ ap (λ (xs : List Text). a.value ∷ xs) (b.same ∙ ap (λ (xs : List Text). b.value ∷ xs) (c.same ∙ ap (λ (xs : List Text). c.value ∷ xs)
+    (d.same ∙ ap (λ (xs : List Text). d.value ∷ xs) (e.same ∙ ap (λ (xs : List Text). e.value ∷ xs) (f.same ∙ ap (λ (xs : List Text). f.value ∷ xs)
+    (g.same ∙ ap (λ (xs : List Text). g.value ∷ xs) last))))))) in
+    record {
+      request = requests.Rewire (record { verilog = a.value; cell = b.value; in_pin = c.value; out_pin = d.value; scan_in = e.value; scan_out = f.value; out_verilog = g.value; units = further });
+      order_is = ap (λ (vs : List Text). record { verb = verbs.Rewire; values = vs; further = further }) same;
+      pins = distinct_pins (values (codes "in-pin")) (values (codes "out-pin")) c.value d.value c.is d.is (and_right _ _ apart);
+    }
+
+zero_is : (n : ℕ) → (n == 0) ≡ true → n ≡ 0
+zero_is n h = grind (arith, nat_tests)
+
+made_trace : (values : Values) (given further : List Text) → each_value values (options_of verbs.Trace) ≡ Some given → is_count false (length further) ≡ true → IsMade verbs.Trace given further
+made_trace values given [] h count =
+    let a = first values options.Table _ given h in
+    let b = first values options.Verilog _ a.rest a.others in
+    let c = first values options.ScanOut _ b.rest b.others in
+    let last = none_left values c.rest c.others in
+    let same : a.value ∷ b.value ∷ c.value ∷ [] ≡ given
+    = sym (a.same ∙ ap (λ (xs : List Text). a.value ∷ xs) (b.same ∙ ap (λ (xs : List Text). b.value ∷ xs) (c.same ∙ ap (λ (xs : List Text). c.value ∷ xs) last))) in
+    record {
+      request = requests.Trace (record { table = a.value; verilog = b.value; scan_out = c.value });
+      order_is = ap (λ (vs : List Text). record { verb = verbs.Trace; values = vs; further = [] }) same;
+      pins = tt;
+    }
+made_trace values given (w ∷ ws) h count = let none = zero_is (length (w ∷ ws)) count in absurd (omega (arith, none))
+
+made : (verb : Verb) (values : Values) (given further : List Text) → each_value values (options_of verb) ≡ Some given → are_apart values (options_of verb) ≡ true
+    → is_count (takes_further verb) (length further) ≡ true → IsMade verb given further
+made verbs.Rewire values given further each apart count = made_rewire values given further each apart
+made verbs.Trace values given further each apart count = made_trace values given further each count
+
+abbrev further_in : Values → List Text
+further_in values = values (codes "further")
+
+-- the order of a command's values is asked for
+made_by : (verb : Verb) (values : Values) (order : Order) → order_by verb values ≡ Some order → IsAsked order
+unfolding order_by
+made_by verb values order h =
+    found (each_value values (options_of verb)) refl (are_apart values (options_of verb)) refl (is_count (takes_further verb) (length (further_in values))) refl h
+  where
+    found : (o : Option (List Text)) → each_value values (options_of verb) ≡ o → (a : Bool) → are_apart values (options_of verb) ≡ a
+        → (c : Bool) → is_count (takes_further verb) (length (further_in values)) ≡ c
+        → ((o >>= λ given. only_if a >>= λ apart. Some given) >>= λ given. only_if c >>= λ count. Some (record { verb = verb; values = given; further = further_in values })) ≡ Some order → IsAsked order
+    found None each a apart c count k = absurd cc
+    found (Some given) each false apart c count k = absurd cc
+    found (Some given) each true apart false count k = absurd cc
+    found (Some given) each true apart true count k = subst IsAsked (same_Some _ _ k) (made verb values given (further_in values) each apart count)
+
+pub asked : (words : List Text) (order : Order) → Says words order → IsAsked order
+asked words order s = made_by order.verb (λ name. values_of name s.parts) order s.values
+
+-- the pins of a request that the words say are apart
+pub pins_apart : (request : Request) → IsAsked (order_of request) → ArePinsApart request
+pins_apart request asked = subst ArePinsApart (order_once asked.request request asked.order_is) asked.pins

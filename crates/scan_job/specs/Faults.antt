@@ -1,0 +1,118 @@
+-- The fault that a run answers, and the line that says it.
+use Rattle.std.specs.Prelude.{◌≡◌, ◌⊎◌, ◌<◌, ◌≤◌, ℕ, List, [], ◌∷◌, ◌++◌, length, codes}
+use Rattle.std.specs.Fmt.{decimal}
+use Rattle.base_types.specs.declared.fault.Fault.{Fault}
+use Rattle.base_types.specs.declared.fault.FileKind.{FileKind}
+use Rattle.base_types.specs.declared.fault.FileKind.TheVariants as kinds
+use Rattle.base_types.specs.declared.fault.Spot.{Spot}
+use Rattle.base_types.specs.declared.fault.Spot.TheVariants as spots
+use Rattle.base_types.specs.declared.kind.Kind.{Kind}
+use Rattle.base_types.specs.declared.kind.Kind.TheVariants.{FileSize}
+use Rattle.base_types.specs.Faults.{kind_name, at_line}
+use Rattle.base_types.specs.FirstFault.{IsFirstFault}
+use Rattle.desk_io.specs.declared.slot.Slot.{Slot}
+use Rattle.desk_io.specs.declared.slot.Slot.TheVariants.{Table, Lef, Verilog, Def, Stil, OutVerilog, OutDef, OutStil, Console}
+use Rattle.desk_io.specs.Desk.{IsInput}
+use Rattle.desk_io.specs.Inputs.{limit_of}
+use Rattle.desk_io.specs.Names.{IsNamed}
+use Rattle.chain_rewire.specs.Faults.{HoldsInRewire}
+use Rattle.path_report.specs.Reports.{HoldsInTrace}
+use Rattle.scan_job.specs.declared.request.Request.{Request}
+use Rattle.scan_job.specs.declared.request.RewireRequest.{RewireRequest}
+use Rattle.scan_job.specs.declared.request.TraceRequest.{TraceRequest}
+use Rattle.scan_job.specs.declared.request.Request.TheVariants as requests
+use Rattle.scan_job.specs.Requests.{names_of, rewire_of}
+
+-- the file of an input slot, as faults name it
+abbrev pub file_of : Slot → FileKind
+file_of Table = kinds.Table
+file_of Lef = kinds.Lef
+file_of Verilog = kinds.Verilog
+file_of Def = kinds.Def
+file_of Stil = kinds.Stil
+file_of OutVerilog = kinds.Words
+file_of OutDef = kinds.Words
+file_of OutStil = kinds.Words
+file_of Console = kinds.Words
+
+-- the file of the slot has too many bytes
+abbrev pub size_fault : Slot → Fault
+size_fault slot = at_line FileSize (file_of slot) 0
+
+-- a file that the request names has more bytes than its limit, and this is the fault of it
+pub record IsSizeFault (request : Request) (files : Slot → List ℕ) (fault : Fault) : Type 0 where
+  pub slot : Slot
+  pub input : IsInput slot
+  pub named : IsNamed (names_of request) slot
+  pub over : limit_of slot < length (files slot)
+  pub is : fault ≡ size_fault slot
+
+-- each file that the request names is within its limit
+abbrev pub AreSmall : Request → (Slot → List ℕ) → Type 0
+AreSmall request files = (slot : Slot) → IsInput slot → IsNamed (names_of request) slot → length (files slot) ≤ limit_of slot
+
+-- a fault of the command's own in its files
+abbrev pub HoldsInCommand : Request → (Slot → List ℕ) → Fault → Type 0
+HoldsInCommand (requests.Rewire r) files = HoldsInRewire (files Verilog) (rewire_of r)
+HoldsInCommand (requests.Trace r) files = HoldsInTrace (files Table) (files Verilog) r.scan_out
+
+-- the first of them
+abbrev pub IsCommandFault : Request → (Slot → List ℕ) → Fault → Type 0
+IsCommandFault request files fault = IsFirstFault (HoldsInCommand request files) fault
+
+abbrev pub HasNoCommandFault : Request → (Slot → List ℕ) → Type 0
+HasNoCommandFault request files = (fault : Fault) → IsCommandFault request files fault → ⊥
+
+-- The fault that a run answers: the first of the files that are too large, in the order in which they are taken, and where none
+-- is, the command's own.
+abbrev pub IsRunFault : Request → (Slot → List ℕ) → Fault → Type 0
+IsRunFault request files fault = IsFirstFault (IsSizeFault request files) fault ⊎ (AreSmall request files × IsCommandFault request files fault)
+
+abbrev pub HasNoFault : Request → (Slot → List ℕ) → Type 0
+HasNoFault request files = (fault : Fault) → IsRunFault request files fault → ⊥
+
+-- there is at most one such fault
+abbrev pub OneFaultLaw : Type 0
+OneFaultLaw = (request : Request) (files : Slot → List ℕ) (f g : Fault) → IsRunFault request files f → IsRunFault request files g → f ≡ g
+
+-- The kinds of faults that a command finds only while it writes its STIL output. Each command judges all that it reads before.
+abbrev pub IsFoundWriting : Request → Kind → Type 0
+IsFoundWriting (requests.Rewire r) kind = ⊥
+IsFoundWriting (requests.Trace r) kind = ⊥
+
+-- no fault but those that are found while the STIL output is written
+abbrev pub HasNoFaultBefore : Request → (Slot → List ℕ) → Type 0
+HasNoFaultBefore request files = (fault : Fault) → IsRunFault request files fault → IsFoundWriting request fault.kind
+
+-- the words by which `rewire` and `trace` name a file in a fault; what they find in no file they find in the words
+abbrev pub rewire_word : RewireRequest → FileKind → List ℕ
+rewire_word r kinds.Verilog = r.verilog
+rewire_word r kinds.Table = codes "words"
+rewire_word r kinds.Lef = codes "words"
+rewire_word r kinds.Def = codes "words"
+rewire_word r kinds.Stil = codes "words"
+rewire_word r kinds.Words = codes "words"
+
+abbrev pub trace_word : TraceRequest → FileKind → List ℕ
+trace_word r kinds.Table = r.table
+trace_word r kinds.Verilog = r.verilog
+trace_word r kinds.Lef = codes "words"
+trace_word r kinds.Def = codes "words"
+trace_word r kinds.Stil = codes "words"
+trace_word r kinds.Words = codes "words"
+
+-- the word by which a fault of the command names its file
+abbrev pub file_word : Request → FileKind → List ℕ
+file_word (requests.Rewire r) file = rewire_word r file
+file_word (requests.Trace r) file = trace_word r file
+
+-- the place in the file: a line, a cell's name, or a hyphen
+abbrev pub spot_text : Spot → List ℕ
+spot_text (spots.Line line) = decimal line
+spot_text (spots.Cell name) = name
+spot_text spots.Nowhere = codes "-"
+
+-- `file:spot: KIND` and a line feed
+abbrev pub fault_text : Request → Fault → List ℕ
+fault_text request fault =
+    file_word request fault.file ++ codes ":" ++ spot_text fault.spot ++ codes ": " ++ kind_name fault.kind ++ 10 ∷ []

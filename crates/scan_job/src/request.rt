@@ -1,0 +1,192 @@
+ghost use Rattle.std.specs.Prelude.{◌≡◌, ◌≢◌, IfOk, length};
+ghost use Rattle.desk_io.specs.declared.names.Names.{Names};
+ghost use Rattle.scan_words.specs.declared.verb.Verb.TheVariants as verbs;
+ghost use Rattle.scan_job.specs.Requests.{order_of, names_of, rewire_of, IsAsked};
+
+use base_types::{Name, NoMemory, Rows, Word};
+use chain_rewire::Rewire;
+use desk_io::Names;
+use scan_words::{Order, Verb};
+use std::alloc::Global;
+
+/// What the words of `rewire` ask for, by the names of its options.
+#[derive(Debug, Drop)]
+pub struct RewireRequest {
+    /// The name of the Verilog file that is read.
+    pub verilog: Word,
+    /// The one cell kind whose instances make up the path.
+    pub cell: Name,
+    /// The pin at which the path enters an instance.
+    pub in_pin: Name,
+    /// The pin at which the path leaves an instance.
+    pub out_pin: Name,
+    /// The port bit at which the path begins.
+    pub scan_in: Name,
+    /// The port bit at which the path ends.
+    pub scan_out: Name,
+    /// The name of the Verilog file that is written.
+    pub out_verilog: Word,
+    /// The path's instances, in their new order.
+    pub units: Rows<Name>,
+}
+
+/// What the words of `trace` ask for, by the names of its options.
+#[derive(Debug, Drop)]
+pub struct TraceRequest {
+    /// The name of the cell table that is read.
+    pub table: Word,
+    /// The name of the Verilog file that is read.
+    pub verilog: Word,
+    /// The port bit at which the path ends.
+    pub scan_out: Name,
+}
+
+/// What the words ask for.
+#[derive(Debug, Drop)]
+pub enum Request {
+    /// To put the units of one chain of one cell kind into another order.
+    Rewire(RewireRequest),
+    /// To tell the scan path of one scan output.
+    Trace(TraceRequest),
+}
+
+fn name_of(alloc: Global, word: &Word) -> Result<Name, NoMemory>
+    ensures value { IfOk result (λ name. name ≡ word.now) }
+{
+    Name::copy(alloc, word.as_str().as_bytes())
+}
+
+fn word_of(alloc: Global, word: &Word) -> Result<Word, NoMemory>
+    ensures value { IfOk result (λ copy. copy ≡ word.now) }
+{
+    Word::copy(alloc, word.as_str())
+}
+
+fn names_in(alloc: Global, words: &[Word]) -> Result<Rows<Name>, NoMemory>
+    ensures value { IfOk result (λ names. names ≡ words.now) }
+{
+    let mut names = Rows::new(alloc);
+    for word in words {
+        names.push(name_of(alloc, word)?)?;
+    }
+    Ok(names)
+}
+
+fn rewire_request(
+    alloc: Global,
+    values: &[Word],
+    further: &[Word],
+) -> Result<RewireRequest, NoMemory>
+    requires count { length values.now ≡ 7 }
+    ensures values { IfOk result (λ r. (order_of (Request.Rewire r)).values ≡ values.now) }
+    ensures units { IfOk result (λ r. r.units ≡ further.now) }
+{
+    match values {
+        [
+            verilog,
+            cell,
+            in_pin,
+            out_pin,
+            scan_in,
+            scan_out,
+            out_verilog,
+        ] => Ok(RewireRequest {
+            verilog: word_of(alloc, verilog)?,
+            cell: name_of(alloc, cell)?,
+            in_pin: name_of(alloc, in_pin)?,
+            out_pin: name_of(alloc, out_pin)?,
+            scan_in: name_of(alloc, scan_in)?,
+            scan_out: name_of(alloc, scan_out)?,
+            out_verilog: word_of(alloc, out_verilog)?,
+            units: names_in(alloc, further)?,
+        }),
+        _ => unreachable!(),
+    }
+}
+
+fn trace_request(alloc: Global, values: &[Word]) -> Result<TraceRequest, NoMemory>
+    requires count { length values.now ≡ 3 }
+    ensures values { IfOk result (λ r. (order_of (Request.Trace r)).values ≡ values.now) }
+{
+    match values {
+        [table, verilog, scan_out] => Ok(TraceRequest {
+            table: word_of(alloc, table)?,
+            verilog: word_of(alloc, verilog)?,
+            scan_out: name_of(alloc, scan_out)?,
+        }),
+        _ => unreachable!(),
+    }
+}
+
+/// The request that an order's values make. This is the one place at which a value is known by its place.
+pub(crate) fn request_of(alloc: Global, order: &Order) -> Result<Request, NoMemory>
+    requires asked { IsAsked order.now }
+    ensures value { IfOk result (λ request. order_of request ≡ order.now) }
+{
+    let values = order.values.as_slice();
+    match order.verb {
+        Verb::Rewire => {
+            let request = rewire_request(alloc, values, order.further.as_slice())?;
+            Ok(Request::Rewire(request))
+        }
+        Verb::Trace => Ok(Request::Trace(trace_request(alloc, values)?)),
+    }
+}
+
+/// The names of the slots that the request uses.
+pub(crate) fn names_of(alloc: Global, request: &Request) -> Result<Names, NoMemory>
+    ensures value { IfOk result (λ names. names ≡ names_of request.now) }
+{
+    match request {
+        Request::Rewire(request) => Ok(Names {
+            table: None,
+            lef: None,
+            verilog: Some(word_of(alloc, &request.verilog)?),
+            def: None,
+            stil: None,
+            out_verilog: Some(word_of(alloc, &request.out_verilog)?),
+            out_def: None,
+            out_stil: None,
+        }),
+        Request::Trace(request) => Ok(Names {
+            table: Some(word_of(alloc, &request.table)?),
+            lef: None,
+            verilog: Some(word_of(alloc, &request.verilog)?),
+            def: None,
+            stil: None,
+            out_verilog: None,
+            out_def: None,
+            out_stil: None,
+        }),
+    }
+}
+
+fn copy_of(alloc: Global, name: &Name) -> Result<Name, NoMemory>
+    ensures value { IfOk result (λ copy. copy ≡ name.now) }
+{
+    Name::copy(alloc, name.bytes())
+}
+
+fn copies_of(alloc: Global, names: &[Name]) -> Result<Rows<Name>, NoMemory>
+    ensures value { IfOk result (λ copies. copies ≡ names.now) }
+{
+    let mut copies = Rows::new(alloc);
+    for name in names {
+        copies.push(copy_of(alloc, name)?)?;
+    }
+    Ok(copies)
+}
+
+/// What `rewire` is asked to do with the Verilog.
+pub(crate) fn rewire_of(alloc: Global, request: &RewireRequest) -> Result<Rewire, NoMemory>
+    ensures value { IfOk result (λ rewire. rewire ≡ rewire_of request.now) }
+{
+    Ok(Rewire {
+        cell: copy_of(alloc, &request.cell)?,
+        in_pin: copy_of(alloc, &request.in_pin)?,
+        out_pin: copy_of(alloc, &request.out_pin)?,
+        scan_in: copy_of(alloc, &request.scan_in)?,
+        scan_out: copy_of(alloc, &request.scan_out)?,
+        units: copies_of(alloc, request.units.as_slice())?,
+    })
+}

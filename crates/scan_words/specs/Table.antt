@@ -1,0 +1,120 @@
+-- The table of a command: its options, what their values are, and which of them stand.
+use Rattle.std.specs.Prelude.{ℕ, Bool, true, false, ◌&&◌, ◌||◌, not, if◌then◌else◌, List, [], ◌∷◌, ◌++◌, map, codes, Option, Some, None, option_and_then}
+use Rattle.std.specs.Str.{bytes_eq}
+use Rattle.scan_words.specs.declared.table.OptionName.{OptionName}
+use Rattle.scan_words.specs.declared.table.OptionName.TheVariants as options
+use Rattle.scan_words.specs.declared.table.ValueForm.{ValueForm}
+use Rattle.scan_words.specs.declared.table.ValueForm.TheVariants as forms
+use Rattle.scan_words.specs.declared.table.Need.{Need}
+use Rattle.scan_words.specs.declared.table.Need.TheVariants.{Needed, Optional, With}
+use Rattle.scan_words.specs.declared.table.OptionForm.{OptionForm}
+use Rattle.scan_words.specs.Form.{◌>>=◌, Text, only_if, is_name}
+
+-- the name behind the two hyphens
+abbrev pub option_text : OptionName → Text
+option_text options.Table = codes "table"
+option_text options.Lef = codes "lef"
+option_text options.Verilog = codes "verilog"
+option_text options.Def = codes "def"
+option_text options.Stil = codes "stil"
+option_text options.OutVerilog = codes "out-verilog"
+option_text options.OutDef = codes "out-def"
+option_text options.OutStil = codes "out-stil"
+option_text options.Cell = codes "cell"
+option_text options.InPin = codes "in-pin"
+option_text options.OutPin = codes "out-pin"
+option_text options.ScanIn = codes "scan-in"
+option_text options.ScanOut = codes "scan-out"
+option_text options.Effort = codes "effort"
+option_text options.Device = codes "device"
+
+-- what the option's value is
+abbrev pub value_form : OptionName → ValueForm
+value_form options.Table = forms.File
+value_form options.Lef = forms.File
+value_form options.Verilog = forms.File
+value_form options.Def = forms.File
+value_form options.Stil = forms.File
+value_form options.OutVerilog = forms.File
+value_form options.OutDef = forms.File
+value_form options.OutStil = forms.File
+value_form options.Cell = forms.Name
+value_form options.InPin = forms.Pin
+value_form options.OutPin = forms.Pin
+value_form options.ScanIn = forms.Name
+value_form options.ScanOut = forms.Name
+value_form options.Effort = forms.Effort
+value_form options.Device = forms.Device
+
+-- the names of a table's options
+abbrev pub texts : List OptionForm → List Text
+texts table = map (λ o. option_text o.name) table
+
+-- whether a text is of the form, besides being a value
+abbrev pub has_form : ValueForm → Text → Bool
+has_form forms.File value = true
+has_form forms.Pin value = true
+has_form forms.Name value = true
+has_form forms.Effort value = bytes_eq value (codes "order") || bytes_eq value (codes "full")
+has_form forms.Device value = bytes_eq value (codes "hold") || bytes_eq value (codes "mix")
+
+-- the values that the words give each name
+abbrev pub Values : Type 0
+Values = Text → List Text
+
+abbrev pub is_given : List Text → Bool
+is_given [] = false
+is_given (v ∷ vs) = true
+
+-- the option may be left out
+abbrev pub may_lack : Need → Values → Bool
+may_lack Needed values = false
+may_lack Optional values = true
+may_lack (With other) values = not (is_given (values (option_text other)))
+
+-- the option may stand
+abbrev pub may_stand : Need → Values → Bool
+may_stand Needed values = true
+may_stand Optional values = true
+may_stand (With other) values = is_given (values (option_text other))
+
+-- the value of an option among those that stand with its name: the only one, of its form, or none where it may be left out
+abbrev pub value_among : OptionForm → Values → List Text → Option (Option Text)
+value_among o values [] = if may_lack o.need values then Some None else None
+value_among o values (v ∷ []) = if may_stand o.need values && has_form (value_form o.name) v then Some (Some v) else None
+value_among o values (v ∷ w ∷ ws) = None
+
+abbrev pub option_value : OptionForm → Values → Option (Option Text)
+option_value o values = value_among o values (values (option_text o.name))
+
+abbrev pub value_list : Option Text → List Text
+value_list None = []
+value_list (Some v) = v ∷ []
+
+-- the values of a table's options, in its order
+unfoldable pub each_value : Values → List OptionForm → Option (List Text)
+each_value values [] = Some []
+each_value values (o ∷ os) = do
+  value ← option_value o values
+  others ← each_value values os
+  Some (value_list value ++ others)
+
+-- both are files, or both are pins
+abbrev pub is_like : ValueForm → ValueForm → Bool
+is_like forms.File forms.File = true
+is_like forms.Pin forms.Pin = true
+is_like form other = false
+
+-- the values that stand with the options of a form
+abbrev pub values_like : ValueForm → Values → List OptionForm → List Text
+values_like form values [] = []
+values_like form values (o ∷ os) = (if is_like form (value_form o.name) then values (option_text o.name) else []) ++ values_like form values os
+
+-- no two of some texts are the same
+abbrev pub are_distinct : List Text → Bool
+are_distinct [] = true
+are_distinct (v ∷ vs) = not (is_name vs v) && are_distinct vs
+
+-- the files of a command are pairwise different, and so are its pins
+abbrev pub are_apart : Values → List OptionForm → Bool
+are_apart values table = are_distinct (values_like forms.File values table) && are_distinct (values_like forms.Pin values table)
