@@ -6,10 +6,10 @@ ghost use Rattle.std.specs.HashSet.{contains};
 ghost use Rattle.chain_rewire.specs.Faults.{has, last_name};
 ghost use Rattle.chain_rewire.specs.Names.{now_of, have_all, are_distinct, are_instances};
 
+use base_types::{Name, NoMemory};
 use std::alloc::Global;
 use std::collections::HashSet;
 use std::marker::Model;
-use base_types::{Name, NoMemory};
 
 /// Names that stand elsewhere, which contracts see as their list.
 #[derive(Debug, Drop)]

@@ -1,9 +1,9 @@
 //! Chains of three flops in other orders, and what is refused.
 use crate::{Rewire, Rewired, rewire_text};
+use base_types::{Fault, FileKind, Kind, Name, NoMemory, ReadFault, Rows, Spot};
 use std::alloc::{Alloc, Global};
 use std::process::Abort;
 use std::test::Fail;
-use base_types::{Fault, FileKind, Kind, Name, NoMemory, ReadFault, Rows, Spot};
 
 const HEAD: &str = "module top ( clk, se, si, so, d0, d1, d2 );
   input clk, se, si, d0, d1, d2;
