@@ -17,6 +17,7 @@ impl<T> Model for Boxed<T> {
 }
 
 impl<T> Boxed<T> {
+    /// The value. Takes no memory.
     pub fn get(&self) -> &T
         ensures value { result.now ≡ self.now }
     {

@@ -6,11 +6,12 @@ use std::fmt;
 /// The kinds of faults, in the order in which they are answered: of two that hold, the one with the lesser number.
 #[derive(Clone, Copy, Debug, PartialEq, Eq)]
 pub enum Kind {
-    /// The file has more bytes than its limit.
+    /// The file has more bytes than its limit; of several the one that is taken first.
     FileSize,
     /// The table is no TOML text.
     TableSyntax,
-    /// An entry of the table isn't of the form of a cell's entry.
+    /// The entry of a cell isn't of the form of a cell's entry; of several cells the one with the least name by bytes, and the
+    /// empty name where the table's top isn't of its form.
     TableShape,
     /// A statement that is read matches no form, a macro has no SIZE, or a block isn't closed.
     LefSyntax,
@@ -22,17 +23,22 @@ pub enum Kind {
     VerilogSyntax,
     /// The first token after `endmodule` is `module`.
     SecondModule,
-    /// An index, a constant's size or the bits of the declared vectors pass their limit, or a constant's size is 0.
+    /// An index exceeds 65535, or a constant's size exceeds 128 or is 0, or with this declaration the declared vectors have
+    /// more than 16777216 bits together, a name being counted once, by its first declaration with a range.
     VerilogNumber,
-    /// An instance, a pin of one instance, a header port or a declared net has a name that stood before.
+    /// An instance, a pin of one instance, a header port or a declared net has a plain name that stood before, or a scalar net
+    /// and a bit of a declared vector have one plain name (at the later of the two); a port declared again as `wire` with the
+    /// same range is no fault.
     VerilogTwice,
-    /// A select lies outside its declaration, an assign's sides differ in width, or a port lacks its direction or its place in the header.
+    /// A select lies outside its declaration or selects from a name that is no declared vector, or the two sides of an assign
+    /// differ in width, or a header port has no direction, or a name with a direction isn't in the header.
     BadSelect,
-    /// A statement of a read section matches no form, a section isn't closed, or UNITS or END DESIGN is missing.
+    /// A statement of a read section matches no form, a section isn't closed, UNITS stands a second time, or UNITS or
+    /// END DESIGN is missing.
     DefSyntax,
-    /// A coordinate, BITS, MAXBITS or UNITS lies outside its range.
+    /// A coordinate lies outside -2147483648 to 2147483647, BITS or MAXBITS exceeds 262144, or UNITS isn't 1 to 100000.
     DefNumber,
-    /// A component, design pin, net or chain name, a read section, or one connection over all nets stands a second time.
+    /// A component, design pin, net or chain name, or a read section, or one `( comp pin )` over all nets stands a second time.
     DefTwice,
     /// An element, or a START or STOP cell, is no component, or its cell isn't in the table.
     ElementUnknown,
@@ -40,7 +46,8 @@ pub enum Kind {
     ElementTwice,
     /// An element, or a START or STOP cell, isn't placed.
     ElementUnplaced,
-    /// An explicit pin isn't such a pin of a scan path of the cell, or no pin names one of several paths.
+    /// An explicit IN, OUT or start or stop pin isn't such a pin of a scan path of the cell, or IN and OUT belong to two paths,
+    /// or a cell with several paths gets no pin that names one.
     ElementPin,
     /// An explicit BITS isn't the count of the element's path.
     BitsDiffer,
@@ -52,17 +59,17 @@ pub enum Kind {
     InstanceMissing,
     /// The instance's cell differs from the component's.
     CellDiffers,
-    /// The net's pins lie on two classes of the netlist, or on the class of an earlier net.
+    /// The pins of this net that the Verilog connects too lie on two classes, or on a class on which pins of an earlier net lie.
     NetDiffers,
     /// A statement of the head matches no form, or the head has no ScanStructures.
     StilSyntax,
-    /// A chain name, a scan port, a procedure name or a macro name stands a second time.
+    /// A chain name, a port among all ScanIn and ScanOut together, a procedure name or a macro name stands a second time.
     StilTwice,
     /// The head holds a form that this profile doesn't support.
     Unsupported,
     /// The port at START PIN is no declared ScanIn, or that at STOP PIN no declared ScanOut.
     ChainUndeclared,
-    /// A scan-in is no input or inout port bit, or a scan-out no output or inout port bit.
+    /// A scan-in isn't an input or inout port bit, or a scan-out isn't an output or inout port bit.
     NoPort,
     /// The 257th path is asked for.
     TooManyPaths,
@@ -84,9 +91,10 @@ pub enum Kind {
     CellsDiffer,
     /// The traced paths have more than 262144 bits.
     TooManyBits,
-    /// A pin or port of a traced path is in no DEF net, or its design pin names another net.
+    /// An in pin, a used out pin or a port of a traced path is in no DEF net, or the port is no design pin, or its design pin
+    /// names another net than the one that has it.
     PinMissing,
-    /// The chain is no stretch of one path, or meets another chain's stretch or end.
+    /// The chain's elements, START and STOP are no stretch of one path, or share a step with another chain's stretch or ends.
     NotAStretch,
     /// An unlisted step inside the stretch has a bit.
     UnlistedBits,
@@ -100,11 +108,11 @@ pub enum Kind {
     TooManyUnits,
     /// A statement in the pattern part matches no form, a Pattern isn't closed, or a scan call gives one name twice.
     PatternSyntax,
-    /// A statement of a Pattern has a form that this profile doesn't support.
+    /// A statement of the pattern part has a form that this profile doesn't support.
     PatternUnsupported,
-    /// Scan data holds a character or an escape outside its alphabet.
+    /// Scan data holds another character or escape than its alphabet and `\r n c`.
     ScanCharacter,
-    /// A scan call gives data to a name that is no chain's ScanIn or ScanOut.
+    /// A scan call gives data to a name that is no chain's ScanIn or ScanOut, a group included.
     ForeignData,
     /// The call shifts at least once and fewer times than the longest chain has bits.
     ShortLoad,
@@ -112,9 +120,10 @@ pub enum Kind {
     LongCompare,
     /// A string of a scan call is longer than 524288.
     TooManyShifts,
-    /// A statement of the pattern part has more than 67108864 bytes.
+    /// A statement of a Pattern, a statement at the top behind the head, or a Pattern up to its `{` has more than 67108864
+    /// bytes.
     StatementSize,
-    /// The whole STIL has more than 4294967296 bytes.
+    /// With this statement the whole STIL has more than 4294967296 bytes.
     PatternSize,
     /// The given names aren't the traced instances, each once.
     NotPermutation,

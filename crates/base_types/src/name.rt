@@ -38,6 +38,7 @@ impl Name {
         })
     }
 
+    /// Its bytes. Takes no memory.
     pub fn bytes(&self) -> &[u8]
         ensures value { result.now ≡ self.now }
     {
@@ -76,6 +77,7 @@ impl Text {
         })
     }
 
+    /// Its bytes. Takes no memory.
     pub fn bytes(&self) -> &[u8]
         ensures value { result.now ≡ self.now }
     {

@@ -42,6 +42,7 @@ impl<T> Rows<T> {
         self.rows
     }
 
+    /// Its members in order. Takes no memory.
     pub fn as_slice(&self) -> &[T]
         ensures value { result.now ≡ self.now }
     {

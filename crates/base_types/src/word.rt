@@ -34,6 +34,7 @@ impl Word {
         Ok(Word::of(String::from_str(alloc, text)?))
     }
 
+    /// Its text. Takes no memory.
     pub fn as_str(&self) -> &str
         ensures value { result.now ≡ self.now }
     {

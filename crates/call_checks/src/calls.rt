@@ -1,9 +1,9 @@
 ghost use Rattle.std.specs.Prelude.{◌≡◌, ◌↔◌, All, IsTrue};
 ghost use Rattle.stil_tester.specs.Shifting.{IsCallFor, IsStringOf, is_compare_character, is_load_character, longest_string, string_length};
 
+use base_types::Text;
 use stil_reader::ScanCall;
 use stil_tester::Chains;
-use base_types::Text;
 
 /// Whether a call has a place for a load and for a compare of each chain, of their characters
 /// alone, and shifts as often as its longest string has characters. It takes no memory.

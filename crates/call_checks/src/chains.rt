@@ -1,9 +1,9 @@
 ghost use Rattle.std.specs.Prelude.{◌≡◌, ℕ, ◌<◌, ◌↔◌, All, IfOk, IsTrue, count_by, length, nat_eq, slice_index};
 ghost use Rattle.stil_tester.specs.Shifting.{AreChains, IsChain, numbers_of};
 
+use base_types::NoMemory;
 use std::alloc::Global;
 use stil_tester::{ChainBits, Chains};
-use base_types::NoMemory;
 
 /// Whether no chain is empty, each has as many parities as bits, and each cell stands in the
 /// chains exactly once. It takes time and memory linear in the cells.

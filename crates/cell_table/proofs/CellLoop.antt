@@ -13,9 +13,7 @@ use Rattle.toml.specs.View.{view, members_view}
 use Rattle.toml.specs.declared.value.Value.{Value}
 use Rattle.base_types.specs.declared.stop.Stop.{Stop}
 use Rattle.base_types.specs.declared.stop.Stop.TheVariants as stops
-use Rattle.base_types.specs.Faults.{of_cell}
-use Rattle.base_types.specs.declared.kind.Kind.TheVariants.{TableShape}
-use Rattle.cell_table.specs.Cells.{Gives, Cells, cell_of, cells_of, with_cell}
+use Rattle.cell_table.specs.Cells.{Gives, Cells, cell_of, cells_of, with_cell, shape_fault}
 use Rattle.cell_table.specs.declared.paths.ScanPath.{ScanPath}
 use Rattle.cell_table.proofs.Loops.{Entry}
 use Rattle.cell_table.proofs.Views.{CellEntry, cells_view}
@@ -76,10 +74,10 @@ module _ (front : List CellEntry) (all rest : List Entry) (k : String Global) (v
       = rw (is, ← same_name, read) (with_more (cells_view front) name paths (cells_of (members_view rest))) in
       sym turn ∙ same
 
-  pub cell_stops : cell_of (view v) ≡ None → with_cells (cells_view front) (cells_of (members_view all)) ≡ total → total ≡ Err (of_cell TableShape name)
+  pub cell_stops : cell_of (view v) ≡ None → with_cells (cells_view front) (cells_of (members_view all)) ≡ total → total ≡ Err (shape_fault name)
   unfolding cells_of
   cell_stops read same =
-      let turn : with_cells (cells_view front) (cells_of (members_view all)) ≡ Err (of_cell TableShape name) = rw (is, ← same_name, read) refl in
+      let turn : with_cells (cells_view front) (cells_of (members_view all)) ≡ Err (shape_fault name) = rw (is, ← same_name, read) refl in
       sym same ∙ turn
 
   -- the names ascend on

@@ -26,3 +26,12 @@ refused text nothing =
 
 pub read_at : (text : List ℕ) (document : Members) → IsUtf8 text → parse_document text ≡ Some document → document_at text ≡ Some document
 read_at text document utf8 read = ap (λ (b : Bool). if b then parse_document text else None) (is_utf8-from_IsUtf8 text utf8) ∙ read
+
+pub unread : (text : List ℕ) → (IsUtf8 text → parse_document text ≡ None) → document_at text ≡ None
+unread text nothing =
+    let cases : (b : Bool) → (b ≡ true → parse_document text ≡ None) → (if b then parse_document text else None) ≡ None
+    = λ b. elim b as (λ b. (b ≡ true → parse_document text ≡ None) → (if b then parse_document text else None) ≡ None) [
+      | true ↦ λ h. h refl
+      | false ↦ λ h. refl
+    ]
+    in cases (is_utf8 text) (λ e. nothing (IsUtf8-from_is_utf8 text e))

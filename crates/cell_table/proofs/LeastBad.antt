@@ -12,14 +12,8 @@ use Rattle.toml.specs.Data.{Data, Members, no_members, member, get_member}
 use Rattle.toml.specs.View.{members_view}
 use Rattle.cell_table.specs.declared.paths.ScanPath.{ScanPath}
 use Rattle.base_types.specs.declared.fault.Fault.{Fault}
-use Rattle.base_types.specs.declared.fault.ReadFault.{ReadFault}
-use Rattle.base_types.specs.declared.fault.ReadFault.TheVariants as faults
-use Rattle.std.specs.Result.{IfErr}
-use Rattle.base_types.specs.Faults.{of_cell}
-use Rattle.base_types.specs.declared.kind.Kind.TheVariants.{TableShape}
-use Rattle.base_types.specs.FirstFault.{Answers}
-use Rattle.cell_table.specs.Cells.{Cells, cell_of, cells_of, with_cell}
-use Rattle.cell_table.specs.Least.{IsLeastBad, NamesLeastBad, AboveAll, Ascending}
+use Rattle.cell_table.specs.Cells.{Cells, cell_of, cells_of, with_cell, shape_fault}
+use Rattle.cell_table.specs.Ascending.{AboveAll, Ascending}
 use Rattle.cell_table.proofs.Loops.{Entry}
 
 abbrev order : List ℕ → List ℕ → Ordering
@@ -44,8 +38,18 @@ found_above name n (member k d ms) e h found =
     ]
     in cases (order name k) refl found
 
-same_name : (n name : List ℕ) → of_cell TableShape n ≡ of_cell TableShape name → n ≡ name
-same_name n name h = let spot = ap (λ (f : Fault). f.spot) h in cc
+-- the entry of a name gives no cell, and those of all lesser names do
+pub record IsLeastBad (cells : Members) (name : List ℕ) : Type 0 where
+  pub entry : Data
+  pub there : get_member name cells ≡ Some entry
+  pub bad : cell_of entry ≡ None
+  pub least : (other : List ℕ) (d : Data) → get_member other cells ≡ Some d → slice_cmp nat_cmp other name ≡ Less → cell_of d ≢ None
+
+-- the fault is that of the least bad cell
+pub record IsSaid (cells : Members) (f : Fault) : Type 0 where
+  pub name : List ℕ
+  pub is : f ≡ shape_fault name
+  pub least : IsLeastBad cells name
 
 module _ (n : List ℕ) (d : Data) (ms : Members) (above : AboveAll n ms) where
   here : cell_of d ≡ None → IsLeastBad (member n d ms) n
@@ -73,16 +77,16 @@ module _ (n : List ℕ) (d : Data) (ms : Members) (above : AboveAll n ms) where
         least = λ other e found less. others other e (order other n) found less;
       }
 
-pub least_bad : (ms : Members) (name : List ℕ) → Ascending ms → cells_of ms ≡ Err (of_cell TableShape name) → IsLeastBad ms name
+pub least_bad : (ms : Members) (f : Fault) → Ascending ms → cells_of ms ≡ Err f → IsSaid ms f
 unfolding cells_of
-least_bad no_members name h read = absurd cc
-least_bad (member n d ms) name h read =
-    let cases : (o : Option (List ScanPath)) (r : Result Cells Fault) → cell_of d ≡ o → cells_of ms ≡ r → with_cell n o r ≡ Err (of_cell TableShape name) → IsLeastBad (member n d ms) name
-    = λ o r. elim o as (λ o. cell_of d ≡ o → cells_of ms ≡ r → with_cell n o r ≡ Err (of_cell TableShape name) → IsLeastBad (member n d ms) name) [
-      | None ↦ λ bad rest f. let both : of_cell TableShape n ≡ of_cell TableShape name = cc in let same = same_name n name both in subst (IsLeastBad (member n d ms)) same (here n d ms h.0 bad)
-      | Some paths ↦ λ good. elim r as (λ r. cells_of ms ≡ r → with_cell n (Some paths) r ≡ Err (of_cell TableShape name) → IsLeastBad (member n d ms) name) [
-        | Ok cells ↦ λ rest f. absurd cc
-        | Err fault ↦ λ rest f. behind n d ms h.0 name paths good (least_bad ms name h.1 (rest ∙ f))
+least_bad no_members f h read = absurd cc
+least_bad (member n d ms) f h read =
+    let cases : (o : Option (List ScanPath)) (r : Result Cells Fault) → cell_of d ≡ o → cells_of ms ≡ r → with_cell n o r ≡ Err f → IsSaid (member n d ms) f
+    = λ o r. elim o as (λ o. cell_of d ≡ o → cells_of ms ≡ r → with_cell n o r ≡ Err f → IsSaid (member n d ms) f) [
+      | None ↦ λ bad rest e. let same : shape_fault n ≡ f = cc in record { name = n; is = sym same; least = here n d ms h.0 bad }
+      | Some paths ↦ λ good. elim r as (λ r. cells_of ms ≡ r → with_cell n (Some paths) r ≡ Err f → IsSaid (member n d ms) f) [
+        | Ok cells ↦ λ rest e. absurd cc
+        | Err fault ↦ λ rest e. let w = least_bad ms f h.1 (rest ∙ e) in record { name = w.name; is = w.is; least = behind n d ms h.0 w.name paths good w.least }
       ]
     ]
     in cases (cell_of d) (cells_of ms) refl refl read
@@ -95,8 +99,3 @@ pub ascending_from : (es : List Entry) → IsStrictlySortedBy string_cmp (keys_o
 unfolding IsStrictlySortedBy
 ascending_from [] h = tt
 ascending_from (e ∷ es) h = (above_from e.0 es h.0, ascending_from es h.1)
-
-pub names_least_bad : (r : Result Cells ReadFault) (ms : Members) → Ascending ms → Answers {X = Cells} r (cells_of ms) → IfErr r (NamesLeastBad ms)
-names_least_bad (Ok cells) ms h a = tt
-names_least_bad (Err (faults.Fault f)) ms h a = λ name is. let same : f ≡ of_cell TableShape name = cc in least_bad ms name h (a ∙ ap (λ (g : Fault). Err g) same)
-names_least_bad (Err faults.NoMemory) ms h a = λ name is. absurd cc

@@ -8,6 +8,7 @@ use Rattle.base_types.specs.declared.fault.FileKind.TheVariants.{Table as in_tab
 use Rattle.base_types.specs.declared.kind.Kind.TheVariants.{TableSyntax, TableShape}
 use Rattle.base_types.specs.declared.fault.Spot.TheVariants.{Nowhere}
 use Rattle.base_types.specs.Faults.{of_cell}
+use Rattle.base_types.specs.Names.{plain_name}
 use Rattle.toml.specs.Data.{Data, Items, no_items, item, Members, no_members, member, get, as_str, as_integer, as_array, as_table, get_member}
 use Rattle.toml.specs.Parse.{parse_document}
 use Rattle.cell_table.specs.declared.paths.OutPin.{OutPin}
@@ -139,8 +140,12 @@ cell_of d = do
 abbrev pub Cells : Type 0
 Cells = List (List ℕ × List ScanPath)
 
+-- said by the cell's plain name
+abbrev pub shape_fault : List ℕ → Fault
+shape_fault cell = of_cell TableShape (plain_name cell)
+
 abbrev pub with_cell : List ℕ → Option (List ScanPath) → Result Cells Fault → Result Cells Fault
-with_cell name None others = Err (of_cell TableShape name)
+with_cell name None others = Err (shape_fault name)
 with_cell name (Some paths) (Ok cells) = Ok ((name, paths) ∷ cells)
 with_cell name (Some paths) (Err fault) = Err fault
 
@@ -157,7 +162,7 @@ named_cells document = do
   Some cells
 
 abbrev pub cells_in : Option Members → Result Cells Fault
-cells_in None = Err (of_cell TableShape [])
+cells_in None = Err (shape_fault [])
 cells_in (Some cells) = cells_of cells
 
 unfoldable pub document_of : Members → Result Cells Fault

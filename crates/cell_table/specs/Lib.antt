@@ -1,3 +1,4 @@
 pub mod Cells
 pub mod Table
-pub mod Least
+pub mod Ascending
+pub mod Entries

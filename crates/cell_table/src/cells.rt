@@ -1,14 +1,17 @@
-ghost use Rattle.std.specs.Prelude.{◌≡◌, Some, IfErr, option_map};
+ghost use Rattle.std.specs.Prelude.{◌≡◌, Some, IfOk, option_map};
+ghost use Rattle.base_types.specs.declared.kind.Kind.TheVariants.{TableShape};
+ghost use Rattle.base_types.specs.Faults.{of_cell};
 ghost use Rattle.toml.specs.View.{table_view};
 ghost use Rattle.toml.specs.Data.{Members};
-ghost use Rattle.base_types.specs.FirstFault.{Answers};
-ghost use Rattle.cell_table.specs.Least.{NamesLeastBad, Ascending};
-ghost use Rattle.cell_table.specs.Cells.{document_at, named_cells, cells_of, document_of, table_of};
+ghost use Rattle.base_types.specs.FirstFault.{Answers, IfFault, IsFirstFault};
+ghost use Rattle.cell_table.specs.Ascending.{Ascending};
+ghost use Rattle.cell_table.specs.Cells.{named_cells, cells_of, document_of, table_of};
+ghost use Rattle.cell_table.specs.Entries.{DenotesCells, HoldsInTable};
 
 use crate::paths::cell_of;
 use crate::table::CellTable;
 use crate::values::{is_empty, member_at};
-use base_types::{Fault, FileKind, Kind, Name, ReadFault, Spot, Stop};
+use base_types::{Fault, FileKind, Kind, Name, ReadFault, Spot, Stop, plain_name};
 use indexmap::IndexMap;
 use std::alloc::Global;
 use toml::Table;
@@ -23,10 +26,7 @@ fn cells_of(alloc: Global, table: &Table) -> Result<CellTable, ReadFault>
         let name = Vec::from_slice(alloc, name.as_bytes())?;
         let paths = match cell_of(alloc, value) {
             Ok(paths) => paths,
-            Err(Stop::NoForm) => return Err(ReadFault::Fault(Fault::of_cell(
-                Kind::TableShape,
-                Name::of(name),
-            ))),
+            Err(Stop::NoForm) => return Err(shape_fault(plain_name(alloc, name.as_slice())?)),
             Err(Stop::NoMemory) => return Err(ReadFault::NoMemory),
         };
         cells.insert(name, paths)?;
@@ -51,12 +51,19 @@ fn named_cells(document: &Table) -> Option<&Table>
 #[tactic(auto, unfolding(crate::specs::Cells::document_of))]
 fn document_of(alloc: Global, document: &Table) -> Result<CellTable, ReadFault>
     ensures cells { Answers result (document_of (table_view document.now)) }
-    ensures least { IfErr result (λ e. (cells : Members) → named_cells (table_view document.now) ≡ Some cells → NamesLeastBad cells e) }
+    ensures ascending { (cells : Members) → named_cells (table_view document.now) ≡ Some cells → Ascending cells }
 {
     match named_cells(document) {
         Some(cells) => cells_of(alloc, cells),
-        None => Err(ReadFault::Fault(Fault::of_cell(Kind::TableShape, Name::of(Vec::new(alloc))))),
+        None => Err(shape_fault(Name::of(Vec::new(alloc)))),
     }
+}
+
+/// The entry of the cell with this plain name isn't of the form.
+fn shape_fault(cell: Name) -> ReadFault
+    ensures value { result ≡ ReadFault.Fault (of_cell TableShape cell) }
+{
+    ReadFault::Fault(Fault::of_cell(Kind::TableShape, cell))
 }
 
 /// The cells of a TOML text, or the first fault: TableSyntax, at no place, where the bytes aren't UTF-8 or no TOML
@@ -64,10 +71,9 @@ fn document_of(alloc: Global, document: &Table) -> Result<CellTable, ReadFault>
 /// name where the fault stands above the cells.
 #[tactic(auto, unfolding(crate::specs::Cells::table_of))]
 pub fn read_table(alloc: Global, bytes: &[u8]) -> Result<CellTable, ReadFault>
-    ensures value { Answers result (table_of bytes.now) }
-
-    // A fault of shape below `cell` names the least cell whose entry isn't of the form.
-    ensures least { IfErr result (λ e. (document : Members) (cells : Members) → document_at bytes.now ≡ Some document → named_cells document ≡ Some cells → NamesLeastBad cells e) }
+    ensures value { IfOk result (DenotesCells bytes.now) }
+    ensures fault { IfFault result (IsFirstFault (HoldsInTable bytes.now)) }
+    ensures read { Answers result (table_of bytes.now) }
 {
     match toml::table_from_slice(alloc, bytes) {
         Ok(document) => document_of(alloc, &document),

@@ -6,6 +6,7 @@
 #![tactic(auto)]
 
 mod cells;
+mod laws;
 mod paths;
 mod pins;
 mod small;
@@ -13,6 +14,7 @@ mod table;
 mod values;
 
 pub use cells::read_table;
+pub use laws::table_law;
 pub use paths::{OutPin, ScanPath};
 pub use small::small_table;
 pub use table::CellTable;

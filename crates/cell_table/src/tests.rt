@@ -38,6 +38,12 @@ fn names_the_least_cell(rt: HostRuntime) -> Result<(), Fail> {
         "[[cell.B.path]]\nin = \"A\"\nbits = [2]\nout = { Z = 0 }\n[[cell.A.path]]\nin = \"A\"\nbits = []\nout = { A = 0 }\n";
     let name = shape(alloc, text)?.ok_or("no shape fault")?;
     assert!(rt; name.bytes() == b"A".as_slice());
+    let escaped = shape(
+        alloc,
+        "[[cell.'S\\D'.path]]\nin = \"A\"\nbits = [2]\nout = { Q = 0 }\n",
+    )?
+    .ok_or("no shape fault")?;
+    assert!(rt; escaped.bytes() == b"SD".as_slice());
     let top = shape(alloc, "cell = 3\n")?.ok_or("no fault at the top")?;
     assert!(rt; top.bytes().is_empty());
     Ok(())

@@ -6,8 +6,8 @@ ghost use Rattle.chain_rules.specs.Belonging.{element_at, IsElement, IsOnlyStep,
 use crate::index::Index;
 use crate::spec::{ChainSpec, ElementSpec, ListSpec, PathSpec, StepSpec};
 use crate::stretch::elements_of_list;
-use std::alloc::Global;
 use base_types::{NoMemory, Rows};
+use std::alloc::Global;
 
 // There are fewer paths, steps, chains, elements and bits than this.
 const MANY: usize = 4294967296;

@@ -13,8 +13,8 @@ use crate::plan::Plan;
 use crate::spec::{ChainSpec, EndSpec};
 use crate::stretch::Run;
 use crate::unit::{ChainRule, Rules, Unit};
-use std::alloc::Global;
 use base_types::{NoMemory, Rows};
+use std::alloc::Global;
 
 // Whether the last unit of a chain is pinned, where it ends at this place.
 fn pins_last(index: &Index<'_>, chain: &ChainSpec, run: Run, last: usize) -> bool

@@ -4,8 +4,8 @@ ghost use Rattle.chain_rules.specs.Stretches.{IsInside};
 ghost use Rattle.chain_rules.specs.Runs.{stretch, mark_at, AreTogether, AreCuts, end_of_cuts};
 
 use crate::listing::Listing;
-use std::alloc::Global;
 use base_types::NoMemory;
+use std::alloc::Global;
 
 // The places of the first and the last step of a unit.
 #[derive(Clone, Copy)]

@@ -8,8 +8,8 @@ use crate::index::Index;
 use crate::marks::marks_of;
 use crate::spec::{ChainSpec, ElementSpec};
 use crate::stretch::Run;
-use std::alloc::Global;
 use base_types::NoMemory;
+use std::alloc::Global;
 
 // The stretch of a chain, with the mark of each of its steps.
 #[derive(Drop)]

@@ -7,8 +7,8 @@ ghost use Rattle.chain_rules.specs.Runs.{stretch, AreMarks};
 use crate::index::Index;
 use crate::spec::{ChainSpec, ElementSpec, ListSpec};
 use crate::stretch::Run;
-use std::alloc::Global;
 use base_types::NoMemory;
+use std::alloc::Global;
 
 // Marks the step of an element.
 fn mark(index: &Index<'_>, run: Run, element: ElementSpec, group: usize, marks: &mut [usize])

@@ -2,10 +2,10 @@ ghost use Rattle.std.specs.Prelude.{◌≡◌, ◌<◌, ◌≤◌, length, slice
 ghost use Rattle.chain_rules.specs.Plans.{lists_of};
 ghost use Rattle.chain_rules.specs.Legality.{chain_at, with_chain};
 
+use base_types::NoMemory;
 use std::alloc::Global;
 use std::marker::Model;
 use std::mem;
-use base_types::NoMemory;
 
 /// Which units stand in which chain, in their order; contracts see it as a record of a list of lists of unit numbers.
 #[derive(Debug, Drop)]

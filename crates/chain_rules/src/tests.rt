@@ -3,10 +3,10 @@ use crate::{
     ChainRule, ChainSpec, ElementSpec, EndSpec, ListSpec, PathSpec, Rules, StepSpec, Unit,
     are_chains, units_of,
 };
+use base_types::{FileKind, Kind, NoMemory, ReadFault, Rows, Spot};
 use std::alloc::{Alloc, Global};
 use std::process::Abort;
 use std::test::Fail;
-use base_types::{FileKind, Kind, NoMemory, ReadFault, Rows, Spot};
 
 // The elements of a list by their letters.
 #[derive(Clone, Copy)]

@@ -4,10 +4,10 @@ ghost use Rattle.chain_rules.specs.Legality.{IsIn, IsOpen, taken_out};
 use crate::tests::List::{Floating, Ordered};
 use crate::tests::{Chain, List, listing, rules_of};
 use crate::{Plan, Position, Rules, can_move, can_swap, is_legal};
+use base_types::NoMemory;
 use std::alloc::{Alloc, Global};
 use std::process::Abort;
 use std::test::Fail;
-use base_types::NoMemory;
 
 // The chains of two_chains, of three and of five flops.
 pub(crate) fn two_chains() -> [Chain<'static>; 2] {

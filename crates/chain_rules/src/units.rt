@@ -16,8 +16,8 @@ use crate::meets::first_not_a_stretch;
 use crate::spec::{ChainSpec, PathSpec};
 use crate::stretch::{Run, stretch_of};
 use crate::unit::Rules;
-use std::alloc::Global;
 use base_types::{Fault, FileKind, Kind, NoMemory, ReadFault, Spot};
+use std::alloc::Global;
 
 // A fault of a kind, at the line of the chain's statement.
 fn refusal(kind: Kind, chain: &ChainSpec) -> ReadFault

@@ -8,8 +8,8 @@ use crate::desk::Desk;
 use crate::put::{PutFault, put_all};
 use crate::slot::Slot;
 use crate::take::{TakeFault, take_all};
-use std::alloc::Global;
 use base_types::Text;
+use std::alloc::Global;
 
 /// Opens an input, takes all its bytes, of which there are at most `limit`, and closes it.
 ///

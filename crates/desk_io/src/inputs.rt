@@ -11,9 +11,9 @@ use crate::file::take_file;
 use crate::names::{Names, name_of};
 use crate::slot::{INPUTS, Slot};
 use crate::take::TakeFault;
+use base_types::Text;
 use std::alloc::Global;
 use std::marker::Model;
-use base_types::Text;
 use thiserror::Error;
 
 /// The most bytes of a cell table.

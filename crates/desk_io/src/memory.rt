@@ -9,9 +9,9 @@ use crate::desk::{Desk, Failed};
 use crate::files::file_bytes;
 use crate::part::Part;
 use crate::slot::{INPUTS, SLOTS, Slot, Stage};
+use base_types::{NoMemory, Text};
 use std::alloc::Global;
 use std::marker::Model;
-use base_types::{NoMemory, Text};
 
 /// A desk over files in memory, whose calls fail by their numbers.
 ///

@@ -4,9 +4,9 @@ ghost use Rattle.desk_io.specs.Memory.{PartState, fresh_part};
 
 use crate::files::move_bytes;
 use crate::slot::Stage;
+use base_types::NoMemory;
 use std::alloc::Global;
 use std::marker::Model;
-use base_types::NoMemory;
 
 /// One slot of a desk in memory, without its file.
 #[derive(Drop)]

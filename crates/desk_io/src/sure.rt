@@ -7,8 +7,8 @@ ghost use Rattle.desk_io.specs.Sure.{sure_slots, sure_unread, fresh_sure_slot};
 use crate::desk::{Desk, Failed};
 use crate::files::{file_bytes, move_bytes};
 use crate::slot::{SLOTS, Slot, Stage};
-use std::marker::Model;
 use base_types::Text;
+use std::marker::Model;
 
 /// A desk over files in memory whose calls never fail, and which drops what is written.
 ///

@@ -4,8 +4,8 @@ ghost use Rattle.desk_io.specs.Prefixes.{IsAtEnd, HasTaken, HasTakenAndFailed};
 
 use crate::desk::{Desk, Failed};
 use crate::slot::Slot;
-use std::alloc::Global;
 use base_types::Text;
+use std::alloc::Global;
 use thiserror::Error;
 
 /// How many bytes a read may give at once.

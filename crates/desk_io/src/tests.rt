@@ -7,9 +7,9 @@ use crate::{
     MemoryDesk, Names, Outputs, PutFault, Slot, SureDesk, TakeFault, put_file, put_outputs,
     take_file, take_inputs,
 };
+use base_types::{Text, Word};
 use std::alloc::Global;
 use std::test::Fail;
-use base_types::{Text, Word};
 
 const BYTES: &[u8] = b"abcd";
 

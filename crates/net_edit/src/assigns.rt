@@ -6,10 +6,10 @@ ghost use Rattle.net_edit.specs.Erasure.{is_sink_bit, is_sink_assign, erased_ass
 
 use crate::instances::copy_expr;
 use crate::sinks::Sinks;
+use base_types::{NoMemory, Rows};
 use chain_trace::plain_of;
 use netlist_core::{Assign, Bit, Bits, Expr, NetName};
 use std::alloc::Global;
-use base_types::{NoMemory, Rows};
 
 fn is_sink_bit(nets: &[NetName], sinks: &Sinks, bit: Bit) -> bool
     ensures value { result ≡ is_sink_bit sinks.now (named_bit nets.now bit) }

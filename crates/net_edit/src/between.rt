@@ -12,11 +12,11 @@ ghost use Rattle.net_edit.specs.Reordered.{IsReordered, sinks_of};
 use crate::edits::{Edits, PinEdit, PortEdit};
 use crate::links::{Link, lacks, links_of, set_of};
 use crate::nets::assign_at;
+use base_types::{NoMemory, Rows};
 use cell_table::CellTable;
 use chain_trace::{Path, Sink, Source, source_net};
 use netlist_core::{NetId, Netlist};
 use std::alloc::Global;
-use base_types::{NoMemory, Rows};
 
 // The edit of an in pin that gets another source.
 fn put_pin(

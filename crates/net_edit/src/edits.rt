@@ -1,5 +1,5 @@
-use netlist_core::NetId;
 use base_types::Rows;
+use netlist_core::NetId;
 
 /// The in pin of a scan path of an instance, and the net that is to stand there.
 #[derive(Clone, Copy, Debug, PartialEq, Eq)]

@@ -6,9 +6,9 @@ ghost use Rattle.net_edit.specs.Erasure.{erased_netlist};
 use crate::assigns::erased_assigns;
 use crate::instances::erased_instances;
 use crate::sinks::Sinks;
+use base_types::{Name, NoMemory, Rows};
 use netlist_core::{NetName, Netlist, Port};
 use std::alloc::Global;
-use base_types::{Name, NoMemory, Rows};
 
 fn copy_nets(alloc: Global, nets: &[NetName]) -> Result<Rows<NetName>, NoMemory>
     ensures value { IfOk result (λ copies. copies ≡ nets.now) }

@@ -5,9 +5,9 @@ ghost use Rattle.netlist_core.specs.Netlists.{named_pin, named_instance};
 ghost use Rattle.net_edit.specs.Erasure.{erased_pin, erased_instance};
 
 use crate::sinks::Sinks;
+use base_types::{Name, NoMemory, Rows};
 use netlist_core::{Bits, Connection, Expr, Instance};
 use std::alloc::Global;
-use base_types::{Name, NoMemory, Rows};
 
 pub(crate) fn copy_expr(alloc: Global, expr: &Expr) -> Result<Expr, NoMemory>
     ensures value { IfOk result (λ copy. copy ≡ expr.now) }

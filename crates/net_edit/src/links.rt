@@ -4,10 +4,10 @@ ghost use Rattle.std.specs.List.{flat_map, list_any};
 ghost use Rattle.net_edit.specs.Edits.{Link as one_link, links, same_link};
 ghost use Rattle.net_edit.specs.EditKeys.{key_of, HasLinks};
 
+use base_types::NoMemory;
 use chain_trace::{Path, Sink, Source};
 use std::alloc::Global;
 use std::collections::HashSet;
-use base_types::NoMemory;
 
 /// A sink and the source that feeds it.
 pub(crate) type Link = (Source, Sink);

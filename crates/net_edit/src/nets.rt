@@ -3,8 +3,8 @@ ghost use Rattle.std.specs.Prelude.{◌≡◌, IfOk};
 ghost use Rattle.net_edit.specs.Edits.{assign_at};
 
 use crate::free::is_one_net;
-use netlist_core::{NetId, Netlist};
 use base_types::NoMemory;
+use netlist_core::{NetId, Netlist};
 
 /// The place of the first assign whose whole left side is the net. A place beyond 32 bits counts as want of memory.
 pub(crate) fn assign_at(netlist: &Netlist, net: NetId) -> Result<Option<u32>, NoMemory>

@@ -1,5 +1,6 @@
 // The worked chain, put together by hand.
 use crate::{Edits, PinEdit, PortEdit, SinkPin, Sinks, edits_for, erased, is_free};
+use base_types::{Name, Rows, Span};
 use cell_table::CellTable;
 use chain_trace::{Path, Step};
 use netlist_core::{
@@ -8,7 +9,6 @@ use netlist_core::{
 };
 use std::alloc::Global;
 use std::test::Fail;
-use base_types::{Name, Rows, Span};
 
 fn name(alloc: Global, text: &str) -> Result<Name, Fail> {
     Ok(Name::copy(alloc, text.as_bytes())?)

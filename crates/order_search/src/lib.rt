@@ -14,7 +14,7 @@ mod searchable;
 
 pub use effort::Effort;
 pub use nearest::nearest_plan;
-pub use order::{settle_order, settle_order_counted};
+pub use order::{settle_order, settle_order_counted, settle_plan};
 pub use reversals::{SearchCount, settle_chain, settle_chain_counted};
 pub use searchable::are_searchable;
 

@@ -7,9 +7,9 @@ ghost use Rattle.order_search.specs.Nearest.{IsNearestChain, IsNearestPlan};
 ghost use Rattle.order_search.specs.Searches.{AreSearchable};
 
 use crate::reversals::free_count;
+use base_types::{NoMemory, Point};
 use chain_rules::{Plan, Rules};
 use std::alloc::Global;
-use base_types::{NoMemory, Point};
 use wire_cost::{Ends, entry_of, exit_of, wire};
 
 // The place of the unit with the least link from `from`, the first on a tie.

@@ -8,14 +8,14 @@ ghost use Rattle.order_search.specs.Trials.{HasGain, IsGain, NoMoveOf, NoMoveTo,
 
 use crate::effort::Effort;
 use crate::reversals::reverse_run;
+use base_types::NoMemory;
 use chain_rules::plain::is_legal;
 use chain_rules::{Plan, Rules};
 use std::alloc::Global;
-use base_types::NoMemory;
 use wire_cost::{Ends, plan_length};
 
-// The length of a legal plan.
-pub(crate) fn length_of(rules: &Rules, ends: &Ends, plan: &Plan) -> i64
+/// The length of a legal plan.
+pub fn length_of(rules: &Rules, ends: &Ends, plan: &Plan) -> i64
     requires searchable { AreSearchable rules.now ends.now }
     requires legal { IsLegal rules.now plan.now }
     ensures value { result ≡ pos (plan_length_of ends.now plan.now) }

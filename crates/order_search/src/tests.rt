@@ -1,10 +1,10 @@
 use crate::plain::{is_settled, length_of};
 use crate::{Effort, are_searchable, nearest_plan, settle_order};
+use base_types::{NoMemory, Point, Rows};
 use chain_rules::plain::is_legal;
 use chain_rules::{ChainRule, Plan, Rules, Unit};
 use std::alloc::{Alloc, Global};
 use std::process::Abort;
-use base_types::{NoMemory, Point, Rows};
 use wire_cost::Ends;
 
 // A chain of one-bit units from x = 0 on the line y to its stop there: where they are entered and left, how many bits it

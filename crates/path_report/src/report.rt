@@ -5,11 +5,11 @@ ghost use Rattle.base_types.specs.FirstFault.{IfFault, IsFirstFault};
 ghost use Rattle.path_report.specs.Reports.{step_text, path_text, IsPathText, HoldsInTrace};
 
 use crate::steps::{path_parity, push_step};
+use base_types::{Fault, Kind, NoMemory, ReadFault, Text};
 use cell_table::{CellTable, read_table};
 use chain_trace::{Path, Step, output_named, plain_of, trace};
 use netlist_core::{Netlist, classes_of};
 use std::alloc::Global;
-use base_types::{Fault, Kind, NoMemory, ReadFault, Text};
 use verilog_reader::read_netlist;
 
 fn push_steps(

@@ -4,11 +4,11 @@ ghost use Rattle.std.specs.List.{flat_map};
 ghost use Rattle.chain_trace.specs.Parities.{plus, odd, step_inversions, path_parity};
 ghost use Rattle.path_report.specs.Reports.{entry_text, step_text};
 
+use base_types::NoMemory;
 use cell_table::{CellTable, OutPin, ScanPath};
 use chain_trace::{Step, out_pin, scan_path};
 use netlist_core::{Instance, Netlist};
 use std::alloc::Global;
-use base_types::NoMemory;
 
 /// The sum modulo 2.
 fn plus(a: bool, b: bool) -> bool

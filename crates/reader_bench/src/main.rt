@@ -6,6 +6,7 @@ ghost use Rattle.std.specs.Prelude.{◌<◌, ◌^◌, length};
 ghost use Rattle.netlist_core.specs.Netlists.{IsNetlist};
 
 use anyhow::{Context, Result, bail, ensure};
+use base_types::Name;
 use cell_table::CellTable;
 use chain_trace::{output_named, trace};
 use netlist_core::{Netlist, classes_of};
@@ -14,7 +15,6 @@ use std::env;
 use std::fmt::Write;
 use std::rt::Clock;
 use std::time::Instant;
-use base_types::Name;
 use verilog_reader::read_netlist;
 
 const MEGABYTE: usize = 1_000_000;

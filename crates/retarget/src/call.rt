@@ -11,9 +11,9 @@ use crate::map::Map;
 use crate::route::Route;
 use crate::side::Side;
 use crate::strings::moved_strings;
+use base_types::{NoMemory, Rows, Text};
 use std::alloc::Global;
 use stil_reader::ScanCall;
-use base_types::{NoMemory, Rows, Text};
 
 /// The scan call that loads every cell alike on the new chains, and passes exactly when the read
 /// one does on the old chains (IEEE 1450-1999, Shift).

@@ -3,9 +3,9 @@ ghost use Rattle.stil_tester.specs.Shifting.{AreChains, IsCallFor};
 ghost use Rattle.retarget.specs.Places.{longest};
 ghost use Rattle.retarget.specs.Judging.{compare_character, is_expectation, IsLongCompare, IsAccepted, IsRefusal, LoadsCells, ComparesCells};
 
+use base_types::{Kind, Text};
 use stil_reader::ScanCall;
 use stil_tester::Chains;
-use base_types::{Kind, Text};
 
 /// Why a scan call can't be retargeted, or None: it shifts too seldom to reach every cell, or it
 /// expects something where no cell of before the call comes out (IEEE 1450-1999, Shift).

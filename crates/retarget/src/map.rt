@@ -3,10 +3,10 @@ ghost use Rattle.stil_tester.specs.Shifting.{AreChains};
 
 use crate::judge::longest_chain;
 use crate::route::Route;
+use base_types::NoMemory;
 use std::alloc::Global;
 use std::marker::Model;
 use stil_tester::Chains;
-use base_types::NoMemory;
 
 /// What a call's way from old chains to new ones needs: both, with the parities of their bits.
 /// Contracts see it as the pair of the old and the new chains.

@@ -5,9 +5,9 @@ ghost use Rattle.retarget.specs.Sides.{HasParities, AreParities};
 ghost use Rattle.retarget.specs.declared.side.Side.TheVariants.{Load, Compare};
 
 use crate::side::Side;
+use base_types::{NoMemory, Rows};
 use std::alloc::Global;
 use stil_tester::{ChainBits, Chains};
-use base_types::{NoMemory, Rows};
 
 /// Chains with the parities of their bits.
 #[derive(Debug, Drop)]

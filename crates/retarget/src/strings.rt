@@ -5,8 +5,8 @@ ghost use Rattle.retarget.specs.Sides.{filler_of, character_in, index_of, AreVal
 
 use crate::route::Route;
 use crate::side::{Side, bytes_of, flipped};
-use std::alloc::Global;
 use base_types::{NoMemory, Rows, Text};
+use std::alloc::Global;
 
 /// The strings of one side for the new chains, each at full length.
 pub fn moved_strings(

@@ -1,9 +1,9 @@
 //! Chains and calls made from numbers that only look random.
 
+use base_types::{NoMemory, Rows, Text};
 use std::alloc::Global;
 use stil_reader::ScanCall;
 use stil_tester::{ChainBits, Chains};
-use base_types::{NoMemory, Rows, Text};
 
 const CHAINS: usize = 32;
 

@@ -18,6 +18,7 @@ mod sweep;
 mod tests;
 
 use anyhow::{Context, Result, bail, ensure};
+use base_types::Text;
 use call_checks::{are_chains, is_call_for};
 use made::{Numbers, cut, full_call, lengths, shuffled};
 use plain::agree_from_turns;
@@ -28,7 +29,6 @@ use std::rt::Clock;
 use std::time::Instant;
 use stil_reader::ScanCall;
 use stil_tester::Chains;
-use base_types::Text;
 
 /// Calls that differ; the rounds go through them in turn.
 const CALLS: usize = 8;

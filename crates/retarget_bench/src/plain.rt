@@ -3,10 +3,10 @@
 ghost use Rattle.std.specs.Prelude.{◌≡◌, length};
 ghost use Rattle.stil_tester.specs.Shifting.{AreChains, HasCells, IsCallFor};
 
+use base_types::NoMemory;
 use std::alloc::Global;
 use stil_reader::ScanCall;
 use stil_tester::{Chains, Symbol, scan_call};
-use base_types::NoMemory;
 
 /// Shifts both calls step by step, the written one from the cells as the read one finds them: their
 /// verdict, or None where they have different ones or leave the cells different.

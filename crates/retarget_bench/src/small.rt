@@ -2,13 +2,13 @@
 ghost use Rattle.std.specs.Prelude.{IfOk};
 ghost use Rattle.stil_tester.specs.Shifting.{AreChains};
 
+use base_types::{NoMemory, Rows, Text};
 use call_checks::are_chains;
 use std::alloc::Global;
 use std::process::Abort;
 use std::test::Fail;
 use stil_reader::ScanCall;
 use stil_tester::{ChainBits, Chains, Symbol};
-use base_types::{NoMemory, Rows, Text};
 
 /// None given, and the strings of at most four of three characters.
 pub const STRINGS: usize = 122;

@@ -36,6 +36,7 @@ use crate::small::{
     CELLS, PRIME, STRINGS, compare_calls, filling, loads, longest, paired_calls, two_chains,
     two_strings,
 };
+use base_types::{Kind, Rows, Text};
 use call_checks::is_call_for;
 use retarget::{Map, judge_call, map_of, retarget_call};
 use std::alloc::Global;
@@ -44,7 +45,6 @@ use std::process::Abort;
 use std::test::Fail;
 use stil_reader::ScanCall;
 use stil_tester::Chains;
-use base_types::{Kind, Rows, Text};
 
 /// How many bits two chains have.
 type Sizes = [usize; 2];

@@ -2,6 +2,7 @@
 ghost use Rattle.std.specs.Prelude.{◌≡◌, IfOk, length};
 ghost use Rattle.stil_tester.specs.Shifting.{AreChains};
 
+use base_types::{Kind, NoMemory, Rows, Text};
 use call_checks::{are_chains, is_call_for};
 use retarget::{Map, judge_call, map_of, retarget_call};
 use std::alloc::Global;
@@ -9,7 +10,6 @@ use std::process::Abort;
 use std::test::Fail;
 use stil_reader::ScanCall;
 use stil_tester::{ChainBits, Chains};
-use base_types::{Kind, NoMemory, Rows, Text};
 
 /// The cells and the parities of a chain, its output parity last.
 type Bits = (&'static [u32], &'static [bool]);

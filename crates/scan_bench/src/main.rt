@@ -3,12 +3,12 @@
 #![tactic(auto)]
 
 use anyhow::{Context, Result, ensure};
+use base_types::Span;
 use std::alloc::Global;
 use std::env;
 use std::fmt::Write;
 use std::rt::Clock;
 use std::time::Instant;
-use base_types::Span;
 use verilog_syntax::verilog_tokens;
 
 const MEGABYTE: usize = 1_000_000;

@@ -7,13 +7,13 @@ mod file_desk;
 #[cfg(test)]
 mod tests;
 
+use base_types::Word;
 use file_desk::FileDesk;
 use scan_job::run;
 use std::alloc::Global;
 use std::io::ErrorKind;
 use std::process::ExitCode;
 use std::{env, io};
-use base_types::Word;
 
 /// The status of words that are of no written form.
 const NO_FORM: u8 = 1;

@@ -1,10 +1,10 @@
 // The desk over real files.
 use crate::file_desk::FileDesk;
+use base_types::Word;
 use scan_job::run;
 use std::alloc::Global;
 use std::fs;
 use std::test::Fail;
-use base_types::Word;
 
 const THREE_FLOPS: &str =
     "module top ( clk, se, si, so, d0, d1, d2 );\n  input clk, se, si, d0, d1, d2;\n  output so;\n  wire qa, qb, qc;\n  SDF a ( .D(d0), .CK(clk), .SE(se), .SI(si), .Q(qa) );\n  SDF b ( .D(d1), .CK(clk), .SE(se), .SI(qa), .Q(qb) );\n  SDF c ( .D(d2), .CK(clk), .SE(se), .SI(qb), .Q(qc) );\n  assign so = qc;\nendmodule\n";

@@ -13,10 +13,10 @@ use crate::judge::judge;
 use crate::line::fault_line;
 use crate::names::names_of;
 use crate::stop::Stop;
+use base_types::{Fault, FileKind, Kind, ReadFault, Spot};
 use desk_io::{Desk, Inputs, InputsFault, Names, Slot, put_file, put_outputs, take_inputs};
 use scan_words::Order;
 use std::alloc::Global;
-use base_types::{Fault, FileKind, Kind, ReadFault, Spot};
 
 /// The input of a slot, as faults name it.
 fn file_of(slot: Slot) -> FileKind

@@ -8,12 +8,12 @@ ghost use Rattle.scan_job.specs.Commands.{value_at, IsFit};
 
 use crate::line::rewire_line;
 use crate::names::{rewire_of, value_at};
+use base_types::{ReadFault, Text};
 use chain_rewire::rewire_text;
 use desk_io::{Inputs, Outputs, Slot};
 use path_report::path_text;
 use scan_words::{Order, Verb};
 use std::alloc::Global;
-use base_types::{ReadFault, Text};
 
 /// The texts of `rewire`, or the first fault of its file and its words.
 fn judge_rewire(alloc: Global, order: &Order, inputs: &Inputs) -> Result<Outputs, ReadFault>

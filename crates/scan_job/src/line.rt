@@ -2,9 +2,9 @@ ghost use Rattle.std.specs.Prelude.{◌≡◌, ◌++◌, [], IfOk, OnOk, unwrap_
 ghost use Rattle.scan_job.specs.FirstFault.{file_word, spot_text, fault_text};
 ghost use Rattle.scan_job.specs.Texts.{rewire_text};
 
+use base_types::{Fault, FileKind, NoMemory, Spot, Text, Word};
 use desk_io::Names;
 use std::alloc::Global;
-use base_types::{Fault, FileKind, NoMemory, Spot, Text, Word};
 
 fn word_text(word: &Option<Word>) -> &str
     ensures value { result.now ≡ unwrap_or word.now [] }

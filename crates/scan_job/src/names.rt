@@ -1,11 +1,11 @@
 ghost use Rattle.std.specs.Prelude.{◌≡◌, IfOk};
 ghost use Rattle.scan_job.specs.Commands.{value_at, names_of, rewire_of};
 
+use base_types::{Name, NoMemory, Rows, Word};
 use chain_rewire::Rewire;
 use desk_io::Names;
 use scan_words::{Order, Verb};
 use std::alloc::Global;
-use base_types::{Name, NoMemory, Rows, Word};
 
 /// The value of the option at a place of the command's list; empty where there is none.
 pub(crate) fn value_at(order: &Order, place: usize) -> &str

@@ -4,10 +4,10 @@ ghost use Rattle.desk_io.specs.Desk.{AllUnopened};
 ghost use Rattle.desk_io.specs.Memory.{slots_of};
 
 use crate::run;
+use base_types::{Text, Word};
 use desk_io::{MemoryDesk, Slot, SureDesk};
 use std::alloc::Global;
 use std::test::Fail;
-use base_types::{Text, Word};
 
 const THREE_FLOPS: &str =
     "module top ( clk, se, si, so, d0, d1, d2 );\n  input clk, se, si, d0, d1, d2;\n  output so;\n  wire qa, qb, qc;\n  SDF a ( .D(d0), .CK(clk), .SE(se), .SI(si), .Q(qa) );\n  SDF b ( .D(d1), .CK(clk), .SE(se), .SI(qa), .Q(qb) );\n  SDF c ( .D(d2), .CK(clk), .SE(se), .SI(qb), .Q(qc) );\n  assign so = qc;\nendmodule\n";

@@ -13,10 +13,10 @@ ghost use Rattle.scan_job.specs.Ended.{HasRun, status_of};
 
 use crate::command::run_order;
 use crate::stop::Stop;
+use base_types::{NoMemory, Word};
 use desk_io::Desk;
 use scan_words::read_words;
 use std::alloc::Global;
-use base_types::{NoMemory, Word};
 
 fn status_of(ended: Result<(), Stop>) -> u8
     ensures value { result ≡ status_of ended }

@@ -8,10 +8,10 @@ ghost use Rattle.scan_words.specs.Form.{only_value, each_value, verb_name, optio
 use crate::form::have_parts;
 use crate::order::Order;
 use crate::verb::Verb;
+use base_types::{NoMemory, Rows, Word};
 use clap::error::ErrorKind;
 use clap::{Arg, ArgAction, ArgMatches, Command};
 use std::alloc::{AllocError, Global};
-use base_types::{NoMemory, Rows, Word};
 
 /// An option with one value each time.
 fn option_of<'a>(alloc: Global, name: &'a str) -> Arg<'a>

@@ -1,7 +1,7 @@
 use crate::{Order, read_words};
+use base_types::Word;
 use std::alloc::Global;
 use std::test::Fail;
-use base_types::Word;
 
 fn read(alloc: Global, line: &str) -> Result<Option<Order>, Fail> {
     let mut words = Vec::new(alloc);

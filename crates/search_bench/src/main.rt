@@ -6,13 +6,13 @@
 
 ghost use Rattle.std.specs.Prelude.{ℕ, ◌^◌, ◌<◌};
 
+use base_types::{NoMemory, Point, Rows};
 use chain_rules::{ChainRule, Plan, Rules, Unit};
 use order_search::{are_searchable, nearest_plan, settle_order_counted};
 use std::alloc::{Alloc, Global};
 use std::rt::Clock;
 use std::time::Instant;
 use std::{env, io};
-use base_types::{NoMemory, Point, Rows};
 use wire_cost::{Ends, are_placed, chain_length, is_chain_at};
 
 const SMALL: u32 = 60;

@@ -1,6 +1,8 @@
+pub mod Seams
 pub mod Written
 pub mod Steps
 pub mod Tokens
+pub mod Edited
 pub mod Parts
 pub mod Joined
 pub mod Rising

@@ -4,128 +4,88 @@ use Rattle.std.proofs.lemmas.List.{map-append, append-nil}
 use Rattle.base_types.specs.declared.span.Span.{Span}
 use Rattle.token_forms.specs.Tokens.{Token}
 use Rattle.std.specs.List.{AllByRecursion as Each}
-use Rattle.verilog_syntax.specs.Seams.{is_mark, IsReady}
-use Rattle.verilog_syntax.specs.VerilogTokens.{texts}
 use Rattle.splice.specs.declared.Edit.{Edit}
-use Rattle.splice.specs.Parts.{Part, Fixed, Slot, FitsFixed, FitsSlot, Fits, spelled}
-use Rattle.splice.specs.Edited.{IsEdit, AreEdits}
-use Rattle.splice.proofs.Tokens.{token_texts, SwapTokens, AreSwapped}
+use Rattle.token_forms.specs.Parts.{Part, Fixed, Slot, Fits, spelled, token_texts}
+use Rattle.token_forms.proofs.Spelled.{split_fits, fits_front}
+use Rattle.token_forms.proofs.Unspelled.{spelled_append}
+use Rattle.splice.proofs.Edited.{AreEdits}
+use Rattle.splice.proofs.Seams.{Seams, texts_in, IsReady}
+use Rattle.splice.proofs.Tokens.{AreSwapped}
 
-pub record Split (ps qs : List Part) (rest ts : List Token) : Type 0 where
-  pub middle : List Token
-  pub first : Fits ps middle ts
-  pub second : Fits qs rest middle
+module _ (s : Seams) where
+  -- the marks of the slots are marks
+  abbrev pub AreMarked : List Part → Type 0
+  AreMarked [] = Unit {0}
+  AreMarked (Fixed w ∷ ps) = AreMarked ps
+  AreMarked (Slot opening place ws closing ∷ ps) = (s.marks opening ≡ true) × (s.marks closing ≡ true) × AreMarked ps
 
-pub split_fits : (ps qs : List Part) (rest ts : List Token) → Fits (ps ++ qs) rest ts → Split ps qs rest ts
-split_fits [] qs rest ts f = record { middle = ts; first = refl; second = f }
-split_fits (Fixed w ∷ ps) qs rest ts f =
-    let s = split_fits ps qs rest f.behind f.more in
-    record { middle = s.middle; first = record { token = f.token; behind = f.behind; is = f.is; text = f.text; more = s.first }; second = s.second }
-split_fits (Slot o sp ws c ∷ ps) qs rest ts f =
-    let s = split_fits ps qs rest f.behind f.more in
-    record {
-      middle = s.middle;
-      first = record { mark = f.mark; run = f.run; next = f.next; behind = f.behind; is = f.is; opens = f.opens; closes = f.closes; texts = f.texts; placed = f.placed; more = s.first };
-      second = s.second;
-    }
+  pub marked_behind : (ps qs : List Part) → AreMarked (ps ++ qs) → AreMarked qs
+  marked_behind [] qs m = m
+  marked_behind (Fixed w ∷ ps) qs m = marked_behind ps qs m
+  marked_behind (Slot o sp ws c ∷ ps) qs m = marked_behind ps qs m.2
 
-pub record Front (ps : List Part) (rest ts : List Token) : Type 0 where
-  pub front : List Token
-  pub is : ts ≡ front ++ rest
-  pub texts : token_texts front ≡ spelled ps
+  pub marked_append : (ps qs : List Part) → AreMarked ps → AreMarked qs → AreMarked (ps ++ qs)
+  marked_append [] qs m n = n
+  marked_append (Fixed w ∷ ps) qs m n = marked_append ps qs m n
+  marked_append (Slot o sp ws c ∷ ps) qs m n = (m.0, m.1, marked_append ps qs m.2 n)
 
-pub fits_front : (ps : List Part) (rest ts : List Token) → Fits ps rest ts → Front ps rest ts
-fits_front [] rest ts f = record { front = []; is = f; texts = refl }
-fits_front (Fixed w ∷ ps) rest ts f =
-    let r = fits_front ps rest f.behind f.more in
-    record { front = f.token ∷ r.front; is = f.is ∙ ap (λ (l : List Token). f.token ∷ l) r.is; texts = rw (f.text, r.texts) refl }
-fits_front (Slot o sp ws c ∷ ps) rest ts f =
-    let r = fits_front ps rest f.behind f.more in
-    record {
-      front = f.mark ∷ f.run ++ (f.next ∷ r.front);
-      is = f.is ∙ ap (λ (l : List Token). f.mark ∷ (f.run ++ f.next ∷ l)) r.is ∙ ap (λ (l : List Token). f.mark ∷ l) (sym (append_assoc f.run (f.next ∷ r.front) rest));
-      texts = rw (f.opens) (ap (λ (l : List (List ℕ)). (o ∷ []) ∷ l) (map-append (λ t. t.text) f.run (f.next ∷ r.front) ∙ rw (f.texts, f.closes, r.texts) refl));
-    }
+  -- one more token in front
+  swapped_more : (t : Token) (es : List Edit) (ts : List Token) (ws : List (List ℕ)) → AreSwapped s es ts ws → AreSwapped s es (t ∷ ts) (t.text ∷ ws)
+  swapped_more t [] ts ws sw = ap (λ (l : List (List ℕ)). t.text ∷ l) sw
+  swapped_more t (e ∷ es) ts ws sw = record {
+    front = t ∷ sw.front;
+    mark = sw.mark;
+    run = sw.run;
+    next = sw.next;
+    behind = sw.behind;
+    opening = sw.opening;
+    closing = sw.closing;
+    cut = ap (λ (l : List Token). t ∷ l) sw.cut;
+    opens = sw.opens;
+    opens_is = sw.opens_is;
+    closes = sw.closes;
+    closes_is = sw.closes_is;
+    place = sw.place;
+    ready = sw.ready;
+    later = sw.later;
+    news = ap (λ (l : List (List ℕ)). t.text ∷ l) sw.news;
+    more = sw.more;
+  }
 
--- the marks of the slots are marks
-abbrev pub AreMarked : List Part → Type 0
-AreMarked [] = Unit {0}
-AreMarked (Fixed w ∷ ps) = AreMarked ps
-AreMarked (Slot opening place ws closing ∷ ps) = (is_mark opening ≡ true) × (is_mark closing ≡ true) × AreMarked ps
+  news_of : (front : List Token) (mark next : Token) (before later qs : List Part) (o c : ℕ) (sp : Span) (ws : List (List ℕ)) → qs ≡ before ++ Slot o sp ws c ∷ later
+      → token_texts front ≡ spelled before → mark.text ≡ o ∷ [] → next.text ≡ c ∷ [] → spelled qs ≡ token_texts (front ++ mark ∷ []) ++ (ws ++ next.text ∷ spelled later)
+  news_of front mark next before later qs o c sp ws edited texts opens closes =
+      ap spelled edited ∙ spelled_append before (Slot o sp ws c ∷ later)
+      ∙ sym (ap (λ (l : List (List ℕ)). l ++ (ws ++ next.text ∷ spelled later)) (map-append (λ t. t.text) front (mark ∷ []))
+      ∙ rw (opens, closes, texts) (append_assoc (spelled before) ((o ∷ []) ∷ []) (ws ++ (c ∷ []) ∷ spelled later)))
 
-pub marked_behind : (ps qs : List Part) → AreMarked (ps ++ qs) → AreMarked qs
-marked_behind [] qs m = m
-marked_behind (Fixed w ∷ ps) qs m = marked_behind ps qs m
-marked_behind (Slot o sp ws c ∷ ps) qs m = marked_behind ps qs m.2
-
-pub marked_append : (ps qs : List Part) → AreMarked ps → AreMarked qs → AreMarked (ps ++ qs)
-marked_append [] qs m n = n
-marked_append (Fixed w ∷ ps) qs m n = marked_append ps qs m n
-marked_append (Slot o sp ws c ∷ ps) qs m n = (m.0, m.1, marked_append ps qs m.2 n)
-
--- one more token in front
-swapped_more : (t : Token) (es : List Edit) (ts : List Token) (ws : List (List ℕ)) → AreSwapped es ts ws → AreSwapped es (t ∷ ts) (t.text ∷ ws)
-swapped_more t [] ts ws sw = ap (λ (l : List (List ℕ)). t.text ∷ l) sw
-swapped_more t (e ∷ es) ts ws sw = record {
-  front = t ∷ sw.front;
-  mark = sw.mark;
-  run = sw.run;
-  next = sw.next;
-  behind = sw.behind;
-  opening = sw.opening;
-  closing = sw.closing;
-  cut = ap (λ (l : List Token). t ∷ l) sw.cut;
-  opens = sw.opens;
-  opens_is = sw.opens_is;
-  closes = sw.closes;
-  closes_is = sw.closes_is;
-  place = sw.place;
-  ready = sw.ready;
-  later = sw.later;
-  news = ap (λ (l : List (List ℕ)). t.text ∷ l) sw.news;
-  more = sw.more;
-}
-
-pub spelled_append : (ps qs : List Part) → spelled (ps ++ qs) ≡ spelled ps ++ spelled qs
-spelled_append [] qs = refl
-spelled_append (Fixed w ∷ ps) qs = ap (λ (l : List (List ℕ)). w ∷ l) (spelled_append ps qs)
-spelled_append (Slot o sp ws c ∷ ps) qs =
-    ap (λ (l : List (List ℕ)). (o ∷ []) ∷ l) (ap (λ (l : List (List ℕ)). ws ++ (c ∷ []) ∷ l) (spelled_append ps qs) ∙ sym (append_assoc ws ((c ∷ []) ∷ spelled ps) (spelled qs)))
-
-news_of : (front : List Token) (mark next : Token) (before later qs : List Part) (o c : ℕ) (sp : Span) (ws : List (List ℕ)) → qs ≡ before ++ Slot o sp ws c ∷ later
-    → token_texts front ≡ spelled before → mark.text ≡ o ∷ [] → next.text ≡ c ∷ [] → spelled qs ≡ token_texts (front ++ mark ∷ []) ++ (ws ++ next.text ∷ spelled later)
-news_of front mark next before later qs o c sp ws edited texts opens closes =
-    ap spelled edited ∙ spelled_append before (Slot o sp ws c ∷ later)
-    ∙ sym (ap (λ (l : List (List ℕ)). l ++ (ws ++ next.text ∷ spelled later)) (map-append (λ t. t.text) front (mark ∷ []))
-    ∙ rw (opens, closes, texts) (append_assoc (spelled before) ((o ∷ []) ∷ []) (ws ++ (c ∷ []) ∷ spelled later)))
-
--- the tokens are swapped where the parts are
-pub swapped_parts : (es : List Edit) (ps qs : List Part) (ts : List Token) → AreMarked ps → Each (λ (e : Edit). IsReady e.text) es → Fits ps [] ts → AreEdits es ps qs → AreSwapped es ts (spelled qs)
-swapped_parts [] ps qs ts marked ready fits edits =
-    let f = fits_front ps [] ts fits in
-    ap spelled edits ∙ sym f.texts ∙ ap token_texts (sym (f.is ∙ append-nil f.front))
-swapped_parts (e ∷ es) ps qs ts marked ready fits edits =
-    let s = split_fits edits.before (Slot edits.opening e.span edits.inner edits.closing ∷ edits.behind) [] ts (subst (λ (l : List Part). Fits l [] ts) edits.is fits) in
-    let f = fits_front edits.before s.middle ts s.first in
-    let slot = s.second in
-    let marks = marked_behind edits.before (Slot edits.opening e.span edits.inner edits.closing ∷ edits.behind) (subst AreMarked edits.is marked) in
-    let more = swapped_parts es edits.behind edits.later slot.behind marks.2 ready.1 slot.more edits.more in
-    record {
-      front = f.front;
-      mark = slot.mark;
-      run = slot.run;
-      next = slot.next;
-      behind = slot.behind;
-      opening = edits.opening;
-      closing = edits.closing;
-      cut = f.is ∙ ap (λ (l : List Token). f.front ++ l) slot.is;
-      opens = marks.0;
-      opens_is = slot.opens;
-      closes = marks.1;
-      closes_is = slot.closes;
-      place = slot.placed;
-      ready = ready.0;
-      later = slot.next.text ∷ spelled edits.later;
-      news = news_of f.front slot.mark slot.next edits.before edits.later qs edits.opening edits.closing e.span (texts e.text) edits.edited f.texts slot.opens slot.closes;
-      more = swapped_more slot.next es slot.behind (spelled edits.later) more;
-    }
+  -- the tokens are swapped where the parts are
+  pub swapped_parts : (es : List Edit) (ps qs : List Part) (ts : List Token) → AreMarked ps → Each (λ (e : Edit). IsReady s e.text) es → Fits ps [] ts → AreEdits (texts_in s) es ps qs → AreSwapped s es ts (spelled qs)
+  swapped_parts [] ps qs ts marked ready fits edits =
+      let f = fits_front ps [] ts fits in
+      ap spelled edits ∙ sym f.texts ∙ ap token_texts (sym (f.is ∙ append-nil f.front))
+  swapped_parts (e ∷ es) ps qs ts marked ready fits edits =
+      let cut = split_fits edits.before (Slot edits.opening e.span edits.inner edits.closing ∷ edits.behind) [] ts (subst (λ (l : List Part). Fits l [] ts) edits.is fits) in
+      let f = fits_front edits.before cut.middle ts cut.first in
+      let slot = cut.second in
+      let marks = marked_behind edits.before (Slot edits.opening e.span edits.inner edits.closing ∷ edits.behind) (subst AreMarked edits.is marked) in
+      let more = swapped_parts es edits.behind edits.later slot.behind marks.2 ready.1 slot.more edits.more in
+      record {
+        front = f.front;
+        mark = slot.mark;
+        run = slot.run;
+        next = slot.next;
+        behind = slot.behind;
+        opening = edits.opening;
+        closing = edits.closing;
+        cut = f.is ∙ ap (λ (l : List Token). f.front ++ l) slot.is;
+        opens = marks.0;
+        opens_is = slot.opens;
+        closes = marks.1;
+        closes_is = slot.closes;
+        place = slot.placed;
+        ready = ready.0;
+        later = slot.next.text ∷ spelled edits.later;
+        news = news_of f.front slot.mark slot.next edits.before edits.later qs edits.opening edits.closing e.span (texts_in s e.text) edits.edited f.texts slot.opens slot.closes;
+        more = swapped_more slot.next es slot.behind (spelled edits.later) more;
+      }

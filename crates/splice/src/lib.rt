@@ -6,8 +6,8 @@
 ghost use Rattle.std.specs.Prelude.{◌≡◌, length, IfOk};
 ghost use Rattle.splice.specs.Spliced.{AreRising, spliced};
 
-use std::alloc::Global;
 use base_types::{Name, NoMemory, Span, Text};
+use std::alloc::Global;
 
 /// A part of a text, and what stands there in its place.
 #[derive(Debug, Drop)]

@@ -7,9 +7,9 @@ use crate::device::{Device, Told};
 use crate::results::{PlayLog, ScanResult};
 use crate::scan::{ports, shift_call};
 use crate::symbol::Symbol;
+use base_types::{NoMemory, Rows};
 use std::alloc::Global;
 use stil_reader::{PatternStatement, ScanCall};
-use base_types::{NoMemory, Rows};
 
 /// Plays statements in order, from the cells as they are.
 ///

@@ -5,9 +5,9 @@ ghost use Rattle.stil_tester.specs.Symbols.{padded_compare, padded_load};
 use crate::chains::Chains;
 use crate::shift::shift_step;
 use crate::symbol::{Expect, Symbol};
+use base_types::{NoMemory, Text};
 use std::alloc::Global;
 use stil_reader::ScanCall;
-use base_types::{NoMemory, Text};
 
 /// One scan call: in each shift the scan outputs are compared, then all chains move on
 /// (IEEE 1450-1999, Shift).

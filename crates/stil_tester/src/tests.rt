@@ -6,11 +6,11 @@ ghost use Rattle.stil_tester.specs.Shifting.{AreChains, IsCallFor, is_compare_ch
 ghost use Rattle.stil_tester.specs.declared.chains.Chains.{Chains};
 
 use crate::{ChainBits, Chains, Device, Hold, Mix, Symbol, play, scan_call};
+use base_types::{NoMemory, Rows, Text};
 use std::alloc::Global;
 use std::process::Abort;
 use std::test::Fail;
 use stil_reader::{PatternStatement, ScanCall};
-use base_types::{NoMemory, Rows, Text};
 
 /// One chain of three cells.
 fn chain(

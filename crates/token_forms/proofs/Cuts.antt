@@ -1,7 +1,7 @@
 -- A text cut into pieces, for any form of tokens whose pieces have a byte at least and lie in the text: the tokens go on
 -- behind each piece.
-use Rattle.std.proofs.Common.{◌≡◌, ℕ, zero, suc, ◌+◌, ◌-◌, ◌<◌, ◌≤◌, List, [], ◌∷◌, ◌++◌, length, drop, get_or, refl, sym, ap, ◌∙◌, append_assoc, arith, add-zero, length-drop}
-use Rattle.std.proofs.lemmas.List.{drop-drop, drop_more, drop_all, append-nil}
+use Rattle.std.proofs.Common.{◌≡◌, ℕ, zero, suc, ◌+◌, ◌-◌, ◌<◌, ◌≤◌, List, [], ◌∷◌, ◌++◌, length, take, drop, get_or, subst, refl, sym, ap, ◌∙◌, append_assoc, arith, add-zero, length-drop}
+use Rattle.std.proofs.lemmas.List.{drop-drop, drop_more, drop_all, append-nil, take_rest}
 use Rattle.base_types.specs.declared.span.Span.{Span}
 use Rattle.token_forms.specs.declared.piece.Piece.{Piece}
 use Rattle.token_forms.specs.declared.piece.Piece.TheVariants.{Blank}
@@ -56,6 +56,30 @@ module _ (piece_at : List ℕ → Piece) where
         within = omega (arith, w.within, length-drop (at + 1) text);
         same = rw (cut, tokens_from-cons at b bs (form.each b bs).some, ← here, ← cut, drop-drop) refl;
       }
+
+  -- the same where the piece alone is known to have a byte and to lie in the text, as the slice behind the place shows
+  pub steps_over : (text : List ℕ) (at : ℕ) (p : Piece) → at < length text → p ≡ piece_at (take (length text - at) (drop at text))
+      → (0 < length (take (length text - at) (drop at text)) → 0 < piece_len p) → piece_len p ≤ length (take (length text - at) (drop at text)) → Steps piece_at text at p
+  steps_over text at p lt is some_of within_of =
+      let b = get_or text at 0 in
+      let bs = drop (at + 1) text in
+      let whole = take_rest text at in
+      let count = length-drop at text in
+      let cut = drop_more text at 0 lt in
+      let here : p ≡ piece_at (b ∷ bs) = is ∙ ap piece_at (whole ∙ cut) in
+      let some : 0 < piece_len p = (rw whole at some_of) (omega (arith, count)) in
+      let within : piece_len p ≤ length (drop at text) = rw whole at within_of in
+      record {
+        some = some;
+        within = omega (arith, within, count);
+        same = rw (cut, tokens_from-cons at b bs (subst (λ (q : Piece). 0 < piece_len q) here some), ← here, ← cut, drop-drop) refl;
+      }
+
+  -- one more piece of a loop over them
+  pub goes_over : (text : List ℕ) (at : ℕ) (p : Piece) (spans pushed total : List Span) → Steps piece_at text at p
+      → pushed ≡ spans ++ span_of at p → spans ++ tokens_from piece_at at 0 (drop at text) ≡ total
+      → pushed ++ tokens_from piece_at (at + piece_len p) 0 (drop (at + piece_len p) text) ≡ total
+  goes_over text at p spans pushed total s more so_far = rw (more, append_assoc, ← s.same) so_far
 
   -- the same at any text
   pub piece-some : (bs : List ℕ) → IsCut piece_at → 0 < length bs → 0 < piece_len (piece_at bs)

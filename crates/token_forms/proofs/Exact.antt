@@ -1,5 +1,5 @@
 -- What a statement is read as is all that its tokens spell.
-use Rattle.std.proofs.Common.{◌≡◌, ◌==◌, ◌<◌, Bool, true, false, ◌&&◌, not, List, [], ◌∷◌, ◌++◌, length, Some, Result, Ok, Err, refl, sym, ap, ◌∙◌, subst, append_assoc, append-nil, arith}
+use Rattle.std.proofs.Common.{◌≡◌, ◌==◌, ◌<◌, Bool, true, false, ◌&&◌, not, List, [], ◌∷◌, ◌++◌, length, Some, Result, Ok, Err, refl, sym, ap, ◌∙◌, subst, append_assoc, append-nil, arith, length-append}
 use Rattle.std.proofs.lemmas.Bool.{ne_eqb}
 use Rattle.std.proofs.lemmas.Option.{same_Some, none-some}
 use Rattle.token_forms.specs.Tokens.{Token}
@@ -9,7 +9,7 @@ use Rattle.token_forms.specs.Parsing.{Gives}
 use Rattle.token_forms.specs.Classes.{Class, all_apart, begins}
 use Rattle.token_forms.specs.Forms.{Form, AreMany, many}
 use Rattle.token_forms.proofs.Laws.{many-lawful}
-use Rattle.token_forms.specs.Laws.{Stands, IsStatement, IsExactly, IsExactlyFirst, AreExactly}
+use Rattle.token_forms.specs.Laws.{Stands, IsLawful, IsStatement, IsExactly, IsExactlyFirst, AreExactly}
 
 module _ {X : Type 0} (f : Form X) (s : IsStatement f) where
   read_first : (ts rest : List Token) (x : X) → Stands (f.spells x) ts rest → f.reads ts ≡ Some (x, rest)
@@ -95,3 +95,14 @@ module _ {X : Type 0} (f : Form X) (s : IsStatement f) where
         let p = same_Some _ _ (sym (read_many ts other ys v end) ∙ read_many ts rest xs u (sym is)) in
         (ap (λ (q : List X × List Token). q.0) p, ap (λ (q : List X × List Token). q.1) p),
   )
+
+-- what isn't empty takes a token at least
+pub reads_shorter : {X : Type 0} (f : Form X) → IsLawful f → f.may_be_empty ≡ false → (ts : List Token) (x : X × List Token) → f.reads ts ≡ Some x → length x.1 < length ts
+reads_shorter f l full ts x e = taken (l.spelled ts x.0 x.1 e)
+  where
+    counted : (front : List Token) → f.spells x.0 front → ts ≡ front ++ x.1 → length x.1 < length ts
+    counted [] h is = absurd (l.not_empty full x.0 h)
+    counted (t ∷ us) h is = let n = ap length is ∙ length-append (t ∷ us) x.1 in omega arith
+
+    taken : Stands (f.spells x.0) ts x.1 → length x.1 < length ts
+    taken u = counted u.front u.holds u.is

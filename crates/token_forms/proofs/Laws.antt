@@ -8,12 +8,12 @@ use Rattle.std.proofs.Math.Seq.{take-append_seam}
 use Rattle.std.proofs.lemmas.Bool.{eqb-true}
 use Rattle.std.proofs.Math.Seq.{take-append_seam}
 use Rattle.std.proofs.lemmas.Option.{option_and_then_some, cond_some, same_Some}
-use Rattle.token_forms.specs.Tokens.{Token, place_of}
+use Rattle.token_forms.specs.Tokens.{Token, place_of, run_place, front_of}
 use Rattle.base_types.specs.declared.span.Span.{Span}
 use Rattle.token_forms.specs.Parsing.{◌>>=◌, word_at}
 use Rattle.token_forms.proofs.Spelled.{same_bytes, choose}
 use Rattle.token_forms.specs.Classes.{Class, Only, is_in, is_in_any, all_apart, begins}
-use Rattle.token_forms.specs.Forms.{Form, IsWord, word, key, IsText, text_at, text, ◌&◌, made, ◌▸◌, ◌◂◌, ◌only_if◌, ◌or◌, maybe, AreMany, many_within, many_at, many, some, listed, Passing, depth_behind, AllPass, passes_at, passed, front_of, at, made_if, put_all, gathered_at, gathered}
+use Rattle.token_forms.specs.Forms.{Form, IsWord, word, key, IsText, text_at, text, ◌&◌, made, ◌▸◌, ◌◂◌, ◌only_if◌, ◌or◌, maybe, AreMany, many_within, many_at, many, some, listed, Passing, depth_behind, AllPass, passes_at, passed, at, between, made_if, put_all, gathered_at, gathered}
 use Rattle.token_forms.specs.Laws.{Stands, IsLawful}
 use Rattle.token_forms.proofs.ClassLemmas.{both, neither, not_true, any_apart, not_begins, in_left, in_right}
 
@@ -353,6 +353,60 @@ module _ {X : Type 0} (a : Form X) (la : IsLawful a) where
     read = λ clear x front rest s behind. at-step x.0 x.1 (front ++ rest) rest (la.read clear x.0 front rest s.holds behind) (s.place ∙ ap place_of (sym (front_is front rest)));
     first = λ x t ts s. la.first x.0 t ts s.holds;
     not_empty = λ never x s. la.not_empty never x.0 s.holds;
+  }
+
+-- a value between two marks
+placed_before : (run : List Token) (next : Token) (behind : List Token) → run_place run (next ∷ behind) ≡ run_place run (next ∷ [])
+placed_before [] next behind = refl
+placed_before (t ∷ ts) next behind = refl
+
+module _ {A : Type 0} (w : String) (a : Form A) (v : String) (la : IsLawful a) where
+  between-spelled : (ts : List Token) (x : A × Span) (rest : List Token) → (between w a v).reads ts ≡ Some (x, rest) → Stands ((between w a v).spells x) ts rest
+  between-spelled ts x rest e =
+      option_and_then_some _ (word_at (codes w) ts) _ e (λ o r e. option_and_then_some _ (a.reads o.1) _ e (λ q s e. option_and_then_some _ (word_at (codes v) q.1) _ e (λ k m e.
+      let u = word-spelled (codes w) ts o.0 o.1 r in
+      let b = la.spelled o.1 q.0 q.1 s in
+      let n = word-spelled (codes v) q.1 k.0 k.1 m in
+      let opened : ts ≡ u.holds.token ∷ o.1 = u.is ∙ ap (λ (f : List Token). f ++ o.1) u.holds.is in
+      let closed : q.1 ≡ n.holds.token ∷ k.1 = n.is ∙ ap (λ (f : List Token). f ++ k.1) n.holds.is in
+      let inside : o.1 ≡ b.front ++ n.holds.token ∷ k.1 = b.is ∙ ap (λ (r : List Token). b.front ++ r) closed in
+      let run : front_of o.1 q.1 ≡ b.front = ap (λ (us : List Token). front_of us q.1) b.is ∙ front_is b.front q.1 in
+      subst (λ (y : (A × Span) × List Token). Stands ((between w a v).spells y.0) ts y.1) (same_Some _ _ e)
+      (record {
+        front = u.holds.token ∷ (b.front ++ n.holds.token ∷ []);
+        is = opened ∙ ap (λ (r : List Token). u.holds.token ∷ r) (inside ∙ sym (append_assoc b.front (n.holds.token ∷ []) k.1));
+        holds = record {
+          mark = u.holds.token;
+          run = b.front;
+          next = n.holds.token;
+          is = refl;
+          opens = u.holds.text;
+          holds = b.holds;
+          closes = n.holds.text;
+          placed = ap (λ (f : List Token). run_place f q.1) run ∙ (ap (λ (r : List Token). run_place b.front r) closed ∙ placed_before b.front n.holds.token k.1);
+        };
+      }))))
+
+  between-step : (x : A) (place : Span) (ts us vs rest : List Token) → word_at (codes w) ts ≡ Some (tt, us) → a.reads us ≡ Some (x, vs) → word_at (codes v) vs ≡ Some (tt, rest)
+      → place ≡ run_place (front_of us vs) vs → (between w a v).reads ts ≡ Some ((x, place), rest)
+  between-step x place ts us vs rest r s m is = rw (r, s, m, is)
+
+  between-read : (between w a v).is_clear ≡ true → (x : A × Span) (front rest : List Token) → (between w a v).spells x front → (between w a v).reads (front ++ rest) ≡ Some (x, rest)
+  between-read clear x front rest s =
+      let c = both a.is_clear _ clear in
+      let far : begins a.goes_on (s.next ∷ rest) ≡ false = not_in _ (λ i. any_apart a.goes_on (Only (codes v ∷ []) ∷ []) s.next.text c.1 i (one_word (codes v) s.next.text s.closes)) in
+      let whole : front ++ rest ≡ s.mark ∷ (s.run ++ s.next ∷ rest) = ap (λ (f : List Token). f ++ rest) s.is ∙ ap (λ (r : List Token). s.mark ∷ r) (append_assoc s.run (s.next ∷ []) rest) in
+      ap (between w a v).reads whole
+      ∙ between-step x.0 x.1 (s.mark ∷ (s.run ++ s.next ∷ rest)) (s.run ++ s.next ∷ rest) (s.next ∷ rest) rest (word-read (codes w) s.mark (s.run ++ s.next ∷ rest) s.opens)
+      (la.read c.0 x.0 s.run (s.next ∷ rest) s.holds far) (word-read (codes v) s.next rest s.closes)
+      (s.placed ∙ (sym (placed_before s.run s.next rest) ∙ ap (λ (f : List Token). run_place f (s.next ∷ rest)) (sym (front_is s.run (s.next ∷ rest)))))
+
+  pub between-lawful : IsLawful (between w a v)
+  between-lawful = record {
+    spelled = between-spelled;
+    read = λ clear x front rest s behind. between-read clear x front rest s;
+    first = λ x t ts s. one_word (codes w) t.text (ap (λ (u : Token). u.text) (same_head t s.mark ts _ s.is) ∙ s.opens);
+    not_empty = λ never x s. let is = s.is in cc;
   }
 
 -- tokens that pass

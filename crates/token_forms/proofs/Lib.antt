@@ -1,3 +1,4 @@
+pub mod ChunkTakes
 pub mod ClassLemmas
 pub mod Cuts
 pub mod Exact

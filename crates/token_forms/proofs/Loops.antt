@@ -1,5 +1,5 @@
 -- A loop that reads values one behind the other: those in front, and what is still read.
-use Rattle.std.proofs.Common.{◌≡◌, ℕ, zero, suc, ◌-◌, ◌<◌, ◌≤◌, true, false, List, [], ◌∷◌, ◌++◌, length, Option, Some, None, Err, refl, sym, ap, ◌∙◌, append_assoc, append-nil, arith}
+use Rattle.std.proofs.Common.{◌≡◌, ℕ, zero, suc, ◌-◌, ◌<◌, ◌≤◌, Bool, true, false, if◌then◌else◌, List, [], ◌∷◌, ◌++◌, length, Option, Some, None, Err, refl, sym, ap, ◌∙◌, append_assoc, append-nil, arith}
 use Rattle.token_forms.specs.Tokens.{Token}
 use Rattle.base_types.specs.declared.stop.Stop.{Stop}
 use Rattle.base_types.specs.declared.stop.Stop.TheVariants as stops
@@ -55,6 +55,38 @@ module _ {X : Type 0} (starts : List Class) (reads : List Token → Option (X ×
     pub stops_many : (e : Stop) (rest rest' : List Token) → begins starts ts ≡ true → Gives {X = X} (Err e) rest (reads ts) → SoFar starts reads front ts total → Gives {X = List X} (Err e) rest' total
     stops_many stops.NoForm rest rest' here read s = sym s.same ∙ ap (with_front front) (none_within s.fuel here read)
     stops_many stops.NoMemory rest rest' here read s = tt
+
+-- where each value takes a token at least, more turns than tokens change nothing
+module _ {X : Type 0} (starts : List Class) (reads : List Token → Option (X × List Token)) (short : (ts : List Token) (x : X × List Token) → reads ts ≡ Some x → length x.1 < length ts) where
+  abbrev turn_of : Bool → Option (X × List Token) → (X × List Token → Option (List X × List Token)) → List Token → Option (List X × List Token)
+  turn_of here read later ts = if here then (read >>= λ x. later x >>= λ xs. Some (x.0 ∷ xs.0, xs.1)) else Some ([], ts)
+
+  same_turn : (here : Bool) (read : Option (X × List Token)) (f g : X × List Token → Option (List X × List Token)) (ts : List Token) → ((x : X × List Token) → read ≡ Some x → f x ≡ g x) → turn_of here read f ts ≡ turn_of here read g ts
+  same_turn false read f g ts same = refl
+  same_turn true None f g ts same = refl
+  same_turn true (Some x) f g ts same = ap (λ (o : Option (List X × List Token)). o >>= λ xs. Some (x.0 ∷ xs.0, xs.1)) (same x refl)
+
+  pub same_fuel : (n m : ℕ) (ts : List Token) → length ts ≤ n → length ts ≤ m → many_within starts reads n ts ≡ many_within starts reads m ts
+  unfolding many_within
+  same_fuel zero zero ts a b = refl
+  same_fuel zero (suc m) [] a b = refl
+  same_fuel zero (suc m) (t ∷ ts) a b = absurd (omega arith)
+  same_fuel (suc n) zero [] a b = refl
+  same_fuel (suc n) zero (t ∷ ts) a b = absurd (omega arith)
+  same_fuel (suc n) (suc m) ts a b =
+      same_turn (begins starts ts) (reads ts) (λ x. many_within starts reads n x.1) (λ x. many_within starts reads m x.1) ts
+      (λ x e. let less = short ts x e in same_fuel n m x.1 (omega arith) (omega arith))
+
+  front_none : (o : Option (List X × List Token)) → with_front [] o ≡ o
+  front_none None = refl
+  front_none (Some x) = refl
+
+  -- a first value, and those behind it
+  pub first_many : (ts rest : List Token) (x : X) → begins starts ts ≡ true → reads ts ≡ Some (x, rest) → many_at starts reads ts ≡ with_front (x ∷ []) (many_at starts reads rest)
+  unfolding many_at
+  first_many ts rest x here read =
+      let s = goes_on_many starts reads [] ts (with_front [] (many_within starts reads (length ts) ts)) x rest here read (short ts (x, rest) read) (begins_many starts reads [] ts) in
+      sym (front_none (many_within starts reads (length ts) ts)) ∙ sym s.same ∙ ap (with_front (x ∷ [])) (same_fuel s.fuel (length rest) rest s.enough (omega arith))
 
 -- a loop that puts pieces to a value
 module _ {S X : Type 0} (put : S → X → Option S) (starts : List Class) (reads : List Token → Option (X × List Token)) where

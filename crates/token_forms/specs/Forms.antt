@@ -3,7 +3,7 @@
 use Rattle.std.specs.Prelude.{◌≡◌, ◌-◌, ◌==◌, ◌+◌, ℕ, zero, suc, Bool, true, false, ◌&&◌, ◌||◌, not, if◌then◌else◌, List, [], ◌∷◌, ◌++◌, length, take, Option, Some, None, IsSomeAnd, codes, ◌⊎◌}
 use Prim.Native.String.{String}
 use Rattle.std.specs.Str.{bytes_eq}
-use Rattle.token_forms.specs.Tokens.{Token, place_of}
+use Rattle.token_forms.specs.Tokens.{Token, place_of, run_place, front_of}
 use Rattle.base_types.specs.declared.span.Span.{Span}
 use Rattle.token_forms.specs.Parsing.{◌>>=◌, word_at}
 use Rattle.token_forms.specs.Classes.{Class, Only, is_in, all_apart, begins}
@@ -223,10 +223,6 @@ pub record IsAt {X : Type 0} (P : X → List Token → Type 0) (x : X × Span) (
   pub holds : P x.0 ts
   pub place : x.1 ≡ place_of ts
 
--- the tokens that stand in front of the rest
-abbrev pub front_of : List Token → List Token → List Token
-front_of ts rest = take (length ts - length rest) ts
-
 -- a value, and where it stands
 abbrev pub at : {X : Type 0} → Form X → Form (X × Span)
 at a =
@@ -237,6 +233,29 @@ at a =
       goes_on = a.goes_on;
       may_be_empty = a.may_be_empty;
       is_clear = a.is_clear;
+    }
+
+-- an opening mark, a run, and a closing mark; the place is the run's
+pub record IsBetween (opening closing : List ℕ) (P : List Token → Type 0) (place : Span) (ts : List Token) : Type 0 where
+  pub mark : Token
+  pub run : List Token
+  pub next : Token
+  pub is : ts ≡ mark ∷ (run ++ next ∷ [])
+  pub opens : mark.text ≡ opening
+  pub holds : P run
+  pub closes : next.text ≡ closing
+  pub placed : place ≡ run_place run (next ∷ [])
+
+-- a value between two marks, and where it stands: of no tokens, in the empty place before the closing mark
+abbrev pub between : {A : Type 0} → String → Form A → String → Form (A × Span)
+between w a v =
+    record {
+      spells = λ x ts. IsBetween (codes w) (codes v) (a.spells x.0) x.1 ts;
+      reads = λ ts. word_at (codes w) ts >>= λ o. a.reads o.1 >>= λ x. word_at (codes v) x.1 >>= λ c. Some ((x.0, run_place (front_of o.1 x.1) x.1), c.1);
+      starts = Only (codes w ∷ []) ∷ [];
+      goes_on = [];
+      may_be_empty = false;
+      is_clear = a.is_clear && all_apart a.goes_on (Only (codes v ∷ []) ∷ []);
     }
 
 pub record IsMadeIf {A X : Type 0} (f : A → Option X) (P : A → Type 0) (x : X) : Type 0 where

@@ -1,3 +1,4 @@
+pub mod Chunks
 pub mod Classes
 pub mod Forms
 pub mod Laws

@@ -22,6 +22,12 @@ GivesAll (Ok x) read = read ≡ Some x
 GivesAll (Err stops.NoForm) read = read ≡ None
 GivesAll (Err stops.NoMemory) read = Unit {0}
 
+-- a call that takes no memory never wants any
+abbrev pub TakesNoMemory : {X : Type 0} → Result X Stop → Type 0
+TakesNoMemory (Ok x) = Unit {0}
+TakesNoMemory (Err stops.NoForm) = Unit {0}
+TakesNoMemory (Err stops.NoMemory) = ⊥
+
 -- a token with this text
 unfoldable pub word_at : List ℕ → List Token → Option (Unit {0} × List Token)
 word_at word [] = None

@@ -27,6 +27,10 @@ pub record Tokenized : Type 0 where
   pub source : List ℕ
   pub spans : List Span
 
+-- the tokens that are still to come
+abbrev pub tokens_left : Tokenized → List Token
+tokens_left source = tokens_of source.source source.spans
+
 -- where the last of some tokens ends
 abbrev pub last_end_of : Token → List Token → ℕ
 last_end_of t [] = t.end
@@ -36,3 +40,13 @@ last_end_of t (u ∷ us) = last_end_of u us
 abbrev pub place_of : List Token → Span
 place_of [] = record { start = 0; end = 0 }
 place_of (t ∷ ts) = record { start = t.start; end = last_end_of t ts }
+
+-- from the first token of a run to the last one; of none, the empty place where what stands behind begins
+abbrev pub run_place : List Token → List Token → Span
+run_place [] [] = record { start = 0; end = 0 }
+run_place [] (t ∷ ts) = record { start = t.start; end = t.start }
+run_place (t ∷ ts) behind = record { start = t.start; end = last_end_of t ts }
+
+-- the tokens that stand in front of the rest
+abbrev pub front_of : List Token → List Token → List Token
+front_of ts rest = take (length ts - length rest) ts

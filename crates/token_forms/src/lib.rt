@@ -5,13 +5,17 @@
 //! of `specs/Forms.antt`, as `specs/Laws.antt` says. Begin with `parser.rt`.
 #![tactic(auto)]
 
+mod lexer;
 mod parser;
 mod parsing;
 mod piece;
+mod source;
+mod token_text;
 mod tokens;
-mod written;
 
+pub use lexer::{Lexer, TokenForm, token_spans};
 pub use parser::{Gather, Parser, Pass, Read, Statement, Word, read_all};
 pub use piece::Piece;
+pub use source::{Cut, Ended, Source, Step};
+pub use token_text::TokenText;
 pub use tokens::{Lexeme, Tokens};
-pub use written::Written;

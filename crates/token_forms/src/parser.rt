@@ -1,12 +1,12 @@
-ghost use Rattle.std.specs.Prelude.{List, ℕ, Bool, Option, Some, None, Ok, Err, ◌≡◌, ◌∷◌, ◌++◌, [], ◌<◌, ◌≤◌, ◌+◌, ◌^◌, ◌==◌, if◌then◌else◌, length, drop, OnOk};
-ghost use Rattle.token_forms.specs.Parsing.{Gives, GivesAll, word_at};
+ghost use Rattle.std.specs.Prelude.{List, ℕ, Bool, Option, Some, None, Ok, Err, ◌≡◌, ◌∷◌, ◌++◌, [], ◌<◌, ◌≤◌, ◌+◌, ◌^◌, ◌==◌, ◌&&◌, if◌then◌else◌, length, drop, OnOk, OnErr};
+ghost use Rattle.token_forms.specs.Parsing.{Gives, GivesAll, TakesNoMemory, word_at};
 ghost use Rattle.token_forms.specs.Classes.{Class, is_in, begins, Only};
-ghost use Rattle.token_forms.specs.Forms.{Form, text_at, made, many, some, gathered_at, Passing, depth_behind, passes_at, listed, ◌▸◌};
+ghost use Rattle.token_forms.specs.Forms.{Form, text, text_at, made, many, some, gathered_at, Passing, depth_behind, passes_at, listed, ◌▸◌};
 ghost use Rattle.token_forms.specs.Laws.{IsStatement, IsExactly, IsExactlyFirst, AreExactly};
 ghost use Rattle.base_types.specs.declared.stop.Stop.TheVariants.{NoForm as no_form};
 
 use crate::Tokens;
-use crate::written::Written;
+use crate::token_text::TokenText;
 use base_types::{Rows, Stop};
 use std::alloc::Global;
 
@@ -44,6 +44,13 @@ pub trait Word {
     /// Whether it passes besides.
     fn passes(text: &[u8]) -> bool
         ensures value { result ≡ test text.now };
+
+    /// Both at once, which a kind may find by a short cut.
+    fn accepts(text: &[u8]) -> bool
+        ensures value { result ≡ (is_in kind text.now && test text.now) }
+    {
+        Self::is_in(text) && Self::passes(text)
+    }
 }
 
 /// Which tokens pass unread.
@@ -59,6 +66,7 @@ pub trait Pass {
 /// That no bracket is open.
 fn closed(depth: usize) -> Result<(), Stop>
     ensures value { result ≡ (if depth == 0 then Ok tt else Err no_form) }
+    ensures memory { TakesNoMemory result }
 {
     if depth == 0 {
         Ok(())
@@ -98,15 +106,19 @@ pub fn read_all<'a, X: Statement<'a>>(alloc: Global, tokens: Tokens<'a, '_>) -> 
 }
 
 impl<'a, 's> Parser<'a, 's> {
-    /// Takes a token with this text.
+    /// Takes a token with this text. Where another stands first, that one is taken.
+    #[inline(always)]
     pub fn word(&mut self, word: &[u8]) -> Result<(), Stop>
         ensures value { Gives result self.new.tokens (word_at word.now self.old.tokens) }
         ensures shorter { OnOk result (length self.new.tokens < length self.old.tokens) }
+        ensures memory { TakesNoMemory result }
+        ensures left { OnErr result (self.new.tokens ≡ drop 1 self.old.tokens) }
     {
         self.tokens.word(word)
     }
 
     /// Whether a token with this text stands first.
+    #[inline(always)]
     pub fn begins_word(&self, word: &[u8]) -> bool
         ensures value { result ≡ begins (Only (word.now ∷ []) ∷ []) self.now.tokens }
     {
@@ -117,6 +129,7 @@ impl<'a, 's> Parser<'a, 's> {
     }
 
     /// Whether a token of the kind stands first.
+    #[inline(always)]
     pub fn begins_text<W: Word>(&self) -> bool
         ensures value { result ≡ begins (W.kind ∷ []) self.now.tokens }
     {
@@ -126,22 +139,25 @@ impl<'a, 's> Parser<'a, 's> {
         }
     }
 
-    /// Takes a word of the kind.
+    /// Takes a word of the kind. Where another token stands first, that one is taken.
+    #[inline(always)]
     #[tactic(auto, unfolding(crate::specs::Forms::text_at))]
-    pub fn text<W: Word>(&mut self) -> Result<Written<'a>, Stop>
+    pub fn text<W: Word>(&mut self) -> Result<TokenText<'a>, Stop>
         ensures value { Gives result self.new.tokens (text_at W.kind W.test self.old.tokens) }
         ensures shorter { OnOk result (length self.new.tokens < length self.old.tokens) }
+        ensures memory { TakesNoMemory result }
+        ensures left { OnErr result (self.new.tokens ≡ drop 1 self.old.tokens) }
     {
         let token = self.tokens.next().ok_or(Stop::NoForm)?;
-        if W::is_in(token.text) && W::passes(token.text) {
-            Ok(Written::of(token.text))
+        if W::accepts(token.text) {
+            Ok(TokenText::of(token.text))
         } else {
             Err(Stop::NoForm)
         }
     }
 
     /// Takes as many values as there are, and puts them behind others.
-    fn many_more<X: Read<'a>>(&mut self, front: Vec<X>) -> Result<Rows<X>, Stop>
+    pub fn many_more<X: Read<'a>>(&mut self, front: Vec<X>) -> Result<Rows<X>, Stop>
         ensures value { Gives result self.new.tokens ((made (λ xs. front.items ++ xs) (many X.form)).reads self.old.tokens) }
         ensures shorter { OnOk result (length self.new.tokens ≤ length self.old.tokens) }
     {
@@ -206,6 +222,42 @@ impl<'a, 's> Parser<'a, 's> {
         self.listed_more(values)
     }
 
+    /// Takes words of a kind with a comma before each, and puts them behind the first one.
+    fn texts_more<W: Word>(
+        &mut self,
+        front: Vec<TokenText<'a>>,
+    ) -> Result<Rows<TokenText<'a>>, Stop>
+        ensures value { Gives result self.new.tokens ((made (λ xs. front.entry.items ++ xs) (many ("," ▸ text W.kind W.test))).reads self.old.tokens) }
+        ensures shorter { OnOk result (length self.new.tokens ≤ length self.old.tokens) }
+    {
+        let mut values = front;
+        while self.begins_word(b",") {
+            let value = self.text_behind_comma::<W>()?;
+            values.push(value)?;
+        }
+        values.shrink_to_fit();
+        Ok(Rows::of(values))
+    }
+
+    fn text_behind_comma<W: Word>(&mut self) -> Result<TokenText<'a>, Stop>
+        ensures value { Gives result self.new.tokens (("," ▸ text W.kind W.test).reads self.old.tokens) }
+        ensures shorter { OnOk result (length self.new.tokens < length self.old.tokens) }
+    {
+        self.word(b",")?;
+        self.text::<W>()
+    }
+
+    /// Takes one word of a kind or more, with commas between them.
+    pub fn texts<W: Word>(&mut self) -> Result<Rows<TokenText<'a>>, Stop>
+        ensures value { Gives result self.new.tokens ((listed (text W.kind W.test) ",").reads self.old.tokens) }
+        ensures shorter { OnOk result (length self.new.tokens < length self.old.tokens) }
+    {
+        let first = self.text::<W>()?;
+        let mut values = Vec::new(self.alloc);
+        values.push(first)?;
+        self.texts_more::<W>(values)
+    }
+
     /// Takes as many pieces as there are, and puts them to a value.
     pub fn gather<S: Gather<X>, X: Read<'a>>(&mut self, start: S) -> Result<S, Stop>
         ensures value { Gives result self.new.tokens (gathered_at S.put X.form.starts X.form.reads start self.old.tokens) }
@@ -230,6 +282,7 @@ impl<'a, 's> Parser<'a, 's> {
     pub fn pass<P: Pass>(&mut self) -> Result<(), Stop>
         ensures value { Gives result self.new.tokens (passes_at P.passing 0 self.old.tokens) }
         ensures shorter { OnOk result (length self.new.tokens ≤ length self.old.tokens) }
+        ensures memory { TakesNoMemory result }
     {
         let most = self.tokens.len();
         let mut depth = 0;
@@ -245,12 +298,20 @@ impl<'a, 's> Parser<'a, 's> {
         closed(depth)
     }
 
-    /// Takes the statement that stands first.
+    /// Takes the statement that stands first. Where it is of no form, the tokens are as before.
     pub fn statement<X: Statement<'a>>(&mut self) -> Result<X, Stop>
         ensures exactly { IsExactlyFirst result X.form self.old.tokens self.new.tokens }
+        ensures unchanged { OnErr result (self.new.tokens ≡ self.old.tokens) }
     {
         X::is_statement();
-        X::read(self)
+        let before = self.tokens.again();
+        match X::read(self) {
+            Ok(value) => Ok(value),
+            Err(stop) => {
+                self.tokens = before;
+                Err(stop)
+            }
+        }
     }
 
     /// Takes statements as long as one begins. Where one is of no form, it is the first of those that are left.

@@ -1,5 +1,5 @@
 ghost use Rattle.std.specs.Prelude.{◌≡◌, ◌≤◌, length, take};
-ghost use Rattle.token_forms.specs.Tokens.{tokens_of, place_of, AreSpansOf};
+ghost use Rattle.token_forms.specs.Tokens.{tokens_of, place_of, run_place, front_of, AreSpansOf};
 
 use base_types::Span;
 use std::marker::Model;
@@ -32,7 +32,7 @@ impl<'a, 's> Model for Tokens<'a, 's> {
 
 impl<'a, 's> Tokens<'a, 's> {
     ghost use Rattle.std.specs.Prelude.{◌≡◌, ◌==◌, ◌∷◌, [], length, take, drop, ◌-◌, MatchOption};
-    ghost use Rattle.token_forms.specs.Tokens.{tokens_of, place_of, AreSpansOf};
+    ghost use Rattle.token_forms.specs.Tokens.{tokens_of, place_of, run_place, front_of, AreSpansOf};
 
     /// The tokens at these spans of a text.
     pub fn of(text: &'a [u8], spans: &'s [Span]) -> Tokens<'a, 's>
@@ -59,6 +59,24 @@ impl<'a, 's> Tokens<'a, 's> {
         place_of(self.text, self.spans, self.spans.len().saturating_sub(rest))
     }
 
+    /// The place of the tokens in front of those that are left: of none, the empty place where those begin.
+    #[inline(always)]
+    pub fn run_place(&self, left: &Tokens<'_, '_>) -> Span
+        ensures value { result ≡ run_place (front_of self.now left.now) left.now }
+    {
+        let count = self.spans.len().saturating_sub(left.spans.len());
+        if 0 < count {
+            return place_of(self.text, self.spans, count);
+        }
+        match left.spans.first() {
+            Some(next) => Span {
+                start: next.start,
+                end: next.start,
+            },
+            None => Span { start: 0, end: 0 },
+        }
+    }
+
     /// How many tokens are left.
     pub fn len(&self) -> usize
         ensures value { result ≡ length self.now }
@@ -74,6 +92,7 @@ impl<'a, 's> Tokens<'a, 's> {
     }
 
     /// Takes the first token.
+    #[inline(always)]
     pub fn next(&mut self) -> Option<Lexeme<'a>>
         ensures value { MatchOption result ((self.old ≡ []) × (self.new ≡ []))
             (λ t. self.old ≡ record { text = t.text.now; start = t.span.start; end = t.span.end } ∷ self.new) }
@@ -85,6 +104,7 @@ impl<'a, 's> Tokens<'a, 's> {
     }
 
     /// The first token, which stays.
+    #[inline(always)]
     pub fn first(&self) -> Option<Lexeme<'a>>
         ensures value { MatchOption result (self.now ≡ [])
             (λ t. self.now ≡ record { text = t.text.now; start = t.span.start; end = t.span.end } ∷ drop 1 self.now) }

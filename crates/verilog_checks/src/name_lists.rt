@@ -8,12 +8,12 @@ ghost use Rattle.verilog_names.specs.NameSets.{HasNames};
 use crate::few;
 use base_types::NoMemory;
 use std::alloc::Global;
-use token_forms::Written;
+use token_forms::TokenText;
 use verilog_names::{NameSet, NameState, plain_of};
 use verilog_syntax::{Connection, Statement};
 
 /// Puts the plain names of these behind the last one.
-fn push_names<'a>(names: &mut Vec<&'a [u8]>, written: &[Written<'a>]) -> Result<(), NoMemory>
+fn push_names<'a>(names: &mut Vec<&'a [u8]>, written: &[TokenText<'a>]) -> Result<(), NoMemory>
     ensures value { OnOk result (map (λ name. name.now) names.new.items ≡ map (λ name. name.now) names.old.items ++ map plain_of written.now) }
 {
     for name in written {

@@ -16,7 +16,7 @@ use crate::faults::fault_at;
 use crate::ranges::{bounds_of, small_value};
 use base_types::{Kind, NoMemory, ReadFault};
 use std::alloc::Global;
-use token_forms::Written;
+use token_forms::TokenText;
 use verilog_names::{Bounds, NameSet, NameState, index_value, plain_of, width};
 use verilog_syntax::{Connection, Item, Placed, Range, Statement, is_digit};
 
@@ -148,7 +148,7 @@ impl<'a> Vectors<'a> {
     }
 
     /// Counts vectors, and says whether there are few enough bits; if not, counting stops.
-    fn add_all(&mut self, bounds: Bounds, names: &[Written<'a>]) -> Result<bool, NoMemory>
+    fn add_all(&mut self, bounds: Bounds, names: &[TokenText<'a>]) -> Result<bool, NoMemory>
         requires small { self.old.bits ≤ 16777216 }
         ensures small { IfOk result (λ fits. OnTrue fits (self.new.bits ≤ 16777216)) }
         ensures counted { IfOk result (λ fits. (kind : ghost_declared) (range : ghost_range) → bounds_of range ≡ bounds → Counts fits self.old self.new (map (declaration_of kind (Some range)) names.now)) }

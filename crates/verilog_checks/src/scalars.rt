@@ -10,12 +10,12 @@ ghost use Rattle.verilog_checks.specs.Seen.{AreClosed, is_closed};
 use crate::bit_names::is_closed;
 use base_types::NoMemory;
 use std::alloc::Global;
-use token_forms::Written;
+use token_forms::TokenText;
 use verilog_names::{NameSet, NameState, plain_of};
 use verilog_syntax::{Connection, Item, Placed, Range, Statement};
 
 /// Adds the closed names of a list.
-fn add_closed<'a>(set: &mut NameSet<'a>, declared: &[Written<'a>]) -> Result<(), NoMemory>
+fn add_closed<'a>(set: &mut NameSet<'a>, declared: &[TokenText<'a>]) -> Result<(), NoMemory>
     ensures value { OnOk result ((before : List (List ℕ)) → HasNames set.old before → HasNames set.new (before ++ filter is_closed (map plain_of declared.now))) }
 {
     for written in declared {
@@ -103,7 +103,7 @@ fn push_connected<'a>(
 }
 
 /// Puts the closed names of a list behind the last name.
-fn push_closed<'a>(names: &mut Vec<&'a [u8]>, declared: &[Written<'a>]) -> Result<(), NoMemory>
+fn push_closed<'a>(names: &mut Vec<&'a [u8]>, declared: &[TokenText<'a>]) -> Result<(), NoMemory>
     ensures value { OnOk result (map (λ name. name.now) names.new.items ≡ map (λ name. name.now) names.old.items ++ filter is_closed (map plain_of declared.now)) }
 {
     for written in declared {
@@ -119,7 +119,7 @@ fn push_closed<'a>(names: &mut Vec<&'a [u8]>, declared: &[Written<'a>]) -> Resul
 fn push_scalars<'a>(
     names: &mut Vec<&'a [u8]>,
     range: &Option<Range<'a>>,
-    declared: &[Written<'a>],
+    declared: &[TokenText<'a>],
 ) -> Result<(), NoMemory>
     ensures value { OnOk result (map (λ name. name.now) names.new.items ≡ map (λ name. name.now) names.old.items ++ (if is_some range.now then [] else filter is_closed (map plain_of declared.now))) }
 {

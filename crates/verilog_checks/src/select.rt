@@ -13,13 +13,13 @@ use crate::number::constant_size;
 use crate::ranges::small_value;
 use base_types::{Kind, NoMemory, ReadFault};
 use std::alloc::Global;
-use token_forms::Written;
+use token_forms::TokenText;
 use verilog_names::{
     Bounds, DeclaredNames, NameSet, NameState, has_index, has_part, plain_of, width, width_or_one,
 };
 use verilog_syntax::{Connection, Declared, Expression, Item, Placed, Statement};
 
-fn part_of(left: &Written, right: &Written) -> Bounds
+fn part_of(left: &TokenText, right: &TokenText) -> Bounds
     requires left { is_big_index left.now ≡ false }
     requires right { is_big_index right.now ≡ false }
     ensures value { result ≡ part_of left.now right.now }
@@ -155,7 +155,7 @@ pub(crate) fn is_port_kind(kind: Declared) -> bool
 }
 
 /// The names that the header lists.
-fn listed_in<'s, 'a>(statement: &'s Statement<'a>) -> &'s [Written<'a>]
+fn listed_in<'s, 'a>(statement: &'s Statement<'a>) -> &'s [TokenText<'a>]
     ensures value { result.now ≡ listed_in statement.now }
 {
     match statement {
@@ -165,7 +165,7 @@ fn listed_in<'s, 'a>(statement: &'s Statement<'a>) -> &'s [Written<'a>]
 }
 
 /// The names that a statement gives a direction.
-fn directed_in<'s, 'a>(statement: &'s Statement<'a>) -> &'s [Written<'a>]
+fn directed_in<'s, 'a>(statement: &'s Statement<'a>) -> &'s [TokenText<'a>]
     ensures value { result.now ≡ directed_in statement.now }
 {
     match statement {
@@ -174,7 +174,7 @@ fn directed_in<'s, 'a>(statement: &'s Statement<'a>) -> &'s [Written<'a>]
     }
 }
 
-fn add_names<'a>(set: &mut NameSet<'a>, names: &[Written<'a>]) -> Result<(), NoMemory>
+fn add_names<'a>(set: &mut NameSet<'a>, names: &[TokenText<'a>]) -> Result<(), NoMemory>
     ensures ok { OnOk result ((q : List ℕ) → has_key set.new q ≡ (has_key set.old q || has (map plain_of names.now) q)) }
 {
     for name in names {
@@ -204,7 +204,7 @@ fn directed_names<'a>(alloc: Global, statements: &[Placed<'a>]) -> Result<NameSe
 }
 
 /// Whether the set lacks one of the names.
-fn lacks_one<'a>(set: &NameSet<'a>, names: &[Written<'a>]) -> bool
+fn lacks_one<'a>(set: &NameSet<'a>, names: &[TokenText<'a>]) -> bool
     ensures value { result ≡ list_any (λ name. not (has_key set.now (plain_of name))) names.now }
 {
     for name in names {

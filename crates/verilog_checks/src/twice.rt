@@ -22,7 +22,7 @@ use crate::scalars::{closed_declared, closed_scalars_in};
 use crate::select::{is_port_kind, selects};
 use base_types::{Kind, NoMemory, ReadFault};
 use std::alloc::Global;
-use token_forms::Written;
+use token_forms::TokenText;
 use verilog_names::{
     Bounds, DeclaredNames, First, NameSet, NameState, index_at, plain_of, push_bit_name, width,
 };
@@ -149,7 +149,7 @@ fn add_names_declared<'a>(
     declared: &mut DeclaredNames<'a>,
     nets: &NameSet,
     first: First,
-    names: &[Written<'a>],
+    names: &[TokenText<'a>],
 ) -> Result<bool, NoMemory>
     ensures value { IfOk result (λ bad. (before : List Declaration) (all : List (List ℕ)) → AreKnown declared.old nets.now before all → Adds bad declared.new before (map (declared_as first) names.now) all) }
 {

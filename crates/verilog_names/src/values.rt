@@ -6,7 +6,7 @@ ghost use Rattle.verilog_names.specs.Values.{plain_of, decimal_value, bit_name};
 
 use base_types::NoMemory;
 use std::alloc::Global;
-use token_forms::Written;
+use token_forms::TokenText;
 use verilog_syntax::is_blank;
 
 fn name_len(bytes: &[u8]) -> usize
@@ -26,7 +26,7 @@ fn without_escape(text: &[u8]) -> &[u8]
 }
 
 /// A name without its escape.
-pub fn plain_of<'a>(name: &Written<'a>) -> &'a [u8]
+pub fn plain_of<'a>(name: &TokenText<'a>) -> &'a [u8]
     ensures value { result.now ≡ plain_of name.now }
 {
     without_escape(name.text())

@@ -14,7 +14,7 @@ use crate::parts::parts_of;
 use base_types::{Name, NoMemory, Rows};
 use netlist_core::{Direction, NetId, Netlist, Port};
 use std::alloc::Global;
-use token_forms::Written;
+use token_forms::TokenText;
 use verilog_names::{DeclaredNames, Entry, plain_of, width_or_one};
 use verilog_syntax::{Declared, Placed, Statement};
 
@@ -54,7 +54,7 @@ fn push_named_ports(
     nets: &Nets,
     line: u64,
     direction: Direction,
-    names: &[Written],
+    names: &[TokenText],
 ) -> Result<(), NoMemory>
     requires { All (IsListed nets.now) names.now }
     ensures ok { OnOk result (ports.new ≡ ports.old ++ flat_map (λ name. port_bits line direction (place nets.now (plain_of name))) names.now) }

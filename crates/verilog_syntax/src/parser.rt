@@ -8,7 +8,7 @@ use crate::statement::{Connection, Declared, Expression, Item, Range, Statement}
 use crate::words::{is_constant, is_decimal, is_name};
 use base_types::{Boxed, Rows, Span, Stop};
 use std::alloc::Global;
-use token_forms::{Tokens, Written};
+use token_forms::{TokenText, Tokens};
 
 /// How many braces are open behind an item.
 fn depth_behind(depth: usize, item: &Item<'_>) -> usize
@@ -68,26 +68,26 @@ struct Parser<'a, 's> {
 impl<'a, 's> Parser<'a, 's> {
     #[inline(always)]
     #[tactic(auto, unfolding(crate::specs::Reading::name_at, crate::specs::Reading::text_at))]
-    fn name(&mut self) -> Result<Written<'a>, Stop>
+    fn name(&mut self) -> Result<TokenText<'a>, Stop>
         ensures value { Gives result self.new.tokens (name_at self.old.tokens) }
         ensures shorter { OnOk result (length self.new.tokens < length self.old.tokens) }
     {
         let token = self.tokens.next().ok_or(Stop::NoForm)?;
         if is_name(token.text) {
-            Ok(Written::of(token.text))
+            Ok(TokenText::of(token.text))
         } else {
             Err(Stop::NoForm)
         }
     }
 
     #[tactic(auto, unfolding(crate::specs::Reading::decimal_at, crate::specs::Reading::text_at))]
-    fn decimal(&mut self) -> Result<Written<'a>, Stop>
+    fn decimal(&mut self) -> Result<TokenText<'a>, Stop>
         ensures value { Gives result self.new.tokens (decimal_at self.old.tokens) }
         ensures shorter { OnOk result (length self.new.tokens < length self.old.tokens) }
     {
         let token = self.tokens.next().ok_or(Stop::NoForm)?;
         if is_decimal(token.text) {
-            Ok(Written::of(token.text))
+            Ok(TokenText::of(token.text))
         } else {
             Err(Stop::NoForm)
         }
@@ -126,7 +126,7 @@ impl<'a, 's> Parser<'a, 's> {
 
     /// Behind `name[left:`.
     #[tactic(auto, unfolding(crate::specs::Reading::part_at))]
-    fn part(&mut self, name: Written<'a>, left: Written<'a>) -> Result<(Item<'a>, u32), Stop>
+    fn part(&mut self, name: TokenText<'a>, left: TokenText<'a>) -> Result<(Item<'a>, u32), Stop>
         ensures value { Gives result self.new.tokens (part_at name.entry left.entry self.old.tokens) }
         ensures shorter { OnOk result (length self.new.tokens < length self.old.tokens) }
     {
@@ -139,7 +139,7 @@ impl<'a, 's> Parser<'a, 's> {
 
     /// Behind `name[index`.
     #[tactic(auto, unfolding(crate::specs::Reading::bit_at))]
-    fn bit(&mut self, name: Written<'a>, index: Written<'a>) -> Result<(Item<'a>, u32), Stop>
+    fn bit(&mut self, name: TokenText<'a>, index: TokenText<'a>) -> Result<(Item<'a>, u32), Stop>
         ensures value { Gives result self.new.tokens (bit_at name.entry index.entry self.old.tokens) }
         ensures shorter { OnOk result (length self.new.tokens < length self.old.tokens) }
     {
@@ -149,7 +149,7 @@ impl<'a, 's> Parser<'a, 's> {
 
     /// Behind `name[`.
     #[tactic(auto, unfolding(crate::specs::Reading::select_at))]
-    fn select(&mut self, name: Written<'a>) -> Result<(Item<'a>, u32), Stop>
+    fn select(&mut self, name: TokenText<'a>) -> Result<(Item<'a>, u32), Stop>
         ensures value { Gives result self.new.tokens (select_at name.entry self.old.tokens) }
         ensures shorter { OnOk result (length self.new.tokens < length self.old.tokens) }
     {
@@ -164,7 +164,7 @@ impl<'a, 's> Parser<'a, 's> {
     /// Behind a name, which ends at a place.
     #[inline(always)]
     #[tactic(auto, unfolding(crate::specs::Reading::named_at))]
-    fn named(&mut self, name: Written<'a>, end: u32) -> Result<(Item<'a>, u32), Stop>
+    fn named(&mut self, name: TokenText<'a>, end: u32) -> Result<(Item<'a>, u32), Stop>
         ensures value { Gives result self.new.tokens (named_at name.entry end self.old.tokens) }
         ensures shorter { OnOk result (length self.new.tokens ≤ length self.old.tokens) }
     {
@@ -185,9 +185,9 @@ impl<'a, 's> Parser<'a, 's> {
         let token = self.tokens.next().ok_or(Stop::NoForm)?;
         let end = token.span.end;
         if is_name(token.text) {
-            self.named(Written::of(token.text), end)
+            self.named(TokenText::of(token.text), end)
         } else if is_constant(token.text) {
-            Ok((Item::Constant(Written::of(token.text)), end))
+            Ok((Item::Constant(TokenText::of(token.text)), end))
         } else if token.text == b"{".as_slice() {
             Ok((Item::Open, end))
         } else {
@@ -296,7 +296,7 @@ impl<'a, 's> Parser<'a, 's> {
     }
 
     /// Names with commas between them, up to the closing mark.
-    fn names(&mut self, closing: u8) -> Result<Rows<Written<'a>>, Stop>
+    fn names(&mut self, closing: u8) -> Result<Rows<TokenText<'a>>, Stop>
         ensures value { Gives result self.new.tokens (list_at name_at closing self.old.tokens) }
         ensures shorter { OnOk result (length self.new.tokens < length self.old.tokens) }
     {
@@ -329,7 +329,7 @@ impl<'a, 's> Parser<'a, 's> {
 
     /// Names up to the parenthesis that closes them, also none.
     #[tactic(auto, unfolding(crate::specs::Reading::any_at))]
-    fn any_names(&mut self) -> Result<Rows<Written<'a>>, Stop>
+    fn any_names(&mut self) -> Result<Rows<TokenText<'a>>, Stop>
         ensures value { Gives result self.new.tokens (any_at name_at self.old.tokens) }
         ensures shorter { OnOk result (length self.new.tokens < length self.old.tokens) }
     {
@@ -461,7 +461,7 @@ impl<'a, 's> Parser<'a, 's> {
 
     /// The ports of a header and its semicolon, or the semicolon alone.
     #[tactic(auto, unfolding(crate::specs::Reading::ports_at))]
-    fn ports(&mut self) -> Result<Rows<Written<'a>>, Stop>
+    fn ports(&mut self) -> Result<Rows<TokenText<'a>>, Stop>
         ensures value { Gives result self.new.tokens (ports_at self.old.tokens) }
         ensures shorter { OnOk result (length self.new.tokens < length self.old.tokens) }
     {

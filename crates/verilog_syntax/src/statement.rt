@@ -1,6 +1,6 @@
 use crate::item_list::Items;
 use base_types::{Boxed, Rows, Span};
-use token_forms::Written;
+use token_forms::TokenText;
 
 /// What a declaration makes of its names (IEEE 1364-2005, 4.2 and 12.3.3).
 #[derive(Clone, Copy, Debug, PartialEq, Eq)]
@@ -17,8 +17,8 @@ pub enum Declared {
 /// The range `[left:right]` of a declaration: two decimals.
 #[derive(Debug, Drop)]
 pub struct Range<'a> {
-    pub left: Written<'a>,
-    pub right: Written<'a>,
+    pub left: TokenText<'a>,
+    pub right: TokenText<'a>,
 }
 
 /// A piece of an expression (IEEE 1364-2005, 5.1.14 and 5.2): an operand, or a mark of a concatenation.
@@ -30,20 +30,20 @@ pub enum Item<'a> {
     Comma,
     /// `}`
     Close,
-    Name(Written<'a>),
+    Name(TokenText<'a>),
     /// `name[index]`
     Bit {
-        name: Written<'a>,
-        index: Written<'a>,
+        name: TokenText<'a>,
+        index: TokenText<'a>,
     },
     /// `name[left:right]`
     Part {
-        name: Written<'a>,
-        left: Boxed<Written<'a>>,
-        right: Boxed<Written<'a>>,
+        name: TokenText<'a>,
+        left: Boxed<TokenText<'a>>,
+        right: Boxed<TokenText<'a>>,
     },
     /// `size'base digits`
-    Constant(Written<'a>),
+    Constant(TokenText<'a>),
 }
 
 /// An expression: its pieces in the order of the text, none in `.pin()`, and where it stands.
@@ -57,7 +57,7 @@ pub struct Expression<'a> {
 /// `.pin(expression)` or `.pin()`.
 #[derive(Debug, Drop)]
 pub struct Connection<'a> {
-    pub pin: Written<'a>,
+    pub pin: TokenText<'a>,
     pub expression: Expression<'a>,
 }
 
@@ -66,14 +66,14 @@ pub struct Connection<'a> {
 pub enum Statement<'a> {
     /// `module name ( port, .. ) ;`
     Module {
-        name: Written<'a>,
-        ports: Rows<Written<'a>>,
+        name: TokenText<'a>,
+        ports: Rows<TokenText<'a>>,
     },
     /// `kind [left:right] name, .. ;`
     Declare {
         kind: Declared,
         range: Option<Range<'a>>,
-        names: Rows<Written<'a>>,
+        names: Rows<TokenText<'a>>,
     },
     /// `assign left = right ;`
     Assign {
@@ -82,8 +82,8 @@ pub enum Statement<'a> {
     },
     /// `cell name ( .pin(expression), .. ) ;`
     Instance {
-        cell: Written<'a>,
-        name: Written<'a>,
+        cell: TokenText<'a>,
+        name: TokenText<'a>,
         connections: Rows<Connection<'a>>,
     },
 }

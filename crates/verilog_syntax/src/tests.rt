@@ -1,6 +1,6 @@
 ghost use Rattle.std.specs.Prelude.{◌<◌, ◌^◌, length};
 
-use crate::{Expression, Item, Placed, Range, Statement, Written, read_statements};
+use crate::{Expression, Item, Placed, Range, Statement, TokenText, read_statements};
 use base_types::{Kind, NoMemory, ReadFault, Rows, Span, Spot};
 use std::alloc::Global;
 use std::test::Fail;
@@ -258,7 +258,7 @@ impl<'a> Listing<'a> {
         Ok(())
     }
 
-    fn put_names(&mut self, names: &Rows<Written>) -> Result<(), NoMemory> {
+    fn put_names(&mut self, names: &Rows<TokenText>) -> Result<(), NoMemory> {
         self.put(b": ")?;
         for name in names.as_slice() {
             self.put(name.text())?;

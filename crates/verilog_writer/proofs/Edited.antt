@@ -4,14 +4,13 @@ use Rattle.std.specs.Prelude.{◌==◌}
 use Rattle.std.proofs.lemmas.Bool.{ne_eqb}
 use Rattle.std.proofs.lemmas.Bool.Decides.{nat_tests}
 use Rattle.std.specs.List.{AllByRecursion as Each}
-use Rattle.verilog_syntax.specs.Seams.{IsReady}
+use Rattle.splice.proofs.Seams.{IsReady}
 use Rattle.verilog_syntax.specs.VerilogTokens.{texts}
 use Rattle.base_types.specs.declared.span.Span.{Span}
 use Rattle.token_forms.specs.Parts.{Part, Fixed, Slot, Fits}
 use Rattle.splice.specs.declared.Edit.{Edit}
 use Rattle.splice.specs.Spliced.{AreRising}
-use Rattle.splice.specs.Parts as cut
-use Rattle.splice.specs.Edited.{AreEdits}
+use Rattle.splice.proofs.Edited.{AreEdits}
 use Rattle.splice.proofs.Joined.{edits_join}
 use Rattle.splice.proofs.Law.{are_rising}
 use Rattle.verilog_syntax.specs.Laws.{tokens_in}
@@ -19,12 +18,12 @@ use Rattle.verilog_syntax.specs.Grammar.{item_texts}
 use Rattle.verilog_writer.specs.VerilogText.{BitEdit, net_item, text_edits, is_at, IsNetBit}
 use Rattle.verilog_writer.proofs.Bits.{bit_item}
 use Rattle.verilog_writer.proofs.Changed.{new_texts, changed_parts, changed_none}
-use Rattle.verilog_writer.proofs.Shared.{shared, shared_fits}
+use Rattle.verilog_writer.proofs.Seams.{verilog, ready}
 use Rattle.verilog_writer.proofs.Slots.{IsSlotOf}
 
 -- parts in front that stay
-edits_behind : (xs : List cut.Part) (es : List Edit) (ps qs : List cut.Part) → AreEdits es ps qs → AreEdits es (xs ++ ps) (xs ++ qs)
-edits_behind xs es ps qs f = edits_join [] es xs xs ps qs refl f
+edits_behind : (xs : List Part) (es : List Edit) (ps qs : List Part) → AreEdits texts es ps qs → AreEdits texts es (xs ++ ps) (xs ++ qs)
+edits_behind xs es ps qs f = edits_join texts [] es xs xs ps qs refl f
 
 -- an edit at each slot: that these rise says that the slots stand in order
 abbrev pub slot_edits : List Part → List Edit
@@ -32,18 +31,18 @@ slot_edits [] = []
 slot_edits (Fixed w ∷ ps) = slot_edits ps
 slot_edits (Slot o place ws c ∷ ps) = record { span = place; text = [] } ∷ slot_edits ps
 
-abbrev emptied : List Part → List cut.Part
+abbrev emptied : List Part → List Part
 emptied [] = []
-emptied (Fixed w ∷ ps) = cut.Fixed w ∷ emptied ps
-emptied (Slot o place ws c ∷ ps) = cut.Slot o place (texts []) c ∷ emptied ps
+emptied (Fixed w ∷ ps) = Fixed w ∷ emptied ps
+emptied (Slot o place ws c ∷ ps) = Slot o place (texts []) c ∷ emptied ps
 
-slots_edited : (ps : List Part) → AreEdits (slot_edits ps) (shared ps) (emptied ps)
+slots_edited : (ps : List Part) → AreEdits texts (slot_edits ps) ps (emptied ps)
 slots_edited [] = refl
-slots_edited (Fixed w ∷ ps) = edits_behind (cut.Fixed w ∷ []) (slot_edits ps) (shared ps) (emptied ps) (slots_edited ps)
-slots_edited (Slot o place ws c ∷ ps) = record { before = []; opening = o; inner = ws; closing = c; behind = shared ps; later = emptied ps; is = refl; edited = refl; more = slots_edited ps }
+slots_edited (Fixed w ∷ ps) = edits_behind (Fixed w ∷ []) (slot_edits ps) ps (emptied ps) (slots_edited ps)
+slots_edited (Slot o place ws c ∷ ps) = record { before = []; opening = o; inner = ws; closing = c; behind = ps; later = emptied ps; is = refl; edited = refl; more = slots_edited ps }
 
 pub slots_rising : (text : List ℕ) (ps : List Part) → Fits ps [] (tokens_in text) → AreRising 0 (length text) (slot_edits ps)
-slots_rising text ps fits = are_rising text (slot_edits ps) (shared ps) (emptied ps) (shared_fits ps [] (tokens_in text) fits) (slots_edited ps)
+slots_rising text ps fits = are_rising verilog text (slot_edits ps) ps (emptied ps) fits (slots_edited ps)
 
 -- places are compared by both ends
 same_number : (n : ℕ) → (n == n) ≡ true
@@ -96,7 +95,7 @@ not_here o c place ws ps (e ∷ edits) later slots =
     (⊎_elim (λ (is : e.span ≡ place). let s = ap (λ (x : Span). x.start) is in absurd (omega arith)) (λ (l : IsSlotOf e.span ps). l) slots.0, not_here o c place ws ps edits later.1 slots.1)
 
 abbrev pub AreMade : List BitEdit → List Part → Type 0
-AreMade edits ps = AreEdits (text_edits edits) (shared ps) (shared (changed_parts edits ps))
+AreMade edits ps = AreEdits texts (text_edits edits) ps (changed_parts edits ps)
 
 -- the first edit is of the first slot
 here : (o c : ℕ) (place : Span) (ws : List (List ℕ)) (ps : List Part) (e : BitEdit) (edits : List BitEdit) → e.span ≡ place → IsNetBit e.bit → changed_parts (e ∷ edits) ps ≡ changed_parts edits ps
@@ -106,10 +105,10 @@ here o c place ws ps e edits is bit past made = record {
   opening = o;
   inner = ws;
   closing = c;
-  behind = shared ps;
-  later = shared (changed_parts edits ps);
-  is = ap (λ (s : Span). cut.Slot o s ws c ∷ shared ps) (sym is);
-  edited = rw (at_same e.span place is, past, (bit_item e.bit bit).texts.are) (ap (λ (s : Span). cut.Slot o s (item_texts (net_item e.bit)) c ∷ shared (changed_parts edits ps)) (sym is));
+  behind = ps;
+  later = changed_parts edits ps;
+  is = ap (λ (s : Span). Slot o s ws c ∷ ps) (sym is);
+  edited = rw (at_same e.span place is, past, (bit_item e.bit bit).texts.are) (ap (λ (s : Span). Slot o s (item_texts (net_item e.bit)) c ∷ changed_parts edits ps) (sym is));
   more = made;
 }
 
@@ -117,15 +116,15 @@ here o c place ws ps e edits is bit past made = record {
 there : (o c : ℕ) (place : Span) (ws : List (List ℕ)) (ps : List Part) (edits : List BitEdit) → Each (λ (e : BitEdit). place.start < e.span.start) edits → AreMade edits ps
     → AreMade edits (Slot o place ws c ∷ ps)
 there o c place ws ps edits later made =
-    subst (λ (new : List (List ℕ)). AreEdits (text_edits edits) (shared (Slot o place ws c ∷ ps)) (cut.Slot o place new c ∷ shared (changed_parts edits ps))) (sym (stays edits place ws later))
-    (edits_behind (cut.Slot o place ws c ∷ []) (text_edits edits) (shared ps) (shared (changed_parts edits ps)) made)
+    subst (λ (new : List (List ℕ)). AreEdits texts (text_edits edits) (Slot o place ws c ∷ ps) (Slot o place new c ∷ changed_parts edits ps)) (sym (stays edits place ws later))
+    (edits_behind (Slot o place ws c ∷ []) (text_edits edits) ps (changed_parts edits ps) made)
 
 pub edits_made : (ps : List Part) (edits : List BitEdit) (at from end : ℕ) → AreRising at end (slot_edits ps) → AreRising from end (text_edits edits)
     → Each (λ (e : BitEdit). IsSlotOf e.span ps) edits → Each (λ (e : BitEdit). IsNetBit e.bit) edits → AreMade edits ps
-edits_made ps [] at from end order rising slots bits = ap shared (changed_none ps)
+edits_made ps [] at from end order rising slots bits = changed_none ps
 edits_made [] (e ∷ edits) at from end order rising slots bits = absurd slots.0
 edits_made (Fixed w ∷ ps) (e ∷ edits) at from end order rising slots bits =
-    edits_behind (cut.Fixed w ∷ []) (text_edits (e ∷ edits)) (shared ps) (shared (changed_parts (e ∷ edits) ps)) (edits_made ps (e ∷ edits) at from end order rising slots bits)
+    edits_behind (Fixed w ∷ []) (text_edits (e ∷ edits)) ps (changed_parts (e ∷ edits) ps) (edits_made ps (e ∷ edits) at from end order rising slots bits)
 edits_made (Slot o place ws c ∷ ps) (e ∷ edits) at from end order rising slots bits =
     let inside = order.1 in
     let ordered = rising.1 in
@@ -141,6 +140,6 @@ edits_made (Slot o place ws c ∷ ps) (e ∷ edits) at from end order rising slo
     there o c place ws ps (e ∷ edits) (first, later) (edits_made ps (e ∷ edits) (place.end + 1) from end order.3 rising (l, not_here o c place ws ps edits later slots.1) bits))
     slots.0
 
-pub edits_ready : (edits : List BitEdit) → Each (λ (e : BitEdit). IsNetBit e.bit) edits → Each (λ (e : Edit). IsReady e.text) (text_edits edits)
+pub edits_ready : (edits : List BitEdit) → Each (λ (e : BitEdit). IsNetBit e.bit) edits → Each (λ (e : Edit). IsReady verilog e.text) (text_edits edits)
 edits_ready [] bits = tt
-edits_ready (e ∷ edits) bits = ((bit_item e.bit bits.0).texts.ready, edits_ready edits bits.1)
+edits_ready (e ∷ edits) bits = (ready _ (bit_item e.bit bits.0).texts.ready, edits_ready edits bits.1)

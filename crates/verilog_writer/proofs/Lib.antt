@@ -16,6 +16,6 @@ pub mod KeptSound
 pub mod KeptText
 pub mod Names
 pub mod Nets
-pub mod Shared
+pub mod Seams
 pub mod Slots
 pub mod WrittenLaw

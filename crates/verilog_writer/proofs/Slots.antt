@@ -11,7 +11,7 @@ use Rattle.verilog_syntax.specs.declared.reading.Placed.{Placed}
 use Rattle.verilog_syntax.specs.Grammar.{expression_texts, texts_parts, name_parts, range_parts, connection_parts, header_parts, statement_parts}
 use Rattle.verilog_syntax.specs.Laws.{module_parts}
 use Rattle.verilog_writer.specs.VerilogText.{places_in, IsOneOf, IsPlaceIn}
-use Rattle.verilog_writer.proofs.Shared.{shared}
+use Rattle.verilog_writer.proofs.Seams.{verilog}
 
 -- the place is that of a slot
 abbrev pub IsSlotOf : Span → List Part → Type 0
@@ -51,7 +51,7 @@ module _ (place : Span) where
 
 -- the marks of the slots are marks
 abbrev Marked : List Part → Type 0
-Marked ps = AreMarked (shared ps)
+Marked ps = AreMarked verilog ps
 
 marked_append : (ps qs : List Part) → Marked ps → Marked qs → Marked (ps ++ qs)
 marked_append [] qs m n = n

@@ -16,7 +16,7 @@ use Rattle.verilog_writer.specs.VerilogText.{BitEdit, text_edits, written_verilo
 use Rattle.verilog_writer.proofs.Changed.{changed_parts, module_changed}
 use Rattle.verilog_writer.proofs.Edited.{slots_rising, edits_made, edits_ready}
 use Rattle.verilog_writer.proofs.Good.{changed_good}
-use Rattle.verilog_writer.proofs.Shared.{shared, shared_spelled, shared_fits}
+use Rattle.verilog_writer.proofs.Seams.{verilog}
 use Rattle.verilog_writer.proofs.Slots.{IsSlotOf, in_module, marked_module}
 
 -- a text's tokens without their places
@@ -37,8 +37,7 @@ written_law text ps edits read are =
     let parts = module_parts s.listed ps in
     let made = edits_made parts edits 0 0 (length text) (slots_rising text parts s.fits) are.rising (slots_of s.listed ps edits are.places) are.bits in
     let written : texts (written_verilog text edits) ≡ spelled (module_parts s.listed (changed_statements edits ps))
-    = written_spelled text (text_edits edits) (shared parts) (shared (changed_parts edits parts)) (marked_module s.listed ps) (edits_ready edits are.bits) (shared_fits parts [] (tokens_in text) s.fits) made
-    ∙ shared_spelled (changed_parts edits parts)
+    = written_spelled verilog text (text_edits edits) parts (changed_parts edits parts) (marked_module s.listed ps) (edits_ready edits are.bits) s.fits made
     ∙ ap spelled (module_changed edits s.listed ps)
     in
     read_law (written_verilog text edits) s.listed (changed_statements edits ps) (changed_good edits are.bits s.listed ps s.good) (tokens_texts (written_verilog text edits) ∙ written)

@@ -5,13 +5,13 @@ ghost use Rattle.net_edit.specs.Edited.{in_connection, edited, AreEdits};
 ghost use Rattle.verilog_reader.specs.Denoted.{DenotesNetlist};
 ghost use Rattle.verilog_writer.specs.Written.{text_of, pin_text, port_text, edit_texts, IsWritten, DenotesAlike};
 
+use base_types::{Name, NoMemory, Text};
 use cell_table::CellTable;
 use chain_trace::scan_path;
 use net_edit::{Edits, PinEdit, PortEdit};
 use netlist_core::{Assign, Connection, NetId, Netlist};
 use splice::{Edit, spliced};
 use std::alloc::Global;
-use base_types::{Name, NoMemory, Text};
 
 fn connection_at<'a>(pin: &Name, connections: &'a [Connection]) -> Option<&'a Connection>
     ensures value { option_map (λ connection. connection.now) result ≡ connection_at pin.now connections.now }

@@ -5,13 +5,13 @@ ghost use Rattle.net_edit.specs.Edited.{IsPinEdit, IsPortEdit, AreEdits};
 
 use crate::netlist_text::{assign_of, in_connection};
 use crate::verilog_text;
+use base_types::{NoMemory, Rows, Text};
 use cell_table::{CellTable, read_table, small_table};
 use net_edit::{Edits, PinEdit, PortEdit};
 use netlist_core::{Bit, NetId, Netlist};
 use std::alloc::{Alloc, Global};
 use std::process::Abort;
 use std::test::Fail;
-use base_types::{NoMemory, Rows, Text};
 use verilog_reader::read_netlist;
 
 const READ: &[u8] = b"module m ( si, so, \\a.b , v );

@@ -5,8 +5,8 @@ ghost use Rattle.chain_rules.specs.Legality.{chain_at};
 ghost use Rattle.wire_cost.specs.Lengths.{AreNear, ArePlaced, AreWithin, IsChainAt, IsNear, IsNearOrNowhere, IsPlanAt};
 
 use crate::ends::Ends;
-use chain_rules::Plan;
 use base_types::Point;
+use chain_rules::Plan;
 
 const FAR: u64 = 2199023255552;
 

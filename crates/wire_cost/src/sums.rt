@@ -4,9 +4,9 @@ ghost use Rattle.wire_cost.specs.Lengths.{ArePlaced, AreNear, AreWithin, ChainEn
 
 use crate::ends::Ends;
 use crate::links::wire;
+use base_types::{NoMemory, Point};
 use std::alloc::Global;
 use std::marker::Model;
-use base_types::{NoMemory, Point};
 
 /// The sums of the first links of the chain last filled in, with room for further chains. Contracts see the room, as a
 /// number of units, and both lists of sums.

@@ -1,7 +1,7 @@
 use crate::{Ends, Sums, are_placed, chain_length, is_chain_at, link};
+use base_types::{NoMemory, Point, Rows};
 use std::alloc::{Alloc, Global};
 use std::process::Abort;
-use base_types::{NoMemory, Point, Rows};
 
 // Ends on one line, y = 2000, for the units entered and left at these places.
 fn on_line(

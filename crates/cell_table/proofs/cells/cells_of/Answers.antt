@@ -1,4 +1,5 @@
-use Rattle.std.proofs.Common.{◌≡◌, ◌∙◌, string_bytes}
+use Rattle.std.proofs.Common.{ap, ◌∙◌}
+use Rattle.base_types.specs.Names.{plain_name}
 use Rattle.indexmap.proofs.CallerLemmas.{insert_entry-new}
 use Rattle.cell_table.proofs.CellLoop.{with_none, ascend_from, cell_stops, cells_end, gives_none, no_such_cell, same_after, ascend_after}
 use Rattle.cell_table.proofs.cells.cells_of.Goals as goal
@@ -11,10 +12,11 @@ loop-name-init c =
 
 pub returns-in-Err-NoForm-clause-cells : goal.returns-in-Err-NoForm-clause-cells
 returns-in-Err-NoForm-clause-cells c =
-    let same_name : c.of.result ≡ string_bytes c.in-Some.name.now = c.of.ensures.value ∙ c.in_ok-name.ensures.items ∙ c.as_bytes.ensures.value in
-    let stops = cell_stops c.loop-name.cells.entries c.loop-name.name-iterator c.next.new.self c.in-Some.name.now c.in-Some.value.now c.of.result _
-    c.in-Some.ensures.steps same_name (gives_none c.in-Err-NoForm.field-0 _ c.in-Err-NoForm.field-0-is c.in-Err-NoForm.ensures) c.loop-name.invariant.2.same in
-    rw c.of_cell.ensures.value stops
+    let name = c.in_ok-name.ensures.items ∙ c.as_bytes.ensures.value in
+    let stops = cell_stops c.loop-name.cells.entries c.loop-name.name-iterator c.next.new.self c.in-Some.name.now c.in-Some.value.now c.in_ok-name.name.items _
+    c.in-Some.ensures.steps name (gives_none c.in-Err-NoForm.field-0 _ c.in-Err-NoForm.field-0-is c.in-Err-NoForm.ensures) c.loop-name.invariant.2.same in
+    let plain = c.in_ok-plain_name-in-Err-NoForm.ensures.value ∙ ap plain_name c.as_slice.ensures.value in
+    rw (c.shape_fault.ensures.value, plain) stops
 
 pub loop-name-preserved : goal.loop-name-preserved
 loop-name-preserved c =

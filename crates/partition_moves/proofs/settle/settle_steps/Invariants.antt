@@ -1,0 +1,18 @@
+use Rattle.std.proofs.Common.{◌≡◌, ℕ, ◌+◌, ◌≤◌, cond, false, length}
+use Rattle.chain_rules.specs.Legality.{IsLegal}
+use Rattle.wire_cost.specs.Lengths.{plan_length_of}
+use Rattle.order_search.specs.Steps.{IsSettled}
+use Rattle.order_search.specs.declared.effort.Effort.TheVariants.{Full}
+use Rattle.partition_moves.proofs.settle.settle_steps.Given as goal
+
+abbrev pub invariant-passes : goal.invariant-passes
+invariant-passes l = record {
+  legal : IsLegal l.rules l.plan;
+  no_longer : plan_length_of l.ends l.plan ≤ plan_length_of l.ends l.fn.plan;
+  sums : length l.rules.units ≤ l.sums.room;
+  settled : l.again ≡ false → IsSettled Full l.rules l.ends l.plan;
+}
+
+-- the length, and one more where another pass is to come
+abbrev pub decreases-passes : goal.decreases-passes
+decreases-passes l = plan_length_of l.ends l.plan + cond l.again 1 0

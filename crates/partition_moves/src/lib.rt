@@ -1,0 +1,14 @@
+//! Settles plans for all steps: reversed runs, units moved to another place, and units of two chains exchanged.
+//!
+//! Floor: planning, on order_search, wire_cost and chain_rules.
+//! Contract: a settled plan is what `order_search/specs/Steps.antt` says. Begin with `settle.rt`.
+#![tactic(auto)]
+
+mod moves;
+mod settle;
+mod swaps;
+
+pub use settle::settle_all;
+
+#[cfg(test)]
+mod tests;
