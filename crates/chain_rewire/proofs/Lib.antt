@@ -6,5 +6,6 @@ pub mod NameRefusals
 pub mod PathRefusals
 pub mod Units
 pub mod Reorderings
-pub mod Exclusions
+pub mod Ports
+pub mod Firsts
 pub mod NewPaths

@@ -7,12 +7,15 @@ use Rattle.base_types.specs.declared.fault.ReadFault.TheVariants as faults
 use Rattle.base_types.specs.declared.kind.Kind.TheVariants.{NotPermutation, PinnedLast}
 use Rattle.netlist_core.specs.declared.netlist.Netlist.{Netlist}
 use Rattle.chain_trace.specs.declared.path.Path.{Path}
-use Rattle.chain_trace.specs.Faults.{IfFault}
+use Rattle.base_types.specs.declared.fault.Fault.{Fault}
+use Rattle.base_types.specs.Faults.{of_words}
+use Rattle.base_types.specs.FirstFault.{IfFault}
 use Rattle.net_edit.specs.Free.{is_free}
 use Rattle.chain_rewire.specs.declared.rewire.Rewire.{Rewire}
 use Rattle.chain_rewire.specs.Rewiring.{instance_names, IsTraced}
-use Rattle.chain_rewire.specs.Faults.{words_fault, AreInstances, last_name, IsRewireFault, OfNames, OfLast}
+use Rattle.chain_rewire.specs.Faults.{AreInstances, last_name, IsRewireFault}
 use Rattle.chain_rewire.specs.Names.{are_instances}
+use Rattle.chain_rewire.proofs.Firsts.{first_order, first_last}
 use Rattle.chain_rewire.proofs.Instances.{test_instances, instances_test}
 
 abbrev pub Refuses : {X : Type 0} → Netlist → Rewire → Path → Result X ReadFault → Type 0
@@ -26,17 +29,17 @@ pub passed : (n : Netlist) (w : Rewire) (path : Path) (words names : List (List 
     → AreInstances w.units (instance_names n path)
 passed n w path words names is u m e t = test_instances w.units (instance_names n path) (tested n w path words names is u m e ∙ t)
 
-pub not_permutation : (X : Type 0) (n : Netlist) (w : Rewire) (path : Path) (words names : List (List ℕ)) (is : Bool) (e : ReadFault) → words ≡ w.units → names ≡ instance_names n path → is ≡ are_instances words names
-    → is ≡ false → e ≡ faults.Fault (words_fault NotPermutation) → Refuses {X = X} n w path (Err e)
+pub not_permutation : (X : Type 0) (n : Netlist) (w : Rewire) (path : Path) (words names : List (List ℕ)) (is : Bool) (e : Fault) → words ≡ w.units → names ≡ instance_names n path → is ≡ are_instances words names
+    → is ≡ false → e ≡ of_words NotPermutation → Refuses {X = X} n w path (Err (faults.Fault e))
 not_permutation X n w path words names is e u m test f fault =
     let other : are_instances w.units (instance_names n path) ≡ false = tested n w path words names is u m test ∙ f in
-    rw fault (λ text traced. OfNames n path traced (λ are. let yes = sym (instances_test w.units (instance_names n path) are) ∙ other in absurd cc) refl)
+    rw fault (λ text traced. first_order text w n path traced (λ are. let yes = sym (instances_test w.units (instance_names n path) are) ∙ other in absurd cc))
 
-pub pinned_last : (X : Type 0) (n : Netlist) (w : Rewire) (path : Path) (words names : List (List ℕ)) (is : Bool) (a b : List ℕ) (free : Bool) (e : ReadFault) → words ≡ w.units → names ≡ instance_names n path
-    → is ≡ are_instances words names → is ≡ true → a ≡ last_name words → b ≡ last_name names → bytes_eq a b ≡ false → free ≡ is_free n path.output → free ≡ false → e ≡ faults.Fault (words_fault PinnedLast) → Refuses {X = X} n w path (Err e)
+pub pinned_last : (X : Type 0) (n : Netlist) (w : Rewire) (path : Path) (words names : List (List ℕ)) (is : Bool) (a b : List ℕ) (free : Bool) (e : Fault) → words ≡ w.units → names ≡ instance_names n path
+    → is ≡ are_instances words names → is ≡ true → a ≡ last_name words → b ≡ last_name names → bytes_eq a b ≡ false → free ≡ is_free n path.output → free ≡ false → e ≡ of_words PinnedLast → Refuses {X = X} n w path (Err (faults.Fault e))
 pinned_last X n w path words names is a b free e u m test t last_a last_b differ free_is pinned fault =
     let are = passed n w path words names is u m test t in
     let apart : last_name w.units ≢ last_name (instance_names n path)
     = λ same. let yes : bytes_eq a b ≡ true = (bytes_eq-Decides a b).1 (last_a ∙ ap last_name u ∙ same ∙ sym (last_b ∙ ap last_name m)) in let both = sym yes ∙ differ in absurd cc
     in
-    rw fault (λ text traced. OfLast n path traced are (sym free_is ∙ pinned) apart refl)
+    rw fault (λ text traced. first_last text w n path traced are (sym free_is ∙ pinned) apart)

@@ -18,7 +18,7 @@ use Rattle.net_edit.specs.Reordered.{sinks_of}
 use Rattle.verilog_writer.specs.Written.{DenotesAlike}
 use Rattle.chain_rewire.specs.declared.rewire.Rewire.{Rewire}
 use Rattle.chain_rewire.specs.Rewiring.{cells_of, name_of, instance_name, instance_names, ordered, IsTraced, AreErasedAlike, HasPath}
-use Rattle.chain_rewire.proofs.Exclusions.{output_is_driven}
+use Rattle.chain_rewire.proofs.Ports.{output_is_driven}
 
 -- the names of a netlist's instances, in order
 abbrev all_names : List Instance → List (List ℕ)

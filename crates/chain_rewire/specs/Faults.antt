@@ -1,12 +1,11 @@
--- The first fault of a Verilog text and of what is asked of its scan path.
+-- The faults of a Verilog text and of what is asked of its scan path.
 use Rattle.std.specs.Prelude.{◌≡◌, ◌≢◌, ℕ, Bool, false, List, [], ◌∷◌, Err}
 use Rattle.std.specs.List.{IsDistinct, list_any}
 use Rattle.std.specs.Str.{bytes_eq}
 use Rattle.base_types.specs.declared.fault.Fault.{Fault}
-use Rattle.base_types.specs.declared.fault.FileKind.TheVariants.{Words}
-use Rattle.base_types.specs.declared.fault.Spot.TheVariants.{Line}
-use Rattle.base_types.specs.declared.kind.Kind.{Kind}
 use Rattle.base_types.specs.declared.kind.Kind.TheVariants.{NoPort, WrongPort, NotPermutation, PinnedLast}
+use Rattle.base_types.specs.Faults.{of_words}
+use Rattle.base_types.specs.FirstFault.{IsFirstFault}
 use Rattle.netlist_core.specs.declared.netlist.NetId.{NetId}
 use Rattle.netlist_core.specs.declared.netlist.Netlist.{Netlist}
 use Rattle.netlist_core.specs.Netlists.{plain_of}
@@ -19,10 +18,6 @@ use Rattle.chain_trace.specs.Named.{IsPortNamed}
 use Rattle.net_edit.specs.Free.{is_free}
 use Rattle.chain_rewire.specs.declared.rewire.Rewire.{Rewire}
 use Rattle.chain_rewire.specs.Rewiring.{cells_of, instance_names, IsTraced}
-
--- a fault of the words
-abbrev pub words_fault : Kind → Fault
-words_fault kind = record { kind = kind; file = Words; spot = Line 0 }
 
 -- the scan-out is a bit of an output or inout port, and the scan-in one of an input or inout port
 pub record HasPorts (n : Netlist) (w : Rewire) (output : NetId) : Type 0 where
@@ -46,15 +41,65 @@ last_from name (other ∷ others) = last_from other others
 abbrev pub last_name : List (List ℕ) → List ℕ
 last_name names = last_from [] names
 
--- the first fault: of the Verilog; of the ports' names; the one that is met going backward from the scan-out; another
--- scan-in; other names than those of the path's instances; or another last one where the scan-out isn't free
-pub data IsRewireFault (text : List ℕ) (w : Rewire) (fault : Fault) : Type 0 where
-  OfVerilog : read_faultless text ≡ Err fault → IsRewireFault text w fault
-  OfPorts : (n : Netlist) → DenotesNetlist text n → ((output : NetId) → HasPorts n w output → ⊥) → fault ≡ words_fault NoPort → IsRewireFault text w fault
-  OfPath : (n : Netlist) (output : NetId) → DenotesNetlist text n → HasPorts n w output → IsTraceFault n (cells_of w) output fault → IsRewireFault text w fault
-  OfInput : (n : Netlist) (path : Path) → DenotesNetlist text n → HasPorts n w path.output → IsScanPath n (cells_of w) path.output path
-      → plain_of n.nets path.input ≢ w.scan_in → fault ≡ words_fault WrongPort → IsRewireFault text w fault
-  OfNames : (n : Netlist) (path : Path) → IsTraced text w n path → (AreInstances w.units (instance_names n path) → ⊥)
-      → fault ≡ words_fault NotPermutation → IsRewireFault text w fault
-  OfLast : (n : Netlist) (path : Path) → IsTraced text w n path → AreInstances w.units (instance_names n path) → is_free n path.output ≡ false
-      → last_name w.units ≢ last_name (instance_names n path) → fault ≡ words_fault PinnedLast → IsRewireFault text w fault
+-- the scan path of the scan-out, wherever it begins
+pub record IsOfOutput (text : List ℕ) (w : Rewire) (n : Netlist) (path : Path) : Type 0 where
+  pub reads : DenotesNetlist text n
+  pub output : IsPortNamed is_driven n w.scan_out path.output
+  pub is : IsScanPath n (cells_of w) path.output path
+
+-- VerilogSyntax, SecondModule, VerilogNumber, VerilogTwice, BadSelect: the text denotes no netlist
+abbrev pub IsVerilogFault : List ℕ → Fault → Type 0
+IsVerilogFault text fault = read_faultless text ≡ Err fault
+
+-- NoPort: the scan-out is no bit of an output or inout port, or the scan-in none of an input or inout port
+pub record IsPortFault (text : List ℕ) (w : Rewire) (fault : Fault) : Type 0 where
+  pub netlist : Netlist
+  pub reads : DenotesNetlist text netlist
+  pub none : (output : NetId) → HasPorts netlist w output → ⊥
+  pub is : fault ≡ of_words NoPort
+
+-- NoDriver, TwoDrivers, Loop: going backward from the scan-out the fault is met
+pub record IsOutputFault (text : List ℕ) (w : Rewire) (fault : Fault) : Type 0 where
+  pub netlist : Netlist
+  pub reads : DenotesNetlist text netlist
+  pub output : NetId
+  pub port : IsPortNamed is_driven netlist w.scan_out output
+  pub met : IsTraceFault netlist (cells_of w) output fault
+
+-- WrongPort: the path of the scan-out begins at another port than the scan-in
+pub record IsInputFault (text : List ℕ) (w : Rewire) (fault : Fault) : Type 0 where
+  pub netlist : Netlist
+  pub path : Path
+  pub found : IsOfOutput text w netlist path
+  pub other : plain_of netlist.nets path.input ≢ w.scan_in
+  pub is : fault ≡ of_words WrongPort
+
+-- NotPermutation: the words aren't the path's instances, each once
+pub record IsOrderFault (text : List ℕ) (w : Rewire) (fault : Fault) : Type 0 where
+  pub netlist : Netlist
+  pub path : Path
+  pub found : IsOfOutput text w netlist path
+  pub other : AreInstances w.units (instance_names netlist path) → ⊥
+  pub is : fault ≡ of_words NotPermutation
+
+-- PinnedLast: the words have another last one, though the scan-out isn't free
+pub record IsLastFault (text : List ℕ) (w : Rewire) (fault : Fault) : Type 0 where
+  pub netlist : Netlist
+  pub path : Path
+  pub found : IsOfOutput text w netlist path
+  pub pinned : is_free netlist path.output ≡ false
+  pub other : last_name w.units ≢ last_name (instance_names netlist path)
+  pub is : fault ≡ of_words PinnedLast
+
+-- a fault of the text and of what is asked
+pub data HoldsInRewire (text : List ℕ) (w : Rewire) (fault : Fault) : Type 0 where
+  OfVerilog : IsVerilogFault text fault → HoldsInRewire text w fault
+  OfPort : IsPortFault text w fault → HoldsInRewire text w fault
+  OfOutput : IsOutputFault text w fault → HoldsInRewire text w fault
+  OfInput : IsInputFault text w fault → HoldsInRewire text w fault
+  OfOrder : IsOrderFault text w fault → HoldsInRewire text w fault
+  OfLast : IsLastFault text w fault → HoldsInRewire text w fault
+
+-- the first of them
+abbrev pub IsRewireFault : List ℕ → Rewire → Fault → Type 0
+IsRewireFault text w fault = IsFirstFault (HoldsInRewire text w) fault

@@ -2,13 +2,12 @@
 ghost use Rattle.std.specs.Prelude.{◌≡◌, ℕ, List, IfOk};
 ghost use Rattle.netlist_core.specs.Netlists.{IsNetlist};
 ghost use Rattle.verilog_reader.specs.Denoted.{DenotesNetlist};
-ghost use Rattle.chain_trace.specs.Faults.{IfFault};
+ghost use Rattle.base_types.specs.FirstFault.{IfFault};
 ghost use Rattle.chain_rewire.specs.Rewiring.{cells_of, IsTraced};
 ghost use Rattle.chain_rewire.specs.Faults.{IsRewireFault};
 
-use crate::faults::words_fault;
 use crate::rewire::Rewire;
-use base_types::{Kind, ReadFault};
+use base_types::{Fault, Kind, ReadFault};
 use cell_table::CellTable;
 use chain_trace::{Path, input_named, output_named, plain_of, trace};
 use netlist_core::{Netlist, classes_of};
@@ -27,15 +26,15 @@ pub(crate) fn path_between(
     ensures fault { IfFault result (λ fault. (text : List ℕ) → DenotesNetlist text netlist.now → IsRewireFault text rewire.now fault) }
 {
     let Some(output) = output_named(netlist, rewire.scan_out.bytes()) else {
-        return Err(words_fault(Kind::NoPort));
+        return Err(ReadFault::Fault(Fault::of_words(Kind::NoPort)));
     };
     let Some(_) = input_named(netlist, rewire.scan_in.bytes()) else {
-        return Err(words_fault(Kind::NoPort));
+        return Err(ReadFault::Fault(Fault::of_words(Kind::NoPort)));
     };
     let classes = classes_of(alloc, netlist)?;
     let path = trace(alloc, netlist, &classes, table, output)?;
     if plain_of(netlist.nets.as_slice(), path.input) != rewire.scan_in.bytes() {
-        return Err(words_fault(Kind::WrongPort));
+        return Err(ReadFault::Fault(Fault::of_words(Kind::WrongPort)));
     }
     Ok(path)
 }

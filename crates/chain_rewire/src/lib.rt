@@ -6,7 +6,6 @@
 #![tactic(auto)]
 
 mod between;
-mod faults;
 mod names;
 mod order;
 mod rewire;

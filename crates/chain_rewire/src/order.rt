@@ -5,15 +5,14 @@ ghost use Rattle.std.specs.Option.{option_or};
 ghost use Rattle.std.specs.Str.{bytes_eq};
 ghost use Rattle.std.specs.HashMap.{get};
 ghost use Rattle.chain_trace.specs.declared.path.Step.{Step};
-ghost use Rattle.chain_trace.specs.Faults.{IfFault};
+ghost use Rattle.base_types.specs.FirstFault.{IfFault};
 ghost use Rattle.net_edit.specs.Free.{is_free};
 ghost use Rattle.chain_rewire.specs.Rewiring.{instance_name, instance_names, step_named, ordered, IsTraced};
 ghost use Rattle.chain_rewire.specs.Faults.{AreInstances, last_name, IsRewireFault};
 
-use crate::faults::words_fault;
 use crate::names::Names;
 use crate::rewire::Rewire;
-use base_types::{Kind, Name, NoMemory, ReadFault, Rows};
+use base_types::{Fault, Kind, Name, NoMemory, ReadFault, Rows};
 use chain_trace::{Path, Step};
 use net_edit::is_free;
 use netlist_core::Netlist;
@@ -108,10 +107,10 @@ fn check_names(
     let units = unit_names(alloc, rewire)?;
     let names = instance_names(alloc, netlist, path)?;
     if !units.are_instances(alloc, &names)? {
-        return Err(words_fault(Kind::NotPermutation));
+        return Err(ReadFault::Fault(Fault::of_words(Kind::NotPermutation)));
     }
     if units.last() != names.last() && !is_free(netlist, path.output) {
-        return Err(words_fault(Kind::PinnedLast));
+        return Err(ReadFault::Fault(Fault::of_words(Kind::PinnedLast)));
     }
     Ok(())
 }

@@ -1,18 +1,18 @@
 //! The Verilog with the path in the order of the names.
-ghost use Rattle.std.specs.Prelude.{◌≢◌, ◌<◌, ◌^◌, length, IfOk};
+ghost use Rattle.std.specs.Prelude.{◌≢◌, ◌<◌, ◌^◌, length, IfOk, OnOk};
 ghost use Rattle.base_types.specs.declared.fault.Fault.{Fault};
-ghost use Rattle.chain_trace.specs.Faults.{IfFault};
+ghost use Rattle.base_types.specs.FirstFault.{IfFault, IsFirstFault};
 ghost use Rattle.chain_rewire.specs.Rewiring.{IsRewired, AreErasedAlike, HasPath};
-ghost use Rattle.chain_rewire.specs.Faults.{IsRewireFault};
+ghost use Rattle.chain_rewire.specs.Faults.{HoldsInRewire};
 
 use crate::between::path_between;
 use crate::order::ordered_path;
 use base_types::{Name, ReadFault, Rows, Text};
 use cell_table::CellTable;
-use chain_trace::{names_law, path_law};
+use chain_trace::names_law;
 use net_edit::edits_for;
 use std::alloc::Global;
-use verilog_reader::{netlist_law, read_netlist};
+use verilog_reader::read_netlist;
 use verilog_writer::verilog_text;
 
 /// What the words of `rewire` ask for.
@@ -44,7 +44,7 @@ pub struct Rewired {
 /// The Verilog text in which the scan path of the scan-out has its instances in the order of the words, and how many in pins
 /// and ports have another source than before. Only their expressions are replaced.
 ///
-/// Refused by the first fault: of the Verilog (VerilogSyntax, SecondModule, VerilogNumber, VerilogTwice, BadSelect); NoPort
+/// Refused by the first fault, that of the least kind: of the Verilog (VerilogSyntax, SecondModule, VerilogNumber, VerilogTwice, BadSelect); NoPort
 /// where no bit of an output or inout port has the name of the scan-out, or no bit of an input or inout port that of the
 /// scan-in; NoDriver, TwoDrivers or Loop where the scan-out has no path; WrongPort where the path begins at another port than
 /// the scan-in; NotPermutation where the units aren't the path's instances, each once; and PinnedLast where another unit
@@ -57,12 +57,10 @@ pub fn rewire_text(alloc: Global, text: &[u8], rewire: &Rewire) -> Result<Rewire
     ensures erased { IfOk result (λ made. AreErasedAlike text.now rewire.now made.verilog) }
     // The written text has the path with the instances in the order of the words.
     ensures path { IfOk result (λ made. HasPath made.verilog rewire.now rewire.now.units) }
-    ensures fault { IfFault result (IsRewireFault text.now rewire.now) }
-    ensures no_fault { IfOk result (λ made. (fault : Fault) → IsRewireFault text.now rewire.now fault → ⊥) }
+    ensures fault { IfFault result (IsFirstFault (HoldsInRewire text.now rewire.now)) }
+    ensures no_fault { OnOk result ((fault : Fault) → HoldsInRewire text.now rewire.now fault → ⊥) }
 {
-    // These calls do nothing; their contracts are laws.
-    netlist_law();
-    path_law();
+    // The call does nothing; its contract is a law.
     names_law();
     let netlist = read_netlist(alloc, text)?;
     let table = CellTable::one(alloc, &rewire.cell, &rewire.in_pin, &rewire.out_pin)?;

@@ -4,7 +4,6 @@ use Rattle.std.specs.List.{slice_get, find}
 use Rattle.base_types.specs.declared.fault.Fault.{Fault}
 use Rattle.base_types.specs.declared.fault.FileKind.TheVariants.{Verilog}
 use Rattle.base_types.specs.declared.kind.Kind.TheVariants as kinds
-pub use Rattle.base_types.specs.FirstFault.{IfFault}
 use Rattle.base_types.specs.Faults.{at_line}
 use Rattle.netlist_core.specs.declared.netlist.NetId.{NetId}
 use Rattle.netlist_core.specs.declared.netlist.Port.{Port}

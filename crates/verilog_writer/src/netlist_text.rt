@@ -7,6 +7,7 @@ ghost use Rattle.verilog_writer.specs.Written.{text_of, pin_text, port_text, edi
 
 use base_types::{Name, NoMemory, Text};
 use cell_table::CellTable;
+use chain_trace::scan_path;
 use net_edit::{Edits, PinEdit, PortEdit};
 use netlist_core::{Assign, Connection, NetId, Netlist};
 use splice::{Edit, spliced};
@@ -30,8 +31,7 @@ pub(crate) fn in_connection<'a>(
     ensures value { option_map (λ connection. connection.now) result ≡ in_connection netlist.now table.now instance path }
 {
     let placed = netlist.instances.as_slice().get(instance as usize)?;
-    let paths = table.get(&placed.cell)?;
-    let entered = paths.get(path as usize)?;
+    let entered = scan_path(netlist, table, instance, path)?;
     connection_at(&entered.input, placed.connections.as_slice())
 }
 

@@ -5,7 +5,9 @@ use Rattle.chain_trace.specs.declared.path.Path.{Path}
 use Rattle.chain_rewire.specs.Rewiring.{IsTraced}
 use Rattle.chain_rewire.specs.Faults.{IsRewireFault}
 use Rattle.chain_rewire.proofs.Reorderings.{is_reordered, ordered_names}
-use Rattle.chain_rewire.proofs.Exclusions.{fault_weaker, excluded}
+use Rattle.chain_trace.proofs.FirstFaults.{fault_weaker}
+use Rattle.chain_rewire.proofs.Firsts.{first_verilog, excluded}
+use Rattle.chain_rewire.specs.declared.rewire.Rewired.{Rewired}
 use Rattle.chain_rewire.proofs.NewPaths.{erased, has_path}
 use Rattle.chain_rewire.proofs.rewire.rewire_text.Goals as goal
 
@@ -63,5 +65,9 @@ returns-clause-path c =
 
 pub returns-clause-no_fault : goal.returns-clause-no_fault
 returns-clause-no_fault c =
-    excluded c.netlist_law.ensures.one c.path_law.ensures.only c.path_law.ensures.no_fault c.args.text.now c.args.rewire.now c.in_ok-netlist.netlist c.in_ok-path.path
-    (c.in_ok-path.ensures.path c.args.text.now c.in_ok-netlist.ensures.value) c.in_ok-new.ensures.instances c.in_ok-new.ensures.last
+    excluded c.args.text.now c.args.rewire.now c.in_ok-netlist.netlist c.in_ok-path.path (c.in_ok-path.ensures.path c.args.text.now c.in_ok-netlist.ensures.value) c.in_ok-new.ensures.instances c.in_ok-new.ensures.last
+
+pub returns-in_err-netlist-clause-fault : goal.returns-in_err-netlist-clause-fault
+returns-in_err-netlist-clause-fault c =
+    let p = err_from_is_err_and c.from_residual.result c.from_residual.ensures.1 in
+    rw (p.1, p.2) (first_verilog c.args.text.now c.args.rewire.now {X = Rewired} (Err c.in_err-netlist.field-0.0) c.in_err-netlist.ensures.refused)
