@@ -44,11 +44,11 @@ pub struct Rewired {
 /// The Verilog text in which the scan path of the scan-out has its instances in the order of the words, and how many in pins
 /// and ports have another source than before. Only their expressions are replaced.
 ///
-/// Refused by the first fault, that of the least kind: of the Verilog (VerilogSyntax, SecondModule, VerilogNumber, VerilogTwice, BadSelect); NoPort
-/// where no bit of an output or inout port has the name of the scan-out, or no bit of an input or inout port that of the
-/// scan-in; NoDriver, TwoDrivers or Loop where the scan-out has no path; WrongPort where the path begins at another port than
-/// the scan-in; NotPermutation where the units aren't the path's instances, each once; and PinnedLast where another unit
-/// would be last though the scan-out isn't free.
+/// Refused by the first fault, that of the least kind: of the Verilog (VerilogSyntax, SecondModule, VerilogNumber,
+/// VerilogTwice, BadSelect); NoPort where no bit of an output or inout port has the name of the scan-out, or no bit of an
+/// input or inout port that of the scan-in; NoDriver, TwoDrivers or Loop where the scan-out has no path; WrongPort where the
+/// path begins at another port than the scan-in; NotPermutation where the units aren't the path's instances, each once; and
+/// PinnedLast where another unit would be last though the scan-out isn't free.
 pub fn rewire_text(alloc: Global, text: &[u8], rewire: &Rewire) -> Result<Rewired, ReadFault>
     requires size { length text.now < 2 ^ 32 }
     requires pins { rewire.now.in_pin ≢ rewire.now.out_pin }
