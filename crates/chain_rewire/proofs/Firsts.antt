@@ -38,10 +38,10 @@ of_kind : (g : Fault) (kind : Kind) → g ≡ of_words kind → number_of g.kind
 of_kind g kind e = ap (λ (x : Fault). number_of x.kind) e
 
 module _ (text : List ℕ) (w : Rewire) where
-  abbrev First : Fault → Type 0
+  abbrev pub First : Fault → Type 0
   First f = IsFirstFault (HoldsInRewire text w) f
 
-  abbrev OrLater : Fault → Fault → Type 0
+  abbrev pub OrLater : Fault → Fault → Type 0
   OrLater f g = (g ≡ f) ⊎ (number_of f.kind < number_of g.kind)
 
   -- a fault of the text comes alone

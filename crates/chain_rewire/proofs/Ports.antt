@@ -1,14 +1,9 @@
 -- The ports of a path.
-use Rattle.std.proofs.Common.{◌≡◌, ℕ, Bool, true, false, cond, List, [], ◌∷◌, Option, Some, None, Result, Ok, Err, refl, sym, ap, ap₂, ◌∙◌, subst}
-use Rattle.base_types.specs.declared.fault.Fault.{Fault}
-use Rattle.base_types.specs.declared.fault.ReadFault.{ReadFault}
-use Rattle.base_types.specs.declared.fault.ReadFault.TheVariants as faults
+use Rattle.std.proofs.Common.{◌≡◌, ℕ, Bool, true, false, cond, List, [], ◌∷◌, Option, Some, None, refl, sym, ◌∙◌}
 use Rattle.netlist_core.specs.declared.netlist.NetId.{NetId}
 use Rattle.netlist_core.specs.declared.netlist.Direction.{Direction}
 use Rattle.netlist_core.specs.declared.netlist.Netlist.{Netlist}
-use Rattle.netlist_core.specs.Netlists.{plain_of, IsNetlist}
-use Rattle.verilog_checks.specs.Faults.{IsRefused, read_faultless}
-use Rattle.verilog_reader.specs.Denoted.{DenotesNetlist, OneNetlistLaw}
+use Rattle.netlist_core.specs.Netlists.{IsNetlist}
 use Rattle.verilog_reader.proofs.OneNetlist.{net_tells}
 use Rattle.cell_table.specs.Cells.{Cells}
 use Rattle.chain_trace.specs.declared.path.Step.{Step}
@@ -18,13 +13,8 @@ use Rattle.chain_trace.specs.declared.path.Source.TheVariants as sources
 use Rattle.chain_trace.specs.declared.path.Sink.{Sink}
 use Rattle.chain_trace.specs.declared.path.Sink.TheVariants as sinks
 use Rattle.chain_trace.specs.Paths.{drives, is_driven, has_port, source_net, sink_net, Leads, IsScanPath}
-use Rattle.chain_trace.specs.Faults.{IsTraceFault, IfFault}
 use Rattle.chain_trace.specs.Named.{IsPortNamed}
 use Rattle.chain_trace.proofs.Ranges.{port_within}
-use Rattle.net_edit.specs.Free.{is_free}
-use Rattle.chain_rewire.specs.declared.rewire.Rewire.{Rewire}
-use Rattle.chain_rewire.specs.Rewiring.{cells_of, instance_names, IsTraced}
-use Rattle.chain_rewire.specs.Faults.{HasPorts, AreInstances, last_name, IsRewireFault, OfVerilog, OfPorts, OfPath, OfInput, OfNames, OfLast}
 
 -- a name tells the port
 pub same_port : (test : Direction → Bool) (n : Netlist) (name : List ℕ) (a b : NetId) → IsNetlist n → IsPortNamed test n name a → IsPortNamed test n name b → a ≡ b

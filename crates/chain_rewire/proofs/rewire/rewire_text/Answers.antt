@@ -69,5 +69,5 @@ returns-clause-no_fault c =
 
 pub returns-in_err-netlist-clause-fault : goal.returns-in_err-netlist-clause-fault
 returns-in_err-netlist-clause-fault c =
-    let p = err_from_is_err_and c.from_residual-in_err-netlist.result c.from_residual-in_err-netlist.ensures.1 in
+    let p = err_from_is_err_and c.from_residual.result c.from_residual.ensures.1 in
     rw (p.1, p.2) (first_verilog c.args.text.now c.args.rewire.now {X = Rewired} (Err c.in_err-netlist.field-0.0) c.in_err-netlist.ensures.refused)
