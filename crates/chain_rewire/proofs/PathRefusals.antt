@@ -19,7 +19,7 @@ use Rattle.chain_trace.specs.Faults.{IsTraceFault}
 use Rattle.chain_trace.specs.Named.{IsPortNamed}
 use Rattle.chain_rewire.specs.declared.rewire.Rewire.{Rewire}
 use Rattle.chain_rewire.specs.Rewiring.{cells_of}
-use Rattle.chain_rewire.specs.Faults.{HasPorts, IsOfOutput, IsRewireFault}
+use Rattle.chain_rewire.specs.Faults.{HasPorts, IsRewireFault}
 use Rattle.chain_rewire.proofs.Firsts.{first_port, first_output, first_input}
 
 abbrev pub IsRefused : {X : Type 0} → Netlist → Rewire → Result X ReadFault → Type 0

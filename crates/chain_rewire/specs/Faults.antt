@@ -17,7 +17,7 @@ use Rattle.chain_trace.specs.Faults.{IsTraceFault}
 use Rattle.chain_trace.specs.Named.{IsPortNamed}
 use Rattle.net_edit.specs.Free.{is_free}
 use Rattle.chain_rewire.specs.declared.rewire.Rewire.{Rewire}
-use Rattle.chain_rewire.specs.Rewiring.{cells_of, instance_names, IsTraced}
+use Rattle.chain_rewire.specs.Rewiring.{cells_of, instance_names}
 
 -- the scan-out is a bit of an output or inout port, and the scan-in one of an input or inout port
 pub record HasPorts (n : Netlist) (w : Rewire) (output : NetId) : Type 0 where

@@ -1,5 +1,5 @@
 -- The table of a command: its options, what their values are, and which of them stand.
-use Rattle.std.specs.Prelude.{ℕ, Bool, true, false, ◌&&◌, ◌||◌, not, if◌then◌else◌, List, [], ◌∷◌, ◌++◌, map, codes, Option, Some, None, option_and_then}
+use Rattle.std.specs.Prelude.{Bool, true, false, ◌&&◌, ◌||◌, not, if◌then◌else◌, List, [], ◌∷◌, ◌++◌, map, codes, Option, Some, None, option_and_then}
 use Rattle.std.specs.Str.{bytes_eq}
 use Rattle.scan_words.specs.declared.table.OptionName.{OptionName}
 use Rattle.scan_words.specs.declared.table.OptionName.TheVariants as options
