@@ -1,3 +1,4 @@
 pub mod CountedPlaces
 pub mod FaultOrder
+pub mod FirstFaults
 pub mod LineLemmas

@@ -67,6 +67,7 @@ number_of PatternSize = 88
 number_of NotPermutation = 91
 number_of PinnedLast = 92
 
+-- the name of a kind, as it is printed
 abbrev pub kind_name : Kind → List ℕ
 kind_name FileSize = codes "FileSize"
 kind_name TableSyntax = codes "TableSyntax"
@@ -130,8 +131,10 @@ kind_name PinnedLast = codes "PinnedLast"
 abbrev pub at_line : Kind → FileKind → ℕ → Fault
 at_line kind file line = record { kind = kind; file = file; spot = spots.Line line }
 
+-- a fault of the words of the command
 abbrev pub of_words : Kind → Fault
 of_words kind = record { kind = kind; file = files.Words; spot = spots.Line 0 }
 
+-- a fault of the table, at a cell
 abbrev pub of_cell : Kind → List ℕ → Fault
 of_cell kind name = record { kind = kind; file = files.Table; spot = spots.Cell name }

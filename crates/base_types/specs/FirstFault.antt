@@ -32,6 +32,7 @@ spot_key (Cell name) = 2 ∷ name
 abbrev pub fault_key : Fault → List ℕ
 fault_key f = number_of f.kind ∷ file_number f.file ∷ spot_key f.spot
 
+-- one fault comes before another
 abbrev pub ComesBefore : Fault → Fault → Type 0
 ComesBefore f g = slice_cmp nat_cmp (fault_key f) (fault_key g) ≡ Less
 

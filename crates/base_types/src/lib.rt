@@ -30,6 +30,3 @@ pub use rows::Rows;
 pub use span::{Point, Span};
 pub use stop::Stop;
 pub use word::Word;
-
-#[cfg(test)]
-mod tests;

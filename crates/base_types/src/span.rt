@@ -5,7 +5,8 @@ pub struct Span {
     pub end: u32,
 }
 
-/// A place on the die, in half database units.
+/// A point in the plane, in the unit that its holder says: half database units where links are measured, database units
+/// where a DEF gives it.
 #[derive(Clone, Copy, Debug, PartialEq, Eq)]
 pub struct Point {
     pub x: i64,

@@ -1,5 +1,6 @@
 ghost use Rattle.std.specs.Prelude.{◌≡◌, ◌↔◌, All, IsTrue};
-ghost use Rattle.stil_tester.specs.Shifting.{IsCallFor, IsStringOf, is_compare_character, is_load_character, longest_string, string_length};
+ghost use Rattle.stil_reader.specs.Calls.{IsStringOf, is_compare_character, is_load_character, longest_string, string_length};
+ghost use Rattle.stil_tester.specs.Shifting.{IsCallFor};
 
 use base_types::Text;
 use stil_reader::ScanCall;

@@ -16,6 +16,7 @@ use Rattle.cell_table.specs.declared.paths.ScanPath.{ScanPath}
 use Rattle.base_types.specs.declared.stop.Stop.{Stop}
 use Rattle.base_types.specs.declared.stop.Stop.TheVariants as stops
 
+-- what a value leads to, if there is one
 infixl 10 ◌>>=◌
 abbrev pub ◌>>=◌ : {A B : Type 0} → Option A → (A → Option B) → Option B
 o >>= f = option_and_then f o
@@ -31,10 +32,12 @@ Gives (Ok x) read = read ≡ Some x
 Gives (Err stops.NoForm) read = read ≡ None
 Gives (Err stops.NoMemory) read = Unit {0}
 
+-- how many items an array has
 abbrev pub items_len : Items → ℕ
 items_len no_items = 0
 items_len (item d ds) = suc (items_len ds)
 
+-- how many entries a table has
 abbrev pub members_len : Members → ℕ
 members_len no_members = 0
 members_len (member k d ms) = suc (members_len ms)
@@ -43,12 +46,15 @@ members_len (member k d ms) = suc (members_len ms)
 abbrev pub text_at : List ℕ → Data → Option (List ℕ)
 text_at key d = get key d >>= as_str
 
+-- the array at a key
 abbrev pub array_at : List ℕ → Data → Option Items
 array_at key d = get key d >>= as_array
 
+-- the table at a key
 abbrev pub table_at : List ℕ → Data → Option Members
 table_at key d = get key d >>= as_table
 
+-- there is a table, of so many keys
 abbrev pub is_of_len : ℕ → Option Members → Bool
 is_of_len count None = false
 is_of_len count (Some ms) = members_len ms == count
@@ -61,6 +67,7 @@ has_keys count d = is_of_len count (as_table d)
 abbrev pub bit_at : ℤ → Option Bool
 bit_at z = if int_eq z (pos 0) then Some false else if int_eq z (pos 1) then Some true else None
 
+-- the bit that a value writes
 unfoldable pub bit_of : Data → Option Bool
 bit_of d = as_integer d >>= bit_at
 
@@ -80,17 +87,21 @@ each_member f (member k d ms) = do
   xs ← each_member f ms
   Some (x ∷ xs)
 
+-- the bits that an array writes
 abbrev pub bits_of : Items → Option (List Bool)
 bits_of = each_item bit_of
 
+-- the out pin that an entry writes
 unfoldable pub out_of : List ℕ → Data → Option OutPin
 out_of pin d = do
   inverted ← bit_of d
   Some (record { pin = pin; inverted = inverted })
 
+-- the out pins that a table writes, in the order of their names
 abbrev pub outs_of : Members → Option (List OutPin)
 outs_of = each_member out_of
 
+-- the in pin has a name, there are at most 1024 bits, and one out pin or more
 abbrev pub are_sized : List ℕ → Items → Members → Bool
 are_sized input bits outs = not (length input == 0) && nat_le (items_len bits) 1024 && not (members_len outs == 0)
 
@@ -106,6 +117,7 @@ path_of d = do
   outs ← outs_of outs
   Some (record { input = input; bits = bits; outs = outs })
 
+-- the scan paths that an array writes
 abbrev pub paths_of : Items → Option (List ScanPath)
 paths_of = each_item path_of
 
@@ -113,6 +125,7 @@ paths_of = each_item path_of
 abbrev pub path_pins : ScanPath → List (List ℕ)
 path_pins path = path.input ∷ map (λ out. out.pin) path.outs
 
+-- the pins of some paths, in order
 abbrev pub pins_of : List ScanPath → List (List ℕ)
 pins_of paths = flat_map path_pins paths
 
@@ -121,9 +134,11 @@ unfoldable pub twice_behind : List (List ℕ) → List (List ℕ) → Bool
 twice_behind before [] = false
 twice_behind before (n ∷ ns) = list_any (λ m. bytes_eq m n) before || twice_behind (before ++ n ∷ []) ns
 
+-- some name stands twice
 abbrev pub has_twice : List (List ℕ) → Bool
 has_twice names = twice_behind [] names
 
+-- some pin stands twice in the paths
 unfoldable pub has_pin_twice : List ScanPath → Bool
 has_pin_twice paths = has_twice (pins_of paths)
 
@@ -137,6 +152,7 @@ cell_of d = do
   once ← only_if (not (has_pin_twice paths))
   Some paths
 
+-- the cells of a table, each with its scan paths
 abbrev pub Cells : Type 0
 Cells = List (List ℕ × List ScanPath)
 
@@ -144,6 +160,7 @@ Cells = List (List ℕ × List ScanPath)
 abbrev pub shape_fault : List ℕ → Fault
 shape_fault cell = of_cell TableShape (plain_name cell)
 
+-- one cell before the others, or its fault before theirs
 abbrev pub with_cell : List ℕ → Option (List ScanPath) → Result Cells Fault → Result Cells Fault
 with_cell name None others = Err (shape_fault name)
 with_cell name (Some paths) (Ok cells) = Ok ((name, paths) ∷ cells)
@@ -161,10 +178,12 @@ named_cells document = do
   sizes ← only_if (members_len document == 1 && not (members_len cells == 0))
   Some cells
 
+-- the cells of the entries, where the document has some
 abbrev pub cells_in : Option Members → Result Cells Fault
 cells_in None = Err (shape_fault [])
 cells_in (Some cells) = cells_of cells
 
+-- the cells of a document, or its first fault
 unfoldable pub document_of : Members → Result Cells Fault
 document_of document = cells_in (named_cells document)
 
@@ -172,9 +191,11 @@ document_of document = cells_in (named_cells document)
 abbrev pub document_at : List ℕ → Option Members
 document_at text = if is_utf8 text then parse_document text else None
 
+-- the cells of a document, where the text is one
 abbrev pub cells_at : Option Members → Result Cells Fault
 cells_at None = Err (record { kind = TableSyntax; file = in_table; spot = Nowhere })
 cells_at (Some document) = document_of document
 
+-- the cells of a text, or its first fault
 unfoldable pub table_of : List ℕ → Result Cells Fault
 table_of text = cells_at (document_at text)

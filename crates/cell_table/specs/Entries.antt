@@ -15,6 +15,7 @@ use Rattle.toml.specs.Data.{Data, Items, no_items, item, Members, no_members, me
 use Rattle.cell_table.specs.declared.paths.OutPin.{OutPin}
 use Rattle.cell_table.specs.declared.paths.ScanPath.{ScanPath}
 use Rattle.cell_table.specs.Cells.{◌>>=◌, Cells, document_at, has_keys, members_len, text_at, array_at, table_at, pins_of}
+use Rattle.cell_table.specs.Table.{one_path}
 
 -- the integer 0 or 1
 abbrev pub IsBit : Data → Bool → Type 0
@@ -68,6 +69,7 @@ pub record IsCell (d : Data) (paths : List ScanPath) : Type 0 where
   pub are : AreItems IsPath values paths
   pub once : AreDistinct (pins_of paths)
 
+-- the entry of this name is this cell
 pub record IsNamedCell (name : List ℕ) (d : Data) (cell : List ℕ × List ScanPath) : Type 0 where
   pub named : cell.0 ≡ name
   pub is : IsCell d cell.1
@@ -106,5 +108,18 @@ pub data HoldsInTable (text : List ℕ) : Fault → Type 0 where
 abbrev pub OneTableLaw : Type 0
 OneTableLaw = (text : List ℕ) (cells others : Cells) → DenotesCells text cells → DenotesCells text others → cells ≡ others
 
+-- a text that denotes a table has no fault
 abbrev pub NoFaultLaw : Type 0
 NoFaultLaw = (text : List ℕ) (cells : Cells) (f : Fault) → DenotesCells text cells → HoldsInTable text f → ⊥
+
+-- in each cell each pin stands once, over all its paths
+abbrev pub HaveEachPinOnce : Cells → Type 0
+HaveEachPinOnce cells = Each (λ cell. AreDistinct (pins_of cell.1)) cells
+
+-- so it is in the cells that a text denotes, and in a table of one cell whose in pin isn't its out pin
+abbrev pub PinsLaw : Type 0
+PinsLaw = (text : List ℕ) (cells : Cells) → DenotesCells text cells → HaveEachPinOnce cells
+
+-- the table of one cell has each pin once, where the in pin isn't the out pin
+abbrev pub OneCellPinsLaw : Type 0
+OneCellPinsLaw = (cell input out : List ℕ) → input ≢ out → HaveEachPinOnce ((cell, one_path input out ∷ []) ∷ [])

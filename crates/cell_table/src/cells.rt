@@ -4,7 +4,7 @@ ghost use Rattle.base_types.specs.Faults.{of_cell};
 ghost use Rattle.toml.specs.View.{table_view};
 ghost use Rattle.toml.specs.Data.{Members};
 ghost use Rattle.base_types.specs.FirstFault.{Answers, IfFault, IsFirstFault};
-ghost use Rattle.cell_table.specs.Ascending.{Ascending};
+ghost use Rattle.cell_table.specs.Ascending.{Ascending, HaveOutsInOrder};
 ghost use Rattle.cell_table.specs.Cells.{named_cells, cells_of, document_of, table_of};
 ghost use Rattle.cell_table.specs.Entries.{DenotesCells, HoldsInTable};
 
@@ -20,6 +20,7 @@ use toml::Table;
 fn cells_of(alloc: Global, table: &Table) -> Result<CellTable, ReadFault>
     ensures cells { Answers result (cells_of (table_view table.now)) }
     ensures ascending { Ascending (table_view table.now) }
+    ensures order { IfOk result HaveOutsInOrder }
 {
     let mut cells = IndexMap::new(alloc);
     for (name, value) in table.iter() {
@@ -52,6 +53,7 @@ fn named_cells(document: &Table) -> Option<&Table>
 fn document_of(alloc: Global, document: &Table) -> Result<CellTable, ReadFault>
     ensures cells { Answers result (document_of (table_view document.now)) }
     ensures ascending { (cells : Members) → named_cells (table_view document.now) ≡ Some cells → Ascending cells }
+    ensures order { IfOk result HaveOutsInOrder }
 {
     match named_cells(document) {
         Some(cells) => cells_of(alloc, cells),
@@ -74,6 +76,8 @@ pub fn read_table(alloc: Global, bytes: &[u8]) -> Result<CellTable, ReadFault>
     ensures value { IfOk result (DenotesCells bytes.now) }
     ensures fault { IfFault result (IsFirstFault (HoldsInTable bytes.now)) }
     ensures read { Answers result (table_of bytes.now) }
+    // The out pins of each path stand in the order of their bytes.
+    ensures order { IfOk result HaveOutsInOrder }
 {
     match toml::table_from_slice(alloc, bytes) {
         Ok(document) => document_of(alloc, &document),

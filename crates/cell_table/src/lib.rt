@@ -14,10 +14,7 @@ mod table;
 mod values;
 
 pub use cells::read_table;
-pub use laws::table_law;
+pub use laws::{pins_law, table_law};
 pub use paths::{OutPin, ScanPath};
 pub use small::small_table;
 pub use table::CellTable;
-
-#[cfg(test)]
-mod tests;

@@ -1,6 +1,8 @@
-ghost use Rattle.std.specs.Prelude.{◌≡◌};
+ghost use Rattle.std.specs.Prelude.{◌≡◌, IfOk};
+ghost use Rattle.std.specs.List.{AllByRecursion as Each};
 ghost use Rattle.toml.specs.View.{view, items_view, array_view, table_view};
 ghost use Rattle.cell_table.specs.Cells.{Gives, are_sized, bits_of, out_of, outs_of, path_of, paths_of, cell_of};
+ghost use Rattle.cell_table.specs.Ascending.{AreAscending, out_names, HasOutsInOrder};
 
 use crate::pins::has_pin_twice;
 use crate::values::{array_at, bit_of, has_keys, is_empty, table_at, text_at};
@@ -41,7 +43,8 @@ fn bits_of(alloc: Global, values: &Array) -> Result<Rows<bool>, Stop>
 
 #[tactic(auto, unfolding(crate::specs::Cells::out_of))]
 fn out_of(alloc: Global, pin: &str, value: &Value) -> Result<OutPin, Stop>
-    ensures { Gives result (out_of pin.now (view value.now)) }
+    ensures value { Gives result (out_of pin.now (view value.now)) }
+    ensures pin { IfOk result (λ out. out.pin ≡ pin.now) }
 {
     let inverted = bit_of(value)?;
     let pin = Name::copy(alloc, pin.as_bytes())?;
@@ -49,7 +52,8 @@ fn out_of(alloc: Global, pin: &str, value: &Value) -> Result<OutPin, Stop>
 }
 
 fn outs_of(alloc: Global, pins: &Table) -> Result<Rows<OutPin>, Stop>
-    ensures { Gives result (outs_of (table_view pins.now)) }
+    ensures value { Gives result (outs_of (table_view pins.now)) }
+    ensures order { IfOk result (λ outs. AreAscending (out_names outs)) }
 {
     let mut outs = Rows::new(alloc);
     for (pin, value) in pins {
@@ -68,7 +72,8 @@ fn are_sized(input: &str, bits: &Array, outs: &Table) -> bool
 
 #[tactic(auto, unfolding(crate::specs::Cells::path_of))]
 fn path_of(alloc: Global, value: &Value) -> Result<ScanPath, Stop>
-    ensures { Gives result (path_of (view value.now)) }
+    ensures value { Gives result (path_of (view value.now)) }
+    ensures order { IfOk result HasOutsInOrder }
 {
     if !has_keys(value, 3) {
         return Err(Stop::NoForm);
@@ -87,7 +92,8 @@ fn path_of(alloc: Global, value: &Value) -> Result<ScanPath, Stop>
 }
 
 fn paths_of(alloc: Global, values: &Array) -> Result<Rows<ScanPath>, Stop>
-    ensures { Gives result (paths_of (array_view values.now)) }
+    ensures value { Gives result (paths_of (array_view values.now)) }
+    ensures order { IfOk result (Each HasOutsInOrder) }
 {
     let mut paths = Rows::new(alloc);
     for value in values {
@@ -99,7 +105,8 @@ fn paths_of(alloc: Global, values: &Array) -> Result<Rows<ScanPath>, Stop>
 /// The scan paths of a cell.
 #[tactic(auto, using(crate::proofs::Views::items_len_view), unfolding(crate::specs::Cells::cell_of))]
 pub(crate) fn cell_of(alloc: Global, value: &Value) -> Result<Rows<ScanPath>, Stop>
-    ensures { Gives result (cell_of (view value.now)) }
+    ensures value { Gives result (cell_of (view value.now)) }
+    ensures order { IfOk result (Each HasOutsInOrder) }
 {
     if !has_keys(value, 1) {
         return Err(Stop::NoForm);

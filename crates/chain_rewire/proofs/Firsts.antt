@@ -7,11 +7,13 @@ use Rattle.base_types.specs.declared.fault.ReadFault.TheVariants as faults
 use Rattle.base_types.specs.declared.kind.Kind.{Kind}
 use Rattle.base_types.specs.declared.kind.Kind.TheVariants.{NoPort, WrongPort, NotPermutation, PinnedLast}
 use Rattle.base_types.specs.Faults.{number_of, of_words}
-use Rattle.base_types.specs.FirstFault.{IsFirstFault, IfFault}
+use Rattle.base_types.specs.FirstFault.{ComesBefore, IsFirstFault, IfFault}
+use Rattle.base_types.proofs.FirstFaults.{first_of}
 use Rattle.netlist_core.specs.declared.netlist.NetId.{NetId}
 use Rattle.netlist_core.specs.declared.netlist.Netlist.{Netlist}
 use Rattle.netlist_core.specs.Netlists.{plain_of}
-use Rattle.verilog_checks.specs.Faults.{IsRefused, read_faultless}
+use Rattle.verilog_checks.specs.Faults.{HoldsInVerilog}
+use Rattle.verilog_checks.proofs.VerilogFaults.{no_fault}
 use Rattle.verilog_reader.specs.Denoted.{DenotesNetlist}
 use Rattle.verilog_reader.proofs.OneNetlist.{one_netlist}
 use Rattle.chain_trace.specs.declared.path.Path.{Path}
@@ -21,18 +23,12 @@ use Rattle.chain_trace.specs.Named.{IsPortNamed}
 use Rattle.chain_trace.proofs.Unique.{path_unique}
 use Rattle.chain_trace.proofs.Meeting.{no_path}
 use Rattle.chain_trace.proofs.OneFault.{one_fault}
-use Rattle.chain_trace.proofs.FirstFaults.{first_of, trace_late, trace_early}
+use Rattle.chain_trace.proofs.TraceKinds.{trace_late, trace_early}
 use Rattle.net_edit.specs.Free.{is_free}
 use Rattle.chain_rewire.specs.declared.rewire.Rewire.{Rewire}
 use Rattle.chain_rewire.specs.Rewiring.{cells_of, instance_names, IsTraced}
 use Rattle.chain_rewire.specs.Faults.{HasPorts, AreInstances, last_name, IsOfOutput, IsPortFault, IsOutputFault, IsInputFault, IsOrderFault, IsLastFault, HoldsInRewire, OfVerilog, OfPort, OfOutput, OfInput, OfOrder, OfLast}
 use Rattle.chain_rewire.proofs.Ports.{same_port, input_drives}
-
-ok_or_err : {X : Type 0} (r : Result X Fault) (x : X) (f : Fault) → r ≡ Ok x → r ≡ Err f → ⊥
-ok_or_err r x f a b = let both = sym a ∙ b in absurd cc
-
-same_err : {X : Type 0} (r : Result X Fault) (f g : Fault) → r ≡ Err f → r ≡ Err g → g ≡ f
-same_err r f g a b = let both = sym a ∙ b in cc
 
 of_kind : (g : Fault) (kind : Kind) → g ≡ of_words kind → number_of g.kind ≡ number_of kind
 of_kind g kind e = ap (λ (x : Fault). number_of x.kind) e
@@ -44,23 +40,22 @@ module _ (text : List ℕ) (w : Rewire) where
   abbrev pub OrLater : Fault → Fault → Type 0
   OrLater f g = (g ≡ f) ⊎ (number_of f.kind < number_of g.kind)
 
-  -- a fault of the text comes alone
-  of_verilog : (f : Fault) → read_faultless text ≡ Err f → (g : Fault) → HoldsInRewire text w g → OrLater f g
-  of_verilog f e g (OfVerilog h) = inl (same_err (read_faultless text) f g e h)
-  of_verilog f e g (OfPort h) = absurd (ok_or_err (read_faultless text) h.reads.statements f h.reads.reads e)
-  of_verilog f e g (OfOutput h) = absurd (ok_or_err (read_faultless text) h.reads.statements f h.reads.reads e)
-  of_verilog f e g (OfInput h) = absurd (ok_or_err (read_faultless text) h.found.reads.statements f h.found.reads.reads e)
-  of_verilog f e g (OfOrder h) = absurd (ok_or_err (read_faultless text) h.found.reads.statements f h.found.reads.reads e)
-  of_verilog f e g (OfLast h) = absurd (ok_or_err (read_faultless text) h.found.reads.statements f h.found.reads.reads e)
+  -- where the text has a fault, it denotes no netlist
+  of_verilog : (f : Fault) → IsFirstFault (HoldsInVerilog text) f → (g : Fault) → HoldsInRewire text w g → ComesBefore g f → ⊥
+  of_verilog f is g (OfVerilog h) = is.least g h
+  of_verilog f is g (OfPort h) = absurd (no_fault text h.reads.statements h.reads.reads f is.holds)
+  of_verilog f is g (OfOutput h) = absurd (no_fault text h.reads.statements h.reads.reads f is.holds)
+  of_verilog f is g (OfInput h) = absurd (no_fault text h.found.reads.statements h.found.reads.reads f is.holds)
+  of_verilog f is g (OfOrder h) = absurd (no_fault text h.found.reads.statements h.found.reads.reads f is.holds)
+  of_verilog f is g (OfLast h) = absurd (no_fault text h.found.reads.statements h.found.reads.reads f is.holds)
 
-  pub first_verilog : {X : Type 0} (r : Result X ReadFault) → IsRefused r (read_faultless text) → IfFault r First
-  first_verilog (Ok x) e = tt
-  first_verilog (Err (faults.Fault f)) e = first_of (HoldsInRewire text w) f (OfVerilog e) (of_verilog f e)
-  first_verilog (Err faults.NoMemory) e = tt
+  pub first_verilog : (X Y : Type 0) (e : ReadFault) → IfFault {X = Y} (Err e) (IsFirstFault (HoldsInVerilog text)) → IfFault {X = X} (Err e) First
+  first_verilog X Y (faults.Fault f) is = record { holds = OfVerilog is.holds; least = of_verilog f is }
+  first_verilog X Y faults.NoMemory is = tt
 
   module _ (n : Netlist) (reads : DenotesNetlist text n) where
-    no_reading : (g : Fault) → read_faultless text ≡ Err g → ⊥
-    no_reading g e = ok_or_err (read_faultless text) reads.statements g reads.reads e
+    no_reading : (g : Fault) → HoldsInVerilog text g → ⊥
+    no_reading g h = no_fault text reads.statements reads.reads g h
 
     same_netlist : (m : Netlist) → DenotesNetlist text m → m ≡ n
     same_netlist m other = one_netlist text m n other reads

@@ -4,18 +4,20 @@ use Rattle.std.proofs.lemmas.Option.{slice_get-map}
 use Rattle.netlist_core.specs.declared.netlist.NetName.{NetName}
 use Rattle.netlist_core.specs.declared.netlist.Instance.{Instance}
 use Rattle.netlist_core.specs.declared.netlist.Netlist.{Netlist}
-use Rattle.netlist_core.specs.Netlists.{NamedNetlist, NamedInstance, named, named_instance, plain_of, IsNetlist}
+use Rattle.netlist_core.specs.Netlists.{NamedNetlist, NamedInstance, NamedPort, NamedBit, named, named_instance, plain_of, AreWiredAlike, IsNetlist}
 use Rattle.cell_table.specs.Cells.{Cells}
 use Rattle.chain_trace.specs.declared.path.Step.{Step}
 use Rattle.chain_trace.specs.declared.path.Path.{Path}
 use Rattle.chain_trace.specs.Paths.{IsScanPath}
 use Rattle.chain_trace.specs.Named.{HasSamePath, NamesLaw}
+use Rattle.chain_trace.proofs.NamedNets.{turned_wiring}
 use Rattle.net_edit.specs.declared.edits.PinEdit.{PinEdit}
 use Rattle.net_edit.specs.declared.edits.Edits.{Edits}
 use Rattle.net_edit.specs.Edited.{edited, edited_instance, map_from}
 use Rattle.net_edit.specs.Erasure.{erased_netlist}
 use Rattle.net_edit.specs.Reordered.{sinks_of}
-use Rattle.verilog_writer.specs.Written.{DenotesAlike}
+use Rattle.verilog_reader.specs.Denoted.{DeclareAlike}
+use Rattle.verilog_writer.specs.Written.{IsWrittenFrom, DenotesAlike}
 use Rattle.chain_rewire.specs.declared.rewire.Rewire.{Rewire}
 use Rattle.chain_rewire.specs.Rewiring.{cells_of, name_of, instance_name, instance_names, ordered, IsTraced, AreErasedAlike, HasPath}
 use Rattle.chain_rewire.proofs.Ports.{output_is_driven}
@@ -32,8 +34,16 @@ edited_names : (n : Netlist) (cells : Cells) (pins : List PinEdit) (k : ℕ) (in
 edited_names n cells pins k [] = refl
 edited_names n cells pins k (i ∷ is) = ap (λ (l : List (List ℕ)). i.name ∷ l) (edited_names n cells pins (k + 1) is)
 
-names_alike : (n m : Netlist) → named n ≡ named m → all_names n.instances ≡ all_names m.instances
-names_alike n m e = sym (named_names n.nets n.instances) ∙ ap (λ (k : NamedNetlist). map (λ (i : NamedInstance). i.name) k.instances) e ∙ named_names m.nets m.instances
+names_alike : (n m : Netlist) → AreWiredAlike n m → all_names n.instances ≡ all_names m.instances
+names_alike n m same =
+    sym (named_names n.nets n.instances) ∙ ap (λ (instances : List NamedInstance). map (λ (i : NamedInstance). i.name) instances) same.instances ∙ named_names m.nets m.instances
+
+-- where no net stands in front, all names are the same
+same_names : (n m : Netlist) → IsWrittenFrom n m [] → named n ≡ named m
+same_names n m same =
+    ap₂ (λ (name : List ℕ) (nets : List (List ℕ)). let x : NamedNetlist = record { module_name = name; nets = nets; ports = (named n).ports; assigns = (named n).assigns; instances = (named n).instances } in x) same.module_name same.nets
+    ∙ ap₂ (λ (ports : List NamedPort) (assigns : List (List (NamedBit × NamedBit))). let x : NamedNetlist = record { module_name = (named m).module_name; nets = (named m).nets; ports = ports; assigns = assigns; instances = (named n).instances } in x) same.wired.ports same.wired.assigns
+    ∙ ap (λ (instances : List NamedInstance). let x : NamedNetlist = record { module_name = (named m).module_name; nets = (named m).nets; ports = (named m).ports; assigns = (named m).assigns; instances = instances } in x) same.wired.instances
 
 abbrev or_none : Option (List ℕ) → List ℕ
 or_none None = []
@@ -53,25 +63,26 @@ steps_alike n m (s ∷ ss) e =
     ap₂ (λ (x : List ℕ) (l : List (List ℕ)). x ∷ l) here (steps_alike n m ss e)
 
 module _ (text : List ℕ) (w : Rewire) (n : Netlist) (path : Path) (traced : IsTraced text w n path) (cells : Cells) (same : cells ≡ cells_of w) (edits : Edits) (written : List ℕ)
-    (after : DenotesAlike written (edited n cells edits)) where
-  pub erased : erased_netlist (sinks_of n cells path) (named (edited n cells edits)) ≡ erased_netlist (sinks_of n cells path) (named n) → AreErasedAlike text w written
-  erased e =
-      let alike = ap (erased_netlist (sinks_of n cells path)) after.same ∙ e in
+    (after : DenotesAlike written (edited n cells edits) []) where
+  pub erased : DeclareAlike text written → erased_netlist (sinks_of n cells path) (named (edited n cells edits)) ≡ erased_netlist (sinks_of n cells path) (named n) → AreErasedAlike text w written
+  erased declared e =
+      let alike = ap (erased_netlist (sinks_of n cells path)) (same_names after.netlist (edited n cells edits) after.same) ∙ e in
       record {
         before = n;
         path = path;
         traced = traced;
         after = after.netlist;
         denoted = after.is;
+        declared = declared;
         same = subst (λ (cells : Cells). erased_netlist (sinks_of n cells path) (named after.netlist) ≡ erased_netlist (sinks_of n cells path) (named n)) same alike;
       }
 
   after_names : all_names after.netlist.instances ≡ all_names n.instances
-  after_names = names_alike after.netlist (edited n cells edits) after.same ∙ edited_names n cells edits.pins 0 n.instances
+  after_names = names_alike after.netlist (edited n cells edits) after.same.wired ∙ edited_names n cells edits.pins 0 n.instances
 
   pub has_path : NamesLaw → (new : Path) → new ≡ ordered n path w.units → instance_names n (ordered n path w.units) ≡ w.units → IsNetlist (edited n cells edits) → IsScanPath (edited n cells edits) cells new.output new → HasPath written w w.units
   has_path law new new_is words sound is =
-      let h : HasSamePath (edited n cells edits) after.netlist cells new = law (edited n cells edits) after.netlist cells new sound after.is.sound (sym after.same) is in
+      let h : HasSamePath (edited n cells edits) after.netlist cells new = law (edited n cells edits) after.netlist cells new sound after.is.sound (turned_wiring after.netlist (edited n cells edits) after.same.wired) is in
       let here : IsScanPath after.netlist (cells_of w) h.path.output h.path = subst (λ (cells : Cells). IsScanPath after.netlist cells h.path.output h.path) same h.is in
       let output = h.same.output ∙ ap (λ (p : Path). plain_of n.nets p.output) new_is ∙ traced.output.named in
       record {

@@ -1,5 +1,5 @@
 -- The faults of a Verilog text and of what is asked of its scan path.
-use Rattle.std.specs.Prelude.{◌≡◌, ◌≢◌, ℕ, Bool, false, List, [], ◌∷◌, Err}
+use Rattle.std.specs.Prelude.{◌≡◌, ◌≢◌, ℕ, Bool, false, List, [], ◌∷◌}
 use Rattle.std.specs.List.{IsDistinct, list_any}
 use Rattle.std.specs.Str.{bytes_eq}
 use Rattle.base_types.specs.declared.fault.Fault.{Fault}
@@ -9,7 +9,7 @@ use Rattle.base_types.specs.FirstFault.{IsFirstFault}
 use Rattle.netlist_core.specs.declared.netlist.NetId.{NetId}
 use Rattle.netlist_core.specs.declared.netlist.Netlist.{Netlist}
 use Rattle.netlist_core.specs.Netlists.{plain_of}
-use Rattle.verilog_checks.specs.Faults.{read_faultless}
+use Rattle.verilog_checks.specs.Faults.{HoldsInVerilog}
 use Rattle.verilog_reader.specs.Denoted.{DenotesNetlist}
 use Rattle.chain_trace.specs.declared.path.Path.{Path}
 use Rattle.chain_trace.specs.Paths.{drives, is_driven, IsScanPath}
@@ -25,6 +25,7 @@ pub record HasPorts (n : Netlist) (w : Rewire) (output : NetId) : Type 0 where
   pub input : NetId
   pub input_is : IsPortNamed drives n w.scan_in input
 
+-- the name is one of these
 abbrev pub has : List (List ℕ) → List ℕ → Bool
 has names name = list_any (λ other. bytes_eq other name) names
 
@@ -38,6 +39,7 @@ abbrev pub last_from : List ℕ → List (List ℕ) → List ℕ
 last_from name [] = name
 last_from name (other ∷ others) = last_from other others
 
+-- the last of some names
 abbrev pub last_name : List (List ℕ) → List ℕ
 last_name names = last_from [] names
 
@@ -46,10 +48,6 @@ pub record IsOfOutput (text : List ℕ) (w : Rewire) (n : Netlist) (path : Path)
   pub reads : DenotesNetlist text n
   pub output : IsPortNamed is_driven n w.scan_out path.output
   pub is : IsScanPath n (cells_of w) path.output path
-
--- VerilogSyntax, SecondModule, VerilogNumber, VerilogTwice, BadSelect: the text denotes no netlist
-abbrev pub IsVerilogFault : List ℕ → Fault → Type 0
-IsVerilogFault text fault = read_faultless text ≡ Err fault
 
 -- NoPort: the scan-out is no bit of an output or inout port, or the scan-in none of an input or inout port
 pub record IsPortFault (text : List ℕ) (w : Rewire) (fault : Fault) : Type 0 where
@@ -91,9 +89,9 @@ pub record IsLastFault (text : List ℕ) (w : Rewire) (fault : Fault) : Type 0 w
   pub other : last_name w.units ≢ last_name (instance_names netlist path)
   pub is : fault ≡ of_words PinnedLast
 
--- a fault of the text and of what is asked
+-- a fault of the text (VerilogSyntax, SecondModule, VerilogNumber, VerilogTwice, BadSelect) and of what is asked
 pub data HoldsInRewire (text : List ℕ) (w : Rewire) (fault : Fault) : Type 0 where
-  OfVerilog : IsVerilogFault text fault → HoldsInRewire text w fault
+  OfVerilog : HoldsInVerilog text fault → HoldsInRewire text w fault
   OfPort : IsPortFault text w fault → HoldsInRewire text w fault
   OfOutput : IsOutputFault text w fault → HoldsInRewire text w fault
   OfInput : IsInputFault text w fault → HoldsInRewire text w fault

@@ -5,7 +5,7 @@ use Rattle.std.specs.Str.{bytes_eq}
 use Rattle.netlist_core.specs.declared.netlist.Instance.{Instance}
 use Rattle.netlist_core.specs.declared.netlist.Netlist.{Netlist}
 use Rattle.netlist_core.specs.Netlists.{named, plain_of}
-use Rattle.verilog_reader.specs.Denoted.{DenotesNetlist}
+use Rattle.verilog_reader.specs.Denoted.{DenotesNetlist, DeclareAlike}
 use Rattle.cell_table.specs.Cells.{Cells}
 use Rattle.cell_table.specs.Table.{one_path}
 use Rattle.chain_trace.specs.declared.path.Step.{Step}
@@ -30,6 +30,7 @@ pub record IsTraced (text : List ℕ) (w : Rewire) (n : Netlist) (path : Path) :
   pub is : IsScanPath n (cells_of w) path.output path
   pub input : plain_of n.nets path.input ≡ w.scan_in
 
+-- the plain name of an instance
 abbrev pub name_of : Option Instance → List ℕ
 name_of None = []
 name_of (Some placed) = placed.name
@@ -38,6 +39,7 @@ name_of (Some placed) = placed.name
 abbrev pub instance_name : Netlist → Step → List ℕ
 instance_name n step = name_of (slice_get n.instances step.instance)
 
+-- the names of a path's instances, in its order
 abbrev pub instance_names : Netlist → Path → List (List ℕ)
 instance_names n path = map (instance_name n) path.steps
 
@@ -45,6 +47,7 @@ instance_names n path = map (instance_name n) path.steps
 abbrev pub step_named : Netlist → Path → List ℕ → Option Step
 step_named n path name = find (λ step. bytes_eq (instance_name n step) name) path.steps
 
+-- the path with its steps in the order of the names
 abbrev pub ordered : Netlist → Path → List (List ℕ) → Path
 ordered n path names = record { input = path.input; output = path.output; steps = filter_map (step_named n path) names }
 
@@ -60,13 +63,15 @@ pub record IsRewired (text : List ℕ) (w : Rewire) (verilog : List ℕ) (moved 
   pub written : IsWritten text netlist (cells_of w) (edits_of netlist w path) verilog
   pub count : moved ≡ length (edits_of netlist w path).pins + length (edits_of netlist w path).ports
 
--- the read and the written text denote netlists that are the same by names, but for the scan sinks of the read path
+-- the read and the written text declare the same and denote netlists that are the same by names, but for the scan sinks of the
+-- read path
 pub record AreErasedAlike (text : List ℕ) (w : Rewire) (written : List ℕ) : Type 0 where
   pub before : Netlist
   pub path : Path
   pub traced : IsTraced text w before path
   pub after : Netlist
   pub denoted : DenotesNetlist written after
+  pub declared : DeclareAlike text written
   pub same : erased_netlist (sinks_of before (cells_of w) path) (named after) ≡ erased_netlist (sinks_of before (cells_of w) path) (named before)
 
 -- the scan path of a text from the scan-in to the scan-out has these instances, in this order

@@ -11,6 +11,3 @@ mod order;
 mod rewire;
 
 pub use rewire::{Rewire, Rewired, rewire_text};
-
-#[cfg(test)]
-mod tests;

@@ -98,7 +98,7 @@ fn are_distinct(alloc: Global, names: &[&[u8]]) -> Result<bool, NoMemory>
     Ok(true)
 }
 
-// Whether each of the other names is one of these.
+/// Whether each of the other names is one of these.
 fn have_all<'a>(alloc: Global, names: &[&'a [u8]], others: &[&'a [u8]]) -> Result<bool, NoMemory>
     ensures value { IfOk result (λ all. all ≡ have_all (now_of names.now) (now_of others.now)) }
 {

@@ -53,7 +53,7 @@ pub fn rewire_text(alloc: Global, text: &[u8], rewire: &Rewire) -> Result<Rewire
     requires size { length text.now < 2 ^ 32 }
     requires pins { rewire.now.in_pin ≢ rewire.now.out_pin }
     ensures rewired { IfOk result (λ made. IsRewired text.now rewire.now made.verilog made.moved) }
-    // Both texts denote netlists that are the same by names but for the scan sinks.
+    // Both texts declare the same, and denote netlists that are the same by names but for the scan sinks.
     ensures erased { IfOk result (λ made. AreErasedAlike text.now rewire.now made.verilog) }
     // The written text has the path with the instances in the order of the words.
     ensures path { IfOk result (λ made. HasPath made.verilog rewire.now rewire.now.units) }

@@ -23,3 +23,7 @@ pub mod ReadPlan
 pub mod Refused
 pub mod Faulty
 pub mod Belonging
+pub mod Indexed
+pub mod Totals
+pub mod Overlaps
+pub mod Spread

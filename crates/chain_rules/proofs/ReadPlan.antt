@@ -15,7 +15,7 @@ use Rattle.chain_rules.specs.declared.unit.ChainRule.{ChainRule}
 use Rattle.chain_rules.specs.declared.unit.Rules.{Rules}
 use Rattle.chain_rules.specs.Stretches.{path_at, spec_at, bits_between}
 use Rattle.chain_rules.specs.ChainFaults.{IsOverMaxBits}
-use Rattle.chain_rules.specs.Rules.{Cover, IsUnit, IsReadChain, AreRulesOf}
+use Rattle.chain_rules.specs.Rules.{Cover, IsUnit, IsReadChain, AreRulesOfEach}
 use Rattle.chain_rules.specs.Legality.{chain_at, rule_at, no_rule, unit_at, no_unit, bits_of, read_chain_of, IsLegal}
 use Rattle.chain_rules.proofs.Positions.{position_found}
 use Rattle.chain_rules.proofs.Members.{any_from_contains, contains_from_any}
@@ -91,7 +91,7 @@ in_read_chain rules distinct c within u m =
     (cases_Bool (list_any (λ v. nat_eq v u) (chain_at rules.read k))))
     (any_from_contains (chain_at rules.read c) u m)
 
-pub read_is_legal : (paths : List PathSpec) (chains : List ChainSpec) (rules : Rules) → AreRulesOf paths chains rules → ((c : ℕ) → c < length chains → ¬ IsOverMaxBits paths (spec_at chains c)) → IsLegal rules rules.read
+pub read_is_legal : (paths : List PathSpec) (chains : List ChainSpec) (rules : Rules) → AreRulesOfEach paths chains rules → ((c : ℕ) → c < length chains → ¬ IsOverMaxBits paths (spec_at chains c)) → IsLegal rules rules.read
 read_is_legal paths chains rules are not_over =
     record {
       chains = are.read_count ∙ sym are.rule_count;

@@ -12,6 +12,7 @@ IsOnlyStep paths n k = (m l : ℕ) → IsPlace paths m l → IsOf (step_at (path
 abbrev pub element_at : List (List ElementSpec) → ℕ → ℕ → ElementSpec
 element_at lists c i = slice_index_or (slice_index_or lists c []) i no_element
 
+-- the chain has so many elements and more
 pub record IsElement (lists : List (List ElementSpec)) (c i : ℕ) : Type 0 where
   pub chain : c < length lists
   pub element : i < length (slice_index_or lists c [])

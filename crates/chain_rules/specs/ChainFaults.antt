@@ -66,7 +66,7 @@ IsFaulty paths chains TooManyUnits c = IsTooManyUnits chains c
 IsFaulty paths chains kind c = ⊥
 
 -- the fault of the least kind, and among those of the earliest chain
-pub record IsFirstFault (paths : List PathSpec) (chains : List ChainSpec) (kind : Kind) (c : ℕ) : Type 0 where
+pub record IsFirstChainFault (paths : List PathSpec) (chains : List ChainSpec) (kind : Kind) (c : ℕ) : Type 0 where
   pub within : c < length chains
   pub faulty : IsFaulty paths chains kind c
   pub least : (k : Kind) (d : ℕ) → number_of k < number_of kind → d < length chains → ¬ IsFaulty paths chains k d
@@ -75,7 +75,7 @@ pub record IsFirstFault (paths : List PathSpec) (chains : List ChainSpec) (kind 
 -- the chains are refused with this fault, at the line of the chain's statement
 pub record IsRefusal (paths : List PathSpec) (chains : List ChainSpec) (fault : Fault) : Type 0 where
   pub chain : ℕ
-  pub first : IsFirstFault paths chains fault.kind chain
+  pub first : IsFirstChainFault paths chains fault.kind chain
   pub file : fault.file ≡ Def
   pub spot : fault.spot ≡ Line (spec_at chains chain).line
 

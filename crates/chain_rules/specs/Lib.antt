@@ -6,3 +6,6 @@ pub mod Rules
 pub mod Pins
 pub mod Runs
 pub mod Belonging
+pub mod Indexes
+pub mod Spans
+pub mod Spreading

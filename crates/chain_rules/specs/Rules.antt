@@ -10,7 +10,8 @@ use Rattle.chain_rules.specs.declared.spec.ChainSpec.{ChainSpec}
 use Rattle.chain_rules.specs.declared.unit.Unit.{Unit as MovedUnit}
 use Rattle.chain_rules.specs.declared.unit.ChainRule.{ChainRule}
 use Rattle.chain_rules.specs.declared.unit.Rules.{Rules}
-use Rattle.chain_rules.specs.Stretches.{path_at, step_at, spec_at, bits_between, Names, groups_of, IsNamedBy, IsListed, Stretch, IsInside, IsStretch}
+use Rattle.chain_rules.specs.Stretches.{path_at, step_at, spec_at, bits_between, Names, groups_of, IsNamedBy, IsListed, Stretch, IsInside, IsStretch, StepsOnce}
+use Rattle.chain_rules.specs.ChainFaults.{Meet}
 use Rattle.chain_rules.specs.Legality.{unit_at, rule_at, chain_at}
 
 -- the units follow one another without a gap, from a place up to and without another
@@ -61,9 +62,15 @@ pub record IsReadChain (paths : List PathSpec) (chain : ChainSpec) (rule : Chain
   pub bound : rule.bound ≡ (if nat_lt 0 chain.max_bits then chain.max_bits else bits_between (path_at paths stretch.path) rule.first (rule.last + 1))
   pub keeps_bit : IsTrue rule.keeps_bit ↔ (0 < bits_between (path_at paths stretch.path) rule.first (rule.last + 1))
 
--- the rules are those of the chains
-pub record AreRulesOf (paths : List PathSpec) (chains : List ChainSpec) (rules : Rules) : Type 0 where
+-- the rules are those of the chains, each read by itself
+pub record AreRulesOfEach (paths : List PathSpec) (chains : List ChainSpec) (rules : Rules) : Type 0 where
   pub rule_count : length rules.chains ≡ length chains
   pub read_count : length rules.read.chains ≡ length chains
   pub each : (c : ℕ) → c < length chains → IsReadChain paths (spec_at chains c) (rule_at rules c) (map (unit_at rules) (chain_at rules.read c))
   pub units : IsPermutation (range_with_len 0 (length rules.units)) (concat rules.read.chains)
+
+-- the rules are those of the chains beside these paths: no scan path stands twice, and no stretch holds a step of another chain's stretch, or of its START or STOP cell
+pub record AreRulesOf (paths : List PathSpec) (chains : List ChainSpec) (rules : Rules) : Type 0 where
+  pub steps_once : StepsOnce paths
+  pub of_each : AreRulesOfEach paths chains rules
+  pub apart : (c d : ℕ) → c < length chains → d < length chains → ¬ Meet paths chains c d

@@ -13,6 +13,7 @@ use Rattle.chain_rules.specs.declared.unit.ChainRule.{ChainRule}
 use Rattle.chain_rules.specs.Rules.{PinsLast}
 use Rattle.chain_rules.specs.Stretches.{bits_between, spec_at, path_at, step_at, groups_of, Names, no_element, IsInside, IsNamedBy, Stretch, IsStretch, HasStretch}
 
+-- a run as a stretch
 abbrev pub stretch : Run → Stretch
 stretch run = record { path = run.path; from = run.from; to = run.to }
 
@@ -20,9 +21,11 @@ stretch run = record { path = run.path; from = run.from; to = run.to }
 abbrev pub IsRunOf : List PathSpec → ChainSpec → Option Run → Type 0
 IsRunOf paths chain run = MatchOption run (¬ HasStretch paths chain) (λ r. IsStretch paths chain (stretch r))
 
+-- the run of a chain
 abbrev pub run_at : List (Option Run) → ℕ → Option Run
 run_at runs c = slice_index_or runs c None
 
+-- each chain's run is kept
 pub record AreRunsOf (paths : List PathSpec) (chains : List ChainSpec) (runs : List (Option Run)) : Type 0 where
   pub long : length runs ≡ length chains
   pub each : (c : ℕ) → c < length chains → IsRunOf paths (spec_at chains c) (run_at runs c)
@@ -42,6 +45,7 @@ pub record IsListingOf (paths : List PathSpec) (chain : ChainSpec) (listing : Li
   pub is_stretch : IsStretch paths chain (stretch listing.run)
   pub are_marks : AreMarks (path_at paths listing.run.path) (stretch listing.run) (groups_of chain) listing.marks.items
 
+-- each chain's listings are kept
 pub record AreListingsOf (paths : List PathSpec) (chains : List ChainSpec) (listings : List Listing) : Type 0 where
   pub long : length listings ≡ length chains
   pub each : (c : ℕ) (d : Listing) → c < length chains → IsListingOf paths (spec_at chains c) (slice_index_or listings c d)
@@ -68,6 +72,7 @@ abbrev pub ListHasBreak : PathSpec → Stretch → List ℕ → ListSpec → Typ
 ListHasBreak path s marks (Floating elements) = ⊥
 ListHasBreak path s marks (Ordered elements) = HasBreak path s marks elements
 
+-- what stands for a list that isn't there
 abbrev pub no_list : ListSpec
 no_list = Floating []
 
@@ -102,6 +107,7 @@ pub record AreCuts (s : Stretch) (marks : List ℕ) (cuts : List Cut) (first las
   pub cover : CutsCover cuts first (last + 1)
   pub each : All (IsCut s marks) cuts
 
+-- what stands for a cut that isn't there
 abbrev pub no_cut : Cut
 no_cut = record { first = 0; last = 0 }
 

@@ -12,15 +12,19 @@ use Rattle.chain_rules.specs.declared.spec.ChainSpec.{ChainSpec}
 
 -- Places on paths
 
+-- what stands for a step that isn't there
 abbrev pub no_step : StepSpec
 no_step = record { instance = 0; path = 0; out = 0; bits = 0 }
 
+-- what stands for a path that isn't there
 abbrev pub no_path : PathSpec
 no_path = record { input = 0; output = 0; free_out = false; steps = [] }
 
+-- what stands for a chain that isn't there
 abbrev pub no_chain : ChainSpec
 no_chain = record { start = Port 0; stop = Port 0; lists = []; partition = 0; max_bits = 0; line = 0 }
 
+-- what stands for an element that isn't there
 abbrev pub no_element : ElementSpec
 no_element = record { instance = 0; path = 0; out = None }
 
@@ -28,9 +32,11 @@ no_element = record { instance = 0; path = 0; out = None }
 abbrev pub path_at : List PathSpec → ℕ → PathSpec
 path_at paths n = slice_index_or paths n no_path
 
+-- a step of a path, by its place
 abbrev pub step_at : PathSpec → ℕ → StepSpec
 step_at path k = slice_index_or path.steps k no_step
 
+-- a chain, by its number
 abbrev pub spec_at : List ChainSpec → ℕ → ChainSpec
 spec_at chains c = slice_index_or chains c no_chain
 
@@ -59,6 +65,7 @@ abbrev pub groups_in : ListSpec → List (List ElementSpec)
 groups_in (Floating elements) = map (λ e. e ∷ []) elements
 groups_in (Ordered elements) = elements ∷ []
 
+-- the elements of a chain in groups: each of a floating list by itself, those of an ordered list together
 abbrev pub groups_of : ChainSpec → List (List ElementSpec)
 groups_of chain = flat_map groups_in chain.lists
 
@@ -67,6 +74,7 @@ abbrev pub elements_in : ListSpec → List ElementSpec
 elements_in (Floating elements) = elements
 elements_in (Ordered elements) = elements
 
+-- all elements of a chain's lists
 abbrev pub elements_of : ChainSpec → List ElementSpec
 elements_of chain = flat_map elements_in chain.lists
 
@@ -114,6 +122,7 @@ pub record IsStretch (paths : List PathSpec) (chain : ChainSpec) (s : Stretch) :
   pub order : s.from ≤ s.to
   pub elements : All (StandsIn (path_at paths s.path) s) (elements_of chain)
 
+-- the chain has a stretch
 abbrev pub HasStretch : List PathSpec → ChainSpec → Type 0
 HasStretch paths chain = (s : Stretch) × IsStretch paths chain s
 
@@ -160,7 +169,8 @@ pub record HasElements (chain : ChainSpec) : Type 0 where
   pub list : 0 < length chain.lists
   pub each : All (λ elements. 0 < length (elements_in elements)) chain.lists
 
-pub record AreChains (paths : List PathSpec) (chains : List ChainSpec) : Type 0 where
+-- chains that belong to the paths, with numbers that fit
+pub record AreChainSpecs (paths : List PathSpec) (chains : List ChainSpec) : Type 0 where
   pub steps_once : StepsOnce paths
   pub named_once : NamedOnce paths chains
   pub elements : All HasElements chains

@@ -1,6 +1,6 @@
 //! Whether chains belong to the paths, as `units_of` asks.
 ghost use Rattle.std.specs.Prelude.{◌≡◌, ◌+◌, ◌^◌, ◌<◌, ◌↔◌, ℕ, Some, length, map, sum_by, IsTrue, IfOk, SomeIff, All};
-ghost use Rattle.chain_rules.specs.Stretches.{path_at, step_at, elements_in, elements_of, Names, IsOf, IsPlace, StepsOnce, NamedOnce, HasElements, AreChains};
+ghost use Rattle.chain_rules.specs.Stretches.{path_at, step_at, elements_in, elements_of, Names, IsOf, IsPlace, StepsOnce, NamedOnce, HasElements, AreChainSpecs};
 ghost use Rattle.chain_rules.specs.Belonging.{element_at, IsElement, IsOnlyStep, IsOnlyAmong, IsOnlyElement, IsNamedOnceAt};
 
 use crate::index::Index;
@@ -9,10 +9,10 @@ use crate::stretch::elements_of_list;
 use base_types::{NoMemory, Rows};
 use std::alloc::Global;
 
-// There are fewer paths, steps, chains, elements and bits than this.
+/// There are fewer paths, steps, chains, elements and bits than this.
 const MANY: usize = 4294967296;
 
-// Whether no step of a path is of the same scan path, but for the one at a place.
+/// Whether no step of a path is of the same scan path, but for the one at a place.
 fn is_only_on(path: &PathSpec, but: Option<usize>, step: StepSpec) -> bool
     ensures value { IsTrue result ↔ ((k : ℕ) → k < length path.now.steps → IsOf (step_at path.now k) step.instance step.path → but ≡ Some k) }
 {
@@ -26,7 +26,7 @@ fn is_only_on(path: &PathSpec, but: Option<usize>, step: StepSpec) -> bool
     true
 }
 
-// Whether no other step of the paths is of the same scan path.
+/// Whether no other step of the paths is of the same scan path.
 fn is_only_step(index: &Index<'_>, path: usize, place: usize) -> bool
     requires place { IsPlace index.now path place }
     ensures value { IsTrue result ↔ IsOnlyStep index.now path place }
@@ -42,7 +42,7 @@ fn is_only_step(index: &Index<'_>, path: usize, place: usize) -> bool
     true
 }
 
-// Whether no other step of the paths is of the same scan path as one of this path.
+/// Whether no other step of the paths is of the same scan path as one of this path.
 fn are_only_steps(index: &Index<'_>, path: usize) -> bool
     requires path { path < length index.now }
     ensures value { IsTrue result ↔ ((k : ℕ) → IsPlace index.now path k → IsOnlyStep index.now path k) }
@@ -55,7 +55,7 @@ fn are_only_steps(index: &Index<'_>, path: usize) -> bool
     true
 }
 
-// Whether no scan path of an instance stands twice in the paths.
+/// Whether no scan path of an instance stands twice in the paths.
 fn stand_once(index: &Index<'_>) -> bool
     ensures value { IsTrue result ↔ StepsOnce index.now }
 {
@@ -67,7 +67,7 @@ fn stand_once(index: &Index<'_>) -> bool
     true
 }
 
-// The elements of a chain.
+/// The elements of a chain.
 fn elements_of_chain(alloc: Global, chain: &ChainSpec) -> Result<Vec<ElementSpec>, NoMemory>
     ensures value { IfOk result (λ elements. elements.items ≡ elements_of chain.now) }
 {
@@ -78,7 +78,7 @@ fn elements_of_chain(alloc: Global, chain: &ChainSpec) -> Result<Vec<ElementSpec
     Ok(elements)
 }
 
-// The elements of each chain.
+/// The elements of each chain.
 fn elements_of_each(alloc: Global, chains: &[ChainSpec]) -> Result<Vec<Rows<ElementSpec>>, NoMemory>
     ensures value { IfOk result (λ lists. lists.items ≡ map elements_of chains.now) }
 {
@@ -89,7 +89,7 @@ fn elements_of_each(alloc: Global, chains: &[ChainSpec]) -> Result<Vec<Rows<Elem
     Ok(lists)
 }
 
-// Whether none of some elements names the same scan path, but for the one of a number.
+/// Whether none of some elements names the same scan path, but for the one of a number.
 fn is_only_among(elements: &[ElementSpec], but: Option<usize>, element: ElementSpec) -> bool
     ensures value { IsTrue result ↔ IsOnlyAmong elements.now but element }
 {
@@ -102,7 +102,7 @@ fn is_only_among(elements: &[ElementSpec], but: Option<usize>, element: ElementS
     true
 }
 
-// Whether no other element names the same scan path.
+/// Whether no other element names the same scan path.
 fn is_only_element(lists: &[Rows<ElementSpec>], chain: usize, i: usize) -> bool
     requires element { IsElement lists.now chain i }
     ensures value { IsTrue result ↔ IsOnlyElement lists.now chain i }
@@ -117,7 +117,7 @@ fn is_only_element(lists: &[Rows<ElementSpec>], chain: usize, i: usize) -> bool
     true
 }
 
-// Whether no step of the paths is named by an element of a chain and by another one.
+/// Whether no step of the paths is named by an element of a chain and by another one.
 fn are_named_once(index: &Index<'_>, lists: &[Rows<ElementSpec>], chain: usize) -> bool
     requires chain { chain < length lists.now }
     ensures value { IsTrue result ↔ ((i : ℕ) → IsElement lists.now chain i → IsNamedOnceAt index.now lists.now chain i) }
@@ -132,7 +132,7 @@ fn are_named_once(index: &Index<'_>, lists: &[Rows<ElementSpec>], chain: usize) 
     true
 }
 
-// Whether no step of the paths is named by two elements.
+/// Whether no step of the paths is named by two elements.
 fn name_once(index: &Index<'_>, chains: &[ChainSpec], lists: &[Rows<ElementSpec>]) -> bool
     requires lists { lists.now ≡ map elements_of chains.now }
     ensures value { IsTrue result ↔ NamedOnce index.now chains.now }
@@ -145,7 +145,7 @@ fn name_once(index: &Index<'_>, chains: &[ChainSpec], lists: &[Rows<ElementSpec>
     true
 }
 
-// Whether a chain has a list and each of its lists an element.
+/// Whether a chain has a list and each of its lists an element.
 fn has_elements(chain: &ChainSpec) -> bool
     ensures value { IsTrue result ↔ HasElements chain.now }
 {
@@ -153,14 +153,14 @@ fn has_elements(chain: &ChainSpec) -> bool
     !lists.is_empty() && lists.iter().all(|list| !elements_of_list(list).is_empty())
 }
 
-// Whether each of some chains is so.
+/// Whether each of some chains is so.
 fn have_elements(chains: &[ChainSpec]) -> bool
     ensures value { IsTrue result ↔ All HasElements chains.now }
 {
     chains.iter().all(|chain| has_elements(chain))
 }
 
-// So many bits and those of some steps, where they are few.
+/// So many bits and those of some steps, where they are few.
 fn more_bits(steps: &[StepSpec], before: u32) -> Option<u32>
     ensures value { SomeIff result (before + sum_by (λ s. s.bits) steps.now < 2 ^ 32) (before + sum_by (λ s. s.bits) steps.now) }
 {
@@ -171,7 +171,7 @@ fn more_bits(steps: &[StepSpec], before: u32) -> Option<u32>
     Some(bits)
 }
 
-// Whether the bits of all steps are few.
+/// Whether the bits of all steps are few.
 fn are_few_bits(paths: &[PathSpec]) -> bool
     ensures value { IsTrue result ↔ (sum_by (λ path. sum_by (λ s. s.bits) path.steps) paths.now < 2 ^ 32) }
 {
@@ -185,7 +185,7 @@ fn are_few_bits(paths: &[PathSpec]) -> bool
     true
 }
 
-// Whether the steps of all paths are few.
+/// Whether the steps of all paths are few.
 fn are_few_steps(paths: &[PathSpec]) -> bool
     ensures value { IsTrue result ↔ (sum_by (λ path. length path.steps) paths.now < 2 ^ 32) }
 {
@@ -200,7 +200,7 @@ fn are_few_steps(paths: &[PathSpec]) -> bool
     true
 }
 
-// Whether the elements of all chains are few.
+/// Whether the elements of all chains are few.
 fn are_few_elements(lists: &[Rows<ElementSpec>]) -> bool
     ensures value { IsTrue result ↔ (sum_by length lists.now < 2 ^ 32) }
 {
@@ -219,7 +219,7 @@ fn are_few_elements(lists: &[Rows<ElementSpec>]) -> bool
 /// named by two elements, each chain has a list and each list an element, and there are fewer than 2^32 bits, paths,
 /// steps, chains and elements. It takes quadratic time; the chains of a design that was read need no such test.
 pub fn are_chains(alloc: Global, paths: &[PathSpec], chains: &[ChainSpec]) -> Result<bool, NoMemory>
-    ensures value { IfOk result (λ yes. IsTrue yes ↔ AreChains paths.now chains.now) }
+    ensures value { IfOk result (λ yes. IsTrue yes ↔ AreChainSpecs paths.now chains.now) }
 {
     if paths.len() >= MANY || chains.len() >= MANY {
         return Ok(false);
@@ -227,7 +227,7 @@ pub fn are_chains(alloc: Global, paths: &[PathSpec], chains: &[ChainSpec]) -> Re
     if !are_few_bits(paths) || !are_few_steps(paths) || !have_elements(chains) {
         return Ok(false);
     }
-    let index = Index::of(paths);
+    let index = Index::of(alloc, paths)?;
     let lists = elements_of_each(alloc, chains)?;
     if !are_few_elements(&lists) || !stand_once(&index) {
         return Ok(false);

@@ -1,9 +1,9 @@
 //! The units and rules of the chains.
 ghost use Rattle.std.specs.Prelude.{◌≡◌, ◌+◌, ◌^◌, ◌<◌, ◌≤◌, ◌↔◌, ℕ, nat_lt, length, sum_by, IsTrue, IfOk, if◌then◌else◌, All};
 ghost use Rattle.std.specs.List.{AllZip, concat, range_with_len};
-ghost use Rattle.chain_rules.specs.Stretches.{path_at, spec_at, groups_of, bits_between, AreChains};
+ghost use Rattle.chain_rules.specs.Stretches.{path_at, spec_at, groups_of, bits_between, AreChainSpecs};
 ghost use Rattle.chain_rules.specs.ChainFaults.{IsOrderBroken};
-ghost use Rattle.chain_rules.specs.Rules.{PinsLast, IsReadChain, AreRulesOf};
+ghost use Rattle.chain_rules.specs.Rules.{PinsLast, IsReadChain, AreRulesOfEach};
 ghost use Rattle.chain_rules.specs.Runs.{AreListingsOf, IsUnitOfCut, IsRuleOfRun};
 
 use crate::cuts::{Cut, cuts_of};
@@ -16,7 +16,7 @@ use crate::unit::{ChainRule, Rules, Unit};
 use base_types::{NoMemory, Rows};
 use std::alloc::Global;
 
-// Whether the last unit of a chain is pinned, where it ends at this place.
+/// Whether the last unit of a chain is pinned, where it ends at this place.
 fn pins_last(index: &Index<'_>, chain: &ChainSpec, run: Run, last: usize) -> bool
     requires path { run.path < length index.now }
     requires last { last < run.to }
@@ -33,7 +33,7 @@ fn pins_last(index: &Index<'_>, chain: &ChainSpec, run: Run, last: usize) -> boo
     run.to == last + 1 && !index.paths()[run.path].free_out
 }
 
-// The unit of a cut, of a chain whose last unit ends at this place.
+/// The unit of a cut, of a chain whose last unit ends at this place.
 fn unit_of(index: &Index<'_>, chain: &ChainSpec, run: Run, cut: Cut, last: usize) -> Unit
     requires path { run.path < length index.now }
     requires few_paths { length index.now < 2 ^ 32 }
@@ -54,7 +54,7 @@ fn unit_of(index: &Index<'_>, chain: &ChainSpec, run: Run, cut: Cut, last: usize
     }
 }
 
-// What a chain may hold whose units as read stand from one place to another.
+/// What a chain may hold whose units as read stand from one place to another.
 fn rule_of(index: &Index<'_>, chain: &ChainSpec, run: Run, first: usize, last: usize) -> ChainRule
     requires path { run.path < length index.now }
     requires few_paths { length index.now < 2 ^ 32 }
@@ -80,7 +80,7 @@ fn rule_of(index: &Index<'_>, chain: &ChainSpec, run: Run, first: usize, last: u
     }
 }
 
-// The units of the cuts of a chain.
+/// The units of the cuts of a chain.
 fn units_of_cuts(
     alloc: Global,
     index: &Index<'_>,
@@ -105,7 +105,7 @@ fn units_of_cuts(
     Ok(units)
 }
 
-// So many numbers in order.
+/// So many numbers in order.
 fn numbers(alloc: Global, from: usize, count: usize) -> Result<Vec<u32>, NoMemory>
     requires small { from + count ≤ 2 ^ 32 }
     ensures value { IfOk result (λ ns. ns.items ≡ range_with_len from count) }
@@ -117,14 +117,14 @@ fn numbers(alloc: Global, from: usize, count: usize) -> Result<Vec<u32>, NoMemor
     Ok(numbers)
 }
 
-// The rule and the units of a chain as read.
+/// The rule and the units of a chain as read.
 #[derive(Drop)]
 struct Built {
     rule: ChainRule,
     units: Vec<Unit>,
 }
 
-// The rule and the units of a chain.
+/// The rule and the units of a chain.
 fn built_chain(
     alloc: Global,
     index: &Index<'_>,
@@ -132,7 +132,7 @@ fn built_chain(
     listings: &[Listing],
     chain: usize,
 ) -> Result<Built, NoMemory>
-    requires chains { AreChains index.now chains.now }
+    requires chains { AreChainSpecs index.now chains.now }
     requires listings { AreListingsOf index.now chains.now listings.now }
     requires chain { chain < length chains.now }
     requires whole { ¬ IsOrderBroken index.now (spec_at chains.now chain) }
@@ -148,17 +148,17 @@ fn built_chain(
     Ok(Built { rule, units })
 }
 
-// The rules of the chains.
+/// The rules of the chains.
 pub(crate) fn rules_of(
     alloc: Global,
     index: &Index<'_>,
     chains: &[ChainSpec],
     listings: &[Listing],
 ) -> Result<Rules, NoMemory>
-    requires chains { AreChains index.now chains.now }
+    requires chains { AreChainSpecs index.now chains.now }
     requires listings { AreListingsOf index.now chains.now listings.now }
     requires whole { (c : ℕ) → c < length chains.now → ¬ IsOrderBroken index.now (spec_at chains.now c) }
-    ensures value { IfOk result (λ rules. AreRulesOf index.now chains.now rules) }
+    ensures value { IfOk result (λ rules. AreRulesOfEach index.now chains.now rules) }
     ensures numbered { IfOk result (λ rules. concat rules.read.chains ≡ range_with_len 0 (length rules.units)) }
 {
     let mut units = Vec::new(alloc);

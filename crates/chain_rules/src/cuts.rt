@@ -7,21 +7,21 @@ use crate::listing::Listing;
 use base_types::NoMemory;
 use std::alloc::Global;
 
-// The places of the first and the last step of a unit.
+/// The places of the first and the last step of a unit.
 #[derive(Clone, Copy)]
 pub(crate) struct Cut {
     pub first: usize,
     pub last: usize,
 }
 
-// The place behind a stretch.
+/// The place behind a stretch.
 fn end_of(listing: &Listing) -> usize
     ensures value { result ≡ listing.now.run.to }
 {
     listing.run.to
 }
 
-// The mark of a step of a stretch.
+/// The mark of a step of a stretch.
 fn mark_of(listing: &Listing, place: usize) -> usize
     requires inside { IsInside (stretch listing.now.run) place }
     requires room { length listing.now.marks.items ≡ listing.now.run.to - listing.now.run.from }
@@ -30,7 +30,7 @@ fn mark_of(listing: &Listing, place: usize) -> usize
     listing.marks[place - listing.run.from]
 }
 
-// The first step of a stretch with a mark.
+/// The first step of a stretch with a mark.
 fn first_marked(listing: &Listing) -> Option<usize>
     requires room { length listing.now.marks.items ≡ listing.now.run.to - listing.now.run.from }
     ensures found { IfSome result (λ k. IsInside (stretch listing.now.run) k × (0 < mark_at (stretch listing.now.run) listing.now.marks.items k) × ((j : ℕ) → IsInside (stretch listing.now.run) j → j < k → mark_at (stretch listing.now.run) listing.now.marks.items j ≡ 0)) }
@@ -44,7 +44,7 @@ fn first_marked(listing: &Listing) -> Option<usize>
     None
 }
 
-// The last step of the unit that begins at a place with a mark.
+/// The last step of the unit that begins at a place with a mark.
 fn end_of_unit(listing: &Listing, start: usize) -> usize
     requires start { IsInside (stretch listing.now.run) start }
     requires marked { 0 < mark_at (stretch listing.now.run) listing.now.marks.items start }
@@ -67,7 +67,7 @@ fn end_of_unit(listing: &Listing, start: usize) -> usize
     last
 }
 
-// The step behind one of a stretch, where it has a mark.
+/// The step behind one of a stretch, where it has a mark.
 fn next_start(listing: &Listing, last: usize) -> Option<usize>
     requires last { IsInside (stretch listing.now.run) last }
     requires room { length listing.now.marks.items ≡ listing.now.run.to - listing.now.run.from }
@@ -83,7 +83,7 @@ fn next_start(listing: &Listing, last: usize) -> Option<usize>
     }
 }
 
-// The cuts of a stretch that has a mark.
+/// The cuts of a stretch that has a mark.
 pub(crate) fn cuts_of(alloc: Global, listing: &Listing) -> Result<Vec<Cut>, NoMemory>
     requires room { length listing.now.marks.items ≡ listing.now.run.to - listing.now.run.from }
     requires together { AreTogether (stretch listing.now.run) listing.now.marks.items }

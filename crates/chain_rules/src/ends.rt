@@ -6,7 +6,7 @@ ghost use Rattle.chain_rules.specs.Pins.{KeepsPin};
 use crate::legal::is_pinned;
 use crate::unit::Rules;
 
-// Whether the last of the units isn't pinned, or is the last afterwards.
+/// Whether the last of the units isn't pinned, or is the last afterwards.
 pub(crate) fn keeps_pin(rules: &Rules, us: &[u32], last: Option<u32>) -> bool
     ensures value { IsTrue result ↔ KeepsPin rules.now us.now last }
 {
@@ -16,7 +16,7 @@ pub(crate) fn keeps_pin(rules: &Rules, us: &[u32], last: Option<u32>) -> bool
     }
 }
 
-// The last unit where the one at a place is taken out.
+/// The last unit where the one at a place is taken out.
 pub(crate) fn last_without(us: &[u32], place: usize) -> Option<u32>
     requires within { place < length us.now }
     ensures value { result ≡ last_of (remove us.now place) }
@@ -31,7 +31,7 @@ pub(crate) fn last_without(us: &[u32], place: usize) -> Option<u32>
     }
 }
 
-// The last unit where one is put in at a place.
+/// The last unit where one is put in at a place.
 pub(crate) fn last_with(us: &[u32], place: usize, unit: u32) -> Option<u32>
     requires within { place ≤ length us.now }
     ensures value { result ≡ last_of (insert us.now place unit) }
@@ -43,7 +43,7 @@ pub(crate) fn last_with(us: &[u32], place: usize, unit: u32) -> Option<u32>
     }
 }
 
-// The last unit where the one at a place is put at another, which counts without it.
+/// The last unit where the one at a place is put at another, which counts without it.
 pub(crate) fn last_moved(us: &[u32], from: usize, to: usize) -> Option<u32>
     requires from { from < length us.now }
     requires to { to < length us.now }
@@ -56,7 +56,7 @@ pub(crate) fn last_moved(us: &[u32], from: usize, to: usize) -> Option<u32>
     }
 }
 
-// The last unit where another stands at a place.
+/// The last unit where another stands at a place.
 pub(crate) fn last_replaced(us: &[u32], place: usize, unit: u32) -> Option<u32>
     requires within { place < length us.now }
     ensures value { result ≡ last_of (slice_set us.now place unit) }
@@ -68,7 +68,7 @@ pub(crate) fn last_replaced(us: &[u32], place: usize, unit: u32) -> Option<u32>
     }
 }
 
-// The last unit where those at two places are exchanged.
+/// The last unit where those at two places are exchanged.
 pub(crate) fn last_swapped(us: &[u32], a: usize, b: usize) -> Option<u32>
     requires a { a < length us.now }
     requires b { b < length us.now }

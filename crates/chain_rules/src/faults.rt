@@ -1,6 +1,6 @@
 //! The first chain with a fault of each kind.
 ghost use Rattle.std.specs.Prelude.{◌≡◌, ◌+◌, ◌^◌, ◌<◌, ◌≤◌, ◌↔◌, ℕ, length, sum_by, slice_index_or, IsTrue, IfSome, IfNone, All};
-ghost use Rattle.chain_rules.specs.Stretches.{path_at, spec_at, StepsOnce, HasElements, AreChains};
+ghost use Rattle.chain_rules.specs.Stretches.{path_at, spec_at, StepsOnce, HasElements, AreChainSpecs};
 ghost use Rattle.chain_rules.specs.ChainFaults.{IsUnlistedBits, IsOrderBroken, IsOverMaxBits, IsTooManyUnits};
 ghost use Rattle.chain_rules.specs.Runs.{stretch, IsListingOf, AreListingsOf, ListHasBreak, no_list};
 
@@ -8,7 +8,7 @@ use crate::index::Index;
 use crate::listing::{Listing, has_break, has_unmarked_bit};
 use crate::spec::{ChainSpec, ListSpec};
 
-// Whether a list is an ORDERED one that isn't found in its order.
+/// Whether a list is an ORDERED one that isn't found in its order.
 fn list_has_break(index: &Index<'_>, chain: &ChainSpec, listing: &Listing, list: usize) -> bool
     requires once { StepsOnce index.now }
     requires listing { IsListingOf index.now chain.now listing.now }
@@ -21,7 +21,7 @@ fn list_has_break(index: &Index<'_>, chain: &ChainSpec, listing: &Listing, list:
     }
 }
 
-// Whether an ORDERED list of a chain isn't found in its order.
+/// Whether an ORDERED list of a chain isn't found in its order.
 fn is_order_broken(index: &Index<'_>, chain: &ChainSpec, listing: &Listing) -> bool
     requires once { StepsOnce index.now }
     requires elements { HasElements chain.now }
@@ -36,7 +36,7 @@ fn is_order_broken(index: &Index<'_>, chain: &ChainSpec, listing: &Listing) -> b
     false
 }
 
-// Whether a chain's bits as read exceed MAXBITS.
+/// Whether a chain's bits as read exceed MAXBITS.
 fn is_over_max_bits(index: &Index<'_>, chain: &ChainSpec, listing: &Listing) -> bool
     requires once { StepsOnce index.now }
     requires elements { HasElements chain.now }
@@ -51,13 +51,13 @@ fn is_over_max_bits(index: &Index<'_>, chain: &ChainSpec, listing: &Listing) -> 
     chain.max_bits < index.bits(run.path, run.from, run.to)
 }
 
-// The first chain with an unlisted step that has a bit.
+/// The first chain with an unlisted step that has a bit.
 pub(crate) fn first_unlisted_bits(
     index: &Index<'_>,
     chains: &[ChainSpec],
     listings: &[Listing],
 ) -> Option<usize>
-    requires chains { AreChains index.now chains.now }
+    requires chains { AreChainSpecs index.now chains.now }
     requires listings { AreListingsOf index.now chains.now listings.now }
     ensures found { IfSome result (λ c. (c < length chains.now) × IsUnlistedBits index.now (spec_at chains.now c) × ((d : ℕ) → d < c → ¬ IsUnlistedBits index.now (spec_at chains.now d))) }
     ensures none { IfNone result ((c : ℕ) → c < length chains.now → ¬ IsUnlistedBits index.now (spec_at chains.now c)) }
@@ -70,13 +70,13 @@ pub(crate) fn first_unlisted_bits(
     None
 }
 
-// The first chain with an ORDERED list that isn't found in its order.
+/// The first chain with an ORDERED list that isn't found in its order.
 pub(crate) fn first_order_broken(
     index: &Index<'_>,
     chains: &[ChainSpec],
     listings: &[Listing],
 ) -> Option<usize>
-    requires chains { AreChains index.now chains.now }
+    requires chains { AreChainSpecs index.now chains.now }
     requires listings { AreListingsOf index.now chains.now listings.now }
     ensures found { IfSome result (λ c. (c < length chains.now) × IsOrderBroken index.now (spec_at chains.now c) × ((d : ℕ) → d < c → ¬ IsOrderBroken index.now (spec_at chains.now d))) }
     ensures none { IfNone result ((c : ℕ) → c < length chains.now → ¬ IsOrderBroken index.now (spec_at chains.now c)) }
@@ -89,13 +89,13 @@ pub(crate) fn first_order_broken(
     None
 }
 
-// The first chain whose bits as read exceed MAXBITS.
+/// The first chain whose bits as read exceed MAXBITS.
 pub(crate) fn first_over_max_bits(
     index: &Index<'_>,
     chains: &[ChainSpec],
     listings: &[Listing],
 ) -> Option<usize>
-    requires chains { AreChains index.now chains.now }
+    requires chains { AreChainSpecs index.now chains.now }
     requires listings { AreListingsOf index.now chains.now listings.now }
     ensures found { IfSome result (λ c. (c < length chains.now) × IsOverMaxBits index.now (spec_at chains.now c) × ((d : ℕ) → d < c → ¬ IsOverMaxBits index.now (spec_at chains.now d))) }
     ensures none { IfNone result ((c : ℕ) → c < length chains.now → ¬ IsOverMaxBits index.now (spec_at chains.now c)) }

@@ -6,7 +6,7 @@ ghost use Rattle.chain_rules.specs.Legality.{unit_at, rule_at, chain_at, bits_of
 use crate::plan::Plan;
 use crate::unit::Rules;
 
-// The bits of a unit, 0 where there is no such unit.
+/// The bits of a unit, 0 where there is no such unit.
 pub(crate) fn unit_bits(rules: &Rules, unit: u32) -> u32
     ensures value { result ≡ (unit_at rules.now unit).bits }
 {
@@ -29,7 +29,7 @@ pub(crate) fn is_pinned(rules: &Rules, unit: u32) -> bool
     }
 }
 
-// The bits of some units together, where they aren't above the bound.
+/// The bits of some units together, where they aren't above the bound.
 fn bits_within(rules: &Rules, us: &[u32], bound: u32) -> Option<u32>
     ensures value { SomeIff result (bits_of rules.now us.now ≤ bound) (bits_of rules.now us.now) }
 {
@@ -44,7 +44,7 @@ fn bits_within(rules: &Rules, us: &[u32], bound: u32) -> Option<u32>
     Some(bits)
 }
 
-// Whether the units are as many and have as many bits as a chain may hold.
+/// Whether the units are as many and have as many bits as a chain may hold.
 pub(crate) fn are_held(rules: &Rules, chain: usize, us: &[u32]) -> bool
     requires within { chain < length rules.now.chains }
     ensures value { IsTrue result ↔ ((0 < length us.now) × (IsTrue (rule_at rules.now chain).keeps_bit → 0 < bits_of rules.now us.now) × (bits_of rules.now us.now ≤ (rule_at rules.now chain).bound)) }
@@ -56,21 +56,21 @@ pub(crate) fn are_held(rules: &Rules, chain: usize, us: &[u32]) -> bool
     }
 }
 
-// Whether a unit may stand before others, or is the last of these.
+/// Whether a unit may stand before others, or is the last of these.
 fn is_last_or_free(rules: &Rules, unit: u32, us: &[u32]) -> bool
     ensures value { IsTrue result ↔ (IsTrue (unit_at rules.now unit).pinned → last_of us.now ≡ Some unit) }
 {
     !is_pinned(rules, unit) || us.last() == Some(&unit)
 }
 
-// Whether each pinned unit of a read chain is the last of the chain.
+/// Whether each pinned unit of a read chain is the last of the chain.
 pub(crate) fn are_pins_last(rules: &Rules, read: &[u32], us: &[u32]) -> bool
     ensures value { IsTrue result ↔ All (λ u. IsTrue (unit_at rules.now u).pinned → last_of us.now ≡ Some u) read.now }
 {
     read.iter().all(|u| is_last_or_free(rules, *u, us))
 }
 
-// The units of a read chain; none where there is no such chain.
+/// The units of a read chain; none where there is no such chain.
 pub(crate) fn read_units(rules: &Rules, chain: usize) -> &[u32]
     ensures value { result.now ≡ chain_at rules.now.read chain }
 {
@@ -81,7 +81,7 @@ pub(crate) fn read_units(rules: &Rules, chain: usize) -> &[u32]
     }
 }
 
-// Whether the chains of a plan have so many units together.
+/// Whether the chains of a plan have so many units together.
 pub(crate) fn has_as_many(plan: &Plan, units: usize) -> bool
     ensures value { IsTrue result ↔ (length (concat plan.now.chains) ≡ units) }
 {

@@ -19,6 +19,7 @@ mod meets;
 mod moves;
 pub mod plain;
 mod plan;
+mod spans;
 mod spec;
 mod stretch;
 mod unit;
@@ -31,8 +32,3 @@ pub use plan::Plan;
 pub use spec::{ChainSpec, ElementSpec, EndSpec, ListSpec, PathSpec, StepSpec};
 pub use unit::{ChainRule, Position, Rules, Unit};
 pub use units::units_of;
-
-#[cfg(test)]
-mod tests;
-#[cfg(test)]
-mod tests_plans;

@@ -1,6 +1,6 @@
 //! The stretches of the chains with their marks, and the faults that show there.
 ghost use Rattle.std.specs.Prelude.{◌≡◌, ◌+◌, ◌-◌, ◌^◌, ◌<◌, ◌≤◌, ◌↔◌, ℕ, length, sum_by, IsTrue, IfOk, IfSome, IfNone, All};
-ghost use Rattle.chain_rules.specs.Stretches.{path_at, spec_at, groups_of, StandsIn, StepsOnce, HasElements, AreChains};
+ghost use Rattle.chain_rules.specs.Stretches.{path_at, spec_at, groups_of, StandsIn, StepsOnce, HasElements, AreChainSpecs};
 ghost use Rattle.chain_rules.specs.ChainFaults.{IsNotAStretch};
 ghost use Rattle.chain_rules.specs.Runs.{stretch, mark_at, AreRunsOf, AreListingsOf, HasUnmarkedBit, IsBreakBetween, HasBreak};
 
@@ -11,14 +11,14 @@ use crate::stretch::Run;
 use base_types::NoMemory;
 use std::alloc::Global;
 
-// The stretch of a chain, with the mark of each of its steps.
+/// The stretch of a chain, with the mark of each of its steps.
 #[derive(Drop)]
 pub(crate) struct Listing {
     pub run: Run,
     pub marks: Vec<usize>,
 }
 
-// The stretches of chains that have one, with their marks.
+/// The stretches of chains that have one, with their marks.
 pub(crate) fn listings_of(
     alloc: Global,
     index: &Index<'_>,
@@ -42,7 +42,7 @@ pub(crate) fn listings_of(
     Ok(listings)
 }
 
-// Whether a step of a stretch without a mark has a bit.
+/// Whether a step of a stretch without a mark has a bit.
 pub(crate) fn has_unmarked_bit(index: &Index<'_>, listing: &Listing) -> bool
     requires path { listing.now.run.path < length index.now }
     requires within { listing.now.run.to ≤ length (path_at index.now listing.now.run.path).steps }
@@ -58,7 +58,7 @@ pub(crate) fn has_unmarked_bit(index: &Index<'_>, listing: &Listing) -> bool
     false
 }
 
-// Whether a step between two places of a stretch has a mark.
+/// Whether a step between two places of a stretch has a mark.
 fn has_mark_between(listing: &Listing, low: usize, high: usize) -> bool
     requires low { listing.now.run.from ≤ low }
     requires high { high < listing.now.run.to }
@@ -76,7 +76,7 @@ fn has_mark_between(listing: &Listing, low: usize, high: usize) -> bool
     false
 }
 
-// Whether a list isn't found in its order with only steps without a mark between.
+/// Whether a list isn't found in its order with only steps without a mark between.
 pub(crate) fn has_break(index: &Index<'_>, listing: &Listing, elements: &[ElementSpec]) -> bool
     requires once { StepsOnce index.now }
     requires path { listing.now.run.path < length index.now }
@@ -93,7 +93,7 @@ pub(crate) fn has_break(index: &Index<'_>, listing: &Listing, elements: &[Elemen
     false
 }
 
-// Whether one of two elements doesn't stand behind the other with only steps without a mark between.
+/// Whether one of two elements doesn't stand behind the other with only steps without a mark between.
 fn is_break(index: &Index<'_>, listing: &Listing, first: ElementSpec, second: ElementSpec) -> bool
     requires once { StepsOnce index.now }
     requires path { listing.now.run.path < length index.now }

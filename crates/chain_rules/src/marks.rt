@@ -10,7 +10,7 @@ use crate::stretch::Run;
 use base_types::NoMemory;
 use std::alloc::Global;
 
-// Marks the step of an element.
+/// Marks the step of an element.
 fn mark(index: &Index<'_>, run: Run, element: ElementSpec, group: usize, marks: &mut [usize])
     requires once { StepsOnce index.now }
     requires path { run.path < length index.now }
@@ -24,7 +24,7 @@ fn mark(index: &Index<'_>, run: Run, element: ElementSpec, group: usize, marks: 
     }
 }
 
-// Marks the steps of an ORDERED list, behind so many groups.
+/// Marks the steps of an ORDERED list, behind so many groups.
 fn mark_ordered(
     index: &Index<'_>,
     run: Run,
@@ -45,7 +45,7 @@ fn mark_ordered(
     }
 }
 
-// Marks the steps of FLOATING elements, behind so many groups.
+/// Marks the steps of FLOATING elements, behind so many groups.
 fn mark_floating(
     index: &Index<'_>,
     run: Run,
@@ -68,7 +68,7 @@ fn mark_floating(
     }
 }
 
-// Marks the steps of a list, behind so many groups, and answers how many there are then.
+/// Marks the steps of a list, behind so many groups, and answers how many there are then.
 fn mark_list(
     index: &Index<'_>,
     run: Run,
@@ -97,7 +97,7 @@ fn mark_list(
     }
 }
 
-// The marks of the steps of a chain's stretch.
+/// The marks of the steps of a chain's stretch.
 pub(crate) fn marks_of(
     alloc: Global,
     index: &Index<'_>,

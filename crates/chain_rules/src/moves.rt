@@ -8,7 +8,7 @@ use crate::legal::unit_bits;
 use crate::plan::Plan;
 use crate::unit::{Position, Rules};
 
-// The bits of some units together.
+/// The bits of some units together.
 fn total_bits(rules: &Rules, us: &[u32]) -> u32
     requires bound { bits_of rules.now us.now < 2 ^ 32 }
     ensures value { result ≡ bits_of rules.now us.now }
@@ -16,7 +16,7 @@ fn total_bits(rules: &Rules, us: &[u32]) -> u32
     us.iter().map(|u| unit_bits(rules, *u)).sum()
 }
 
-// Whether a chain of a rule can do without the unit at a place.
+/// Whether a chain of a rule can do without the unit at a place.
 fn can_lose(rules: &Rules, keeps_bit: bool, bound: u32, us: &[u32], place: usize) -> bool
     requires within { place < length us.now }
     requires bounded { bits_of rules.now us.now ≤ bound }
@@ -31,7 +31,7 @@ fn can_lose(rules: &Rules, keeps_bit: bool, bound: u32, us: &[u32], place: usize
     keeps_pin(rules, us, last_without(us, place))
 }
 
-// Whether a unit fits into a chain of a bound at a place.
+/// Whether a unit fits into a chain of a bound at a place.
 fn can_gain(rules: &Rules, bound: u32, us: &[u32], place: usize, unit: u32) -> bool
     requires within { place ≤ length us.now }
     requires bounded { bits_of rules.now us.now ≤ bound }
@@ -43,7 +43,7 @@ fn can_gain(rules: &Rules, bound: u32, us: &[u32], place: usize, unit: u32) -> b
     keeps_pin(rules, us, last_with(us, place, unit))
 }
 
-// Whether another unit fits into a chain of a rule in place of the one at a place.
+/// Whether another unit fits into a chain of a rule in place of the one at a place.
 fn can_replace(
     rules: &Rules,
     keeps_bit: bool,

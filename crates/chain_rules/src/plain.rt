@@ -7,7 +7,7 @@ use crate::legal::{are_held, are_pins_last, has_as_many, read_units};
 use crate::plan::Plan;
 use crate::unit::Rules;
 
-// The first read chain in which a unit stands.
+/// The first read chain in which a unit stands.
 fn read_chain_of_unit(rules: &Rules, unit: u32) -> Option<usize>
     ensures value { result ≡ read_chain_of rules.now unit }
 {
@@ -19,7 +19,7 @@ fn read_chain_of_unit(rules: &Rules, unit: u32) -> Option<usize>
     None
 }
 
-// Whether a unit belongs to a partition.
+/// Whether a unit belongs to a partition.
 fn is_of_partition(rules: &Rules, unit: u32, partition: u32) -> bool
     ensures value { IsTrue result ↔ (partition_of rules.now unit ≡ Some partition) }
 {
@@ -30,7 +30,7 @@ fn is_of_partition(rules: &Rules, unit: u32, partition: u32) -> bool
     }
 }
 
-// Whether each of some units belongs to a partition.
+/// Whether each of some units belongs to a partition.
 fn are_of_partition(rules: &Rules, us: &[u32], partition: u32) -> bool
     ensures value { IsTrue result ↔ All (λ u. partition_of rules.now u ≡ Some partition) us.now }
 {
@@ -42,14 +42,14 @@ fn are_of_partition(rules: &Rules, us: &[u32], partition: u32) -> bool
     true
 }
 
-// Whether a unit stands in a chain.
+/// Whether a unit stands in a chain.
 fn stands_in(us: &[u32], unit: usize) -> bool
     ensures value { result ≡ list_any (λ v. nat_eq v unit) us.now }
 {
     us.iter().any(|other| *other as usize == unit)
 }
 
-// Whether a unit stands in some chain.
+/// Whether a unit stands in some chain.
 fn stands(plan: &Plan, unit: usize) -> bool
     ensures value { IsTrue result ↔ Contains (concat plan.now.chains) unit }
 {
@@ -61,7 +61,7 @@ fn stands(plan: &Plan, unit: usize) -> bool
     false
 }
 
-// Whether each unit below a number stands in some chain.
+/// Whether each unit below a number stands in some chain.
 fn all_stand(plan: &Plan, units: usize) -> bool
     ensures value { IsTrue result ↔ ((u : ℕ) → u < units → Contains (concat plan.now.chains) u) }
 {
@@ -73,7 +73,7 @@ fn all_stand(plan: &Plan, units: usize) -> bool
     true
 }
 
-// Whether a chain of a plan meets its rule.
+/// Whether a chain of a plan meets its rule.
 fn is_legal_chain(rules: &Rules, plan: &Plan, chain: usize) -> bool
     requires rule { chain < length rules.now.chains }
     requires within { chain < length plan.now.chains }
@@ -90,7 +90,7 @@ fn is_legal_chain(rules: &Rules, plan: &Plan, chain: usize) -> bool
     are_held(rules, chain, us)
 }
 
-// Whether each chain of a plan meets its rule.
+/// Whether each chain of a plan meets its rule.
 fn are_legal_chains(rules: &Rules, plan: &Plan) -> bool
     requires chains { length plan.now.chains ≡ length rules.now.chains }
     ensures value { IsTrue result ↔ ((c : ℕ) → c < length plan.now.chains → IsLegalChain rules.now c (chain_at plan.now c)) }

@@ -6,7 +6,7 @@ ghost use Rattle.chain_rules.specs.Runs.{stretch};
 use crate::index::{Index, leaves_by};
 use crate::spec::{ChainSpec, ElementSpec, EndSpec, ListSpec};
 
-// The steps of a path from one place up to and without another.
+/// The steps of a path from one place up to and without another.
 #[derive(Clone, Copy)]
 pub(crate) struct Run {
     pub path: usize,
@@ -14,7 +14,7 @@ pub(crate) struct Run {
     pub to: usize,
 }
 
-// The elements of a list.
+/// The elements of a list.
 pub(crate) fn elements_of_list(list: &ListSpec) -> &[ElementSpec]
     ensures value { result.now ≡ elements_in list.now }
 {
@@ -24,7 +24,7 @@ pub(crate) fn elements_of_list(list: &ListSpec) -> &[ElementSpec]
     }
 }
 
-// Where a stretch on a path begins, by the START of a chain.
+/// Where a stretch on a path begins, by the START of a chain.
 fn begin_on(index: &Index<'_>, path: usize, start: EndSpec) -> Option<usize>
     requires once { StepsOnce index.now }
     requires path { path < length index.now }
@@ -58,7 +58,7 @@ fn begin_on(index: &Index<'_>, path: usize, start: EndSpec) -> Option<usize>
     }
 }
 
-// Where a stretch on a path ends, by the STOP of a chain.
+/// Where a stretch on a path ends, by the STOP of a chain.
 fn end_on(index: &Index<'_>, path: usize, stop: EndSpec) -> Option<usize>
     requires once { StepsOnce index.now }
     requires path { path < length index.now }
@@ -89,7 +89,7 @@ fn end_on(index: &Index<'_>, path: usize, stop: EndSpec) -> Option<usize>
     }
 }
 
-// Whether an element is a step of a stretch.
+/// Whether an element is a step of a stretch.
 fn stands_in(index: &Index<'_>, run: Run, element: ElementSpec) -> bool
     requires once { StepsOnce index.now }
     requires path { run.path < length index.now }
@@ -106,7 +106,7 @@ fn stands_in(index: &Index<'_>, run: Run, element: ElementSpec) -> bool
     leaves_by(&step, element.out)
 }
 
-// Whether each element of a list is a step of a stretch.
+/// Whether each element of a list is a step of a stretch.
 fn list_stands_in(index: &Index<'_>, run: Run, list: &ListSpec) -> bool
     requires once { StepsOnce index.now }
     requires path { run.path < length index.now }
@@ -121,7 +121,7 @@ fn list_stands_in(index: &Index<'_>, run: Run, list: &ListSpec) -> bool
     true
 }
 
-// Whether each element of a chain is a step of a stretch.
+/// Whether each element of a chain is a step of a stretch.
 fn all_stand_in(index: &Index<'_>, run: Run, chain: &ChainSpec) -> bool
     requires once { StepsOnce index.now }
     requires path { run.path < length index.now }
@@ -136,7 +136,7 @@ fn all_stand_in(index: &Index<'_>, run: Run, chain: &ChainSpec) -> bool
     true
 }
 
-// An element of a chain.
+/// An element of a chain.
 fn first_element(chain: &ChainSpec) -> ElementSpec
     requires { HasElements chain.now }
     ensures value { Contains (elements_of chain.now) result }
@@ -144,7 +144,7 @@ fn first_element(chain: &ChainSpec) -> ElementSpec
     elements_of_list(&chain.lists.as_slice()[0])[0]
 }
 
-// The stretch of a chain, where it has one.
+/// The stretch of a chain, where it has one.
 pub(crate) fn stretch_of(index: &Index<'_>, chain: &ChainSpec) -> Option<Run>
     requires once { StepsOnce index.now }
     requires elements { HasElements chain.now }

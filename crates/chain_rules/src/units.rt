@@ -1,7 +1,7 @@
 //! The units and rules of the chains, or their first fault.
 ghost use Rattle.std.specs.Prelude.{◌≡◌, ◌+◌, ◌<◌, ℕ, length, IfOk, OnOk, IfErr, IfSome, IfNone};
 ghost use Rattle.std.specs.List.{concat, range_with_len};
-ghost use Rattle.chain_rules.specs.Stretches.{spec_at, AreChains};
+ghost use Rattle.chain_rules.specs.Stretches.{spec_at, AreChainSpecs};
 ghost use Rattle.chain_rules.specs.ChainFaults.{IsFaultless, IsRefused, fault_at};
 ghost use Rattle.chain_rules.specs.Rules.{AreRulesOf};
 ghost use Rattle.chain_rules.specs.Legality.{IsLegal};
@@ -19,7 +19,7 @@ use crate::unit::Rules;
 use base_types::{Fault, FileKind, Kind, NoMemory, ReadFault, Spot};
 use std::alloc::Global;
 
-// A fault of a kind, at the line of the chain's statement.
+/// A fault of a kind, at the line of the chain's statement.
 fn refusal(kind: Kind, chain: &ChainSpec) -> ReadFault
     ensures value { result ≡ fault_at kind chain.now }
 {
@@ -30,13 +30,13 @@ fn refusal(kind: Kind, chain: &ChainSpec) -> ReadFault
     })
 }
 
-// The stretches of the chains, where they have one.
+/// The stretches of the chains, where they have one.
 fn runs_of(
     alloc: Global,
     index: &Index<'_>,
     chains: &[ChainSpec],
 ) -> Result<Vec<Option<Run>>, NoMemory>
-    requires chains { AreChains index.now chains.now }
+    requires chains { AreChainSpecs index.now chains.now }
     ensures value { IfOk result (λ runs. AreRunsOf index.now chains.now runs.items) }
 {
     let mut runs = Vec::with_capacity(alloc, chains.len())?;
@@ -49,16 +49,16 @@ fn runs_of(
 /// The units of the chains, what each chain may hold, and the plan as read; else the first fault of NotAStretch,
 /// UnlistedBits, OrderBroken, OverMaxBits and TooManyUnits, of the earliest chain that has it, at the chain's line.
 pub fn units_of(alloc: Global, paths: &[PathSpec], chains: &[ChainSpec]) -> Result<Rules, ReadFault>
-    requires chains { AreChains paths.now chains.now }
+    requires chains { AreChainSpecs paths.now chains.now }
     ensures value { IfOk result (λ rules. AreRulesOf paths.now chains.now rules) }
     ensures legal { IfOk result (λ rules. IsLegal rules rules.read) }
     ensures numbered { IfOk result (λ rules. concat rules.read.chains ≡ range_with_len 0 (length rules.units)) }
     ensures faultless { OnOk result (IsFaultless paths.now chains.now) }
     ensures first { IfErr result (IsRefused paths.now chains.now) }
 {
-    let index = Index::of(paths);
+    let index = Index::of(alloc, paths)?;
     let runs = runs_of(alloc, &index, chains)?;
-    if let Some(chain) = first_not_a_stretch(&index, chains, runs.as_slice()) {
+    if let Some(chain) = first_not_a_stretch(alloc, &index, chains, runs.as_slice())? {
         return Err(refusal(Kind::NotAStretch, &chains[chain]));
     }
     let listings = listings_of(alloc, &index, chains, runs.as_slice())?;
@@ -71,7 +71,7 @@ pub fn units_of(alloc: Global, paths: &[PathSpec], chains: &[ChainSpec]) -> Resu
     if let Some(chain) = first_over_max_bits(&index, chains, listings.as_slice()) {
         return Err(refusal(Kind::OverMaxBits, &chains[chain]));
     }
-    if let Some(chain) = first_too_many_units(chains) {
+    if let Some(chain) = first_too_many_units(alloc, chains)? {
         return Err(refusal(Kind::TooManyUnits, &chains[chain]));
     }
     Ok(rules_of(alloc, &index, chains, listings.as_slice())?)

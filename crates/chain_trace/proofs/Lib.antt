@@ -11,4 +11,4 @@ pub mod NamedSides
 pub mod NamedPaths
 pub mod OneFault
 pub mod Sums
-pub mod FirstFaults
+pub mod TraceKinds

@@ -18,13 +18,25 @@ use Rattle.netlist_core.specs.declared.netlist.Assign.{Assign}
 use Rattle.netlist_core.specs.declared.netlist.Connection.{Connection}
 use Rattle.netlist_core.specs.declared.netlist.Instance.{Instance}
 use Rattle.netlist_core.specs.declared.netlist.Netlist.{Netlist}
-use Rattle.netlist_core.specs.Netlists.{NamedBit, Named, Low, High, Undefined, NamedPort, NamedInstance, NamedNetlist, named, named_bit, named_port, named_pin, named_instance, named_assign, bit_pairs, plain_of, AreDistinct, IsNetlist, single_net, connection_at, net_at}
+use Rattle.netlist_core.specs.Netlists.{NamedBit, Named, Low, High, Undefined, NamedPort, NamedInstance, NamedNetlist, named, named_bit, named_port, named_pin, named_instance, named_assign, bit_pairs, plain_of, AreWiredAlike, AreDistinct, IsNetlist, single_net, connection_at, net_at}
 use Rattle.netlist_core.specs.Joining.{assigned}
 use Rattle.cell_table.specs.declared.paths.ScanPath.{ScanPath}
 use Rattle.cell_table.specs.Cells.{Cells}
 use Rattle.cell_table.specs.Table.{paths_at}
 use Rattle.chain_trace.specs.Paths.{scan_path_at, pin_net, has_port}
 use Rattle.chain_trace.proofs.Named.{eqb_same}
+
+-- the ports, assigns and instances by names, and nothing else
+abbrev pub wiring : Netlist → NamedNetlist
+wiring n = record { module_name = []; nets = []; ports = (named n).ports; assigns = (named n).assigns; instances = (named n).instances }
+
+pub same_wiring : (n m : Netlist) → AreWiredAlike n m → wiring n ≡ wiring m
+same_wiring n m same =
+    ap₂ (λ (ports : List NamedPort) (assigns : List (List (NamedBit × NamedBit))). let x : NamedNetlist = record { module_name = []; nets = []; ports = ports; assigns = assigns; instances = (named n).instances } in x) same.ports same.assigns
+    ∙ ap (λ (instances : List NamedInstance). let x : NamedNetlist = record { module_name = []; nets = []; ports = (named m).ports; assigns = (named m).assigns; instances = instances } in x) same.instances
+
+pub turned_wiring : (n m : Netlist) → AreWiredAlike n m → AreWiredAlike m n
+turned_wiring n m same = record { ports = sym same.ports; assigns = sym same.assigns; instances = sym same.instances }
 
 -- a net of one netlist and a net of another have one name
 pub record IsSameNet (n m : Netlist) (a b : NetId) : Type 0 where

@@ -1,4 +1,4 @@
--- A path of one netlist is one of another that is the same by names, its ports by their names.
+-- A path of one netlist is one of another with the same wiring by names, its ports by their names.
 use Rattle.std.proofs.Common.{◌≡◌, ℕ, ◌<◌, Bool, true, false, ◌||◌, cond, List, [], ◌∷◌, length, map, refl, sym, ap, ◌∙◌, subst}
 use Rattle.std.specs.Prelude.{All, Option, Some, None, option_and_then, option_map}
 use Rattle.std.specs.List.{list_any, slice_get}
@@ -10,7 +10,7 @@ use Rattle.netlist_core.specs.declared.netlist.NetId.{NetId}
 use Rattle.netlist_core.specs.declared.netlist.Direction.{Direction}
 use Rattle.netlist_core.specs.declared.netlist.Port.{Port}
 use Rattle.netlist_core.specs.declared.netlist.Netlist.{Netlist}
-use Rattle.netlist_core.specs.Netlists.{NamedNetlist, named, named_port, plain_of, IsNetlist}
+use Rattle.netlist_core.specs.Netlists.{NamedNetlist, named, named_port, plain_of, AreWiredAlike, IsNetlist}
 use Rattle.cell_table.specs.declared.paths.ScanPath.{ScanPath}
 use Rattle.cell_table.specs.declared.paths.OutPin.{OutPin}
 use Rattle.cell_table.specs.Cells.{Cells}
@@ -23,7 +23,7 @@ use Rattle.chain_trace.specs.declared.path.Sink.TheVariants as sinks
 use Rattle.chain_trace.specs.Paths.{scan_path_at, out_pin_at, pin_net, drives, is_driven, has_port, source_net, sink_net, AreApart, Feeds, IsOnlySource, Leads, IsScanPath}
 use Rattle.chain_trace.specs.Named.{HasSamePath}
 use Rattle.chain_trace.proofs.Ranges.{and_left, port_within, source_within, sink_within}
-use Rattle.chain_trace.proofs.NamedNets.{IsSameNet, turned, one_new, one_old, is_port_named, has_port_named, port_by_name, pin_name, pin_by_name, scan_path_named, scan_path_by_name}
+use Rattle.chain_trace.proofs.NamedNets.{IsSameNet, same_wiring, turned_wiring, turned, one_new, one_old, is_port_named, has_port_named, port_by_name, pin_name, pin_by_name, scan_path_named, scan_path_by_name}
 use Rattle.chain_trace.proofs.NamedSides.{joined_there}
 
 -- the same source and the same sink by the names of their ports
@@ -87,26 +87,26 @@ named_place n test name (p ∷ ps) all e =
     or_cases true b f g e = f refl
     or_cases false b f g e = g e
 
-module _ (n m : Netlist) (cells : Cells) (n_ok : IsNetlist n) (m_ok : IsNetlist m) (same : named n ≡ named m) where
+module _ (n m : Netlist) (cells : Cells) (n_ok : IsNetlist n) (m_ok : IsNetlist m) (same : AreWiredAlike n m) where
   port_same : (test : Direction → Bool) (a b : NetId) → IsSameNet n m a b → has_port test n a ≡ has_port test m b
   port_same test a b s =
-      port_by_name n test a n_ok s.old ∙ ap (has_port_named test (named n)) s.name ∙ ap (λ (N : NamedNetlist). has_port_named test N (plain_of m.nets b)) same
+      port_by_name n test a n_ok s.old ∙ ap (has_port_named test (named n)) s.name ∙ ap (λ (N : NamedNetlist). has_port_named test N (plain_of m.nets b)) (same_wiring n m same)
       ∙ sym (port_by_name m test b m_ok s.new)
 
   port_there : (test : Direction → Bool) (a : NetId) → has_port test n a ≡ true → HasSameNet n m a
   port_there test a e =
       let within = port_within n test a n_ok e in
       let there : has_port_named test (named m) (plain_of n.nets a) ≡ true
-      = ap (λ (N : NamedNetlist). has_port_named test N (plain_of n.nets a)) (sym same) ∙ sym (port_by_name n test a n_ok within) ∙ e in
+      = ap (λ (N : NamedNetlist). has_port_named test N (plain_of n.nets a)) (sym (same_wiring n m same)) ∙ sym (port_by_name n test a n_ok within) ∙ e in
       let found = named_place m test (plain_of n.nets a) m.ports m_ok.port_nets there in
       record { net = found.0; same = record { old = within; new = found.1; name = sym found.2 } }
 
   scan_path_same : (instance path : ℕ) → scan_path_at n cells instance path ≡ scan_path_at m cells instance path
   scan_path_same instance path =
-      scan_path_by_name n cells instance path ∙ ap (λ (N : NamedNetlist). scan_path_named N cells instance path) same ∙ sym (scan_path_by_name m cells instance path)
+      scan_path_by_name n cells instance path ∙ ap (λ (N : NamedNetlist). scan_path_named N cells instance path) (same_wiring n m same) ∙ sym (scan_path_by_name m cells instance path)
 
   pin_same : (instance : ℕ) (pin : List ℕ) → option_map (plain_of n.nets) (pin_net n instance pin) ≡ option_map (plain_of m.nets) (pin_net m instance pin)
-  pin_same instance pin = pin_by_name n instance pin ∙ ap (λ (N : NamedNetlist). pin_name N instance pin) same ∙ sym (pin_by_name m instance pin)
+  pin_same instance pin = pin_by_name n instance pin ∙ ap (λ (N : NamedNetlist). pin_name N instance pin) (same_wiring n m same) ∙ sym (pin_by_name m instance pin)
 
   out_same : (step : Step) → out_pin_at n cells step ≡ out_pin_at m cells step
   out_same step = ap (λ (o : Option ScanPath). option_and_then (λ (path : ScanPath). slice_get path.outs step.out) o) (scan_path_same step.instance step.path)
@@ -186,13 +186,13 @@ module _ (n m : Netlist) (cells : Cells) (n_ok : IsNetlist n) (m_ok : IsNetlist 
       record { source = sources.Port there.net; same_source = there.same }
   source_there (sources.Out step) net e = record { source = sources.Out step; same_source = refl }
 
-module _ (n m : Netlist) (cells : Cells) (n_ok : IsNetlist n) (m_ok : IsNetlist m) (same : named n ≡ named m) where
+module _ (n m : Netlist) (cells : Cells) (n_ok : IsNetlist n) (m_ok : IsNetlist m) (same : AreWiredAlike n m) where
   only_there : (x y : Source) (s t : Sink) → IsSameSource n m x y → IsSameSink n m s t → IsOnlySource n cells x s → IsOnlySource m cells y t
   only_there x y s t p q only = record {
     feeds = feeds_there n m cells n_ok m_ok same x y s t p q only.feeds;
     only = λ other feeds.
-        let back = source_there m n cells m_ok n_ok (sym same) other feeds.from feeds.from_is in
-        let here = feeds_there m n cells m_ok n_ok (sym same) other back.source t s back.same_source (turned_sink n m s t q) feeds in
+        let back = source_there m n cells m_ok n_ok (turned_wiring n m same) other feeds.from feeds.from_is in
+        let here = feeds_there m n cells m_ok n_ok (turned_wiring n m same) other back.source t s back.same_source (turned_sink n m s t q) feeds in
         one_source n m m_ok x other y (subst (λ (z : Source). IsSameSource n m z other) (only.only back.source here) (turned_source m n other back.source back.same_source)) p;
   }
 

@@ -1,4 +1,4 @@
--- Joined nets of one netlist are joined in another that is the same by names.
+-- Joined nets of one netlist are joined in another with the same wiring by names.
 use Rattle.std.proofs.Common.{◌≡◌, ℕ, ◌<◌, List, [], ◌∷◌, inl, inr, length, map, refl, sym, ap, ◌∙◌, subst, arith}
 use Rattle.std.specs.Prelude.{All, Contains, slice_index_or}
 use Rattle.std.specs.List.{flat_map}
@@ -10,10 +10,10 @@ use Rattle.netlist_core.specs.declared.netlist.Bit.TheVariants.{Net, Zero, One, 
 use Rattle.netlist_core.specs.declared.netlist.Assign.{Assign}
 use Rattle.netlist_core.specs.declared.netlist.NetName.{NetName}
 use Rattle.netlist_core.specs.declared.netlist.Netlist.{Netlist}
-use Rattle.netlist_core.specs.Netlists.{NamedBit, Named, Low, High, Undefined, NamedNetlist, named, named_bit, pairs, bit_pairs, plain_of, IsBitWithin, IsAssign, IsNetlist}
+use Rattle.netlist_core.specs.Netlists.{NamedBit, Named, Low, High, Undefined, NamedNetlist, named_bit, pairs, bit_pairs, plain_of, AreWiredAlike, IsBitWithin, IsAssign, IsNetlist}
 use Rattle.netlist_core.specs.Joining.{net_bit, assigned, AreSides, IsChain, AreJoined}
 use Rattle.netlist_core.proofs.Chains.{link-then, link-same, link-one}
-use Rattle.chain_trace.proofs.NamedNets.{IsSameNet, one_new, named_pair, assigned_by_name}
+use Rattle.chain_trace.proofs.NamedNets.{IsSameNet, same_wiring, one_new, named_pair, assigned_by_name}
 
 abbrev IsPairWithin : ℕ → Bit × Bit → Type 0
 IsPairWithin count p = IsBitWithin count p.0 × IsBitWithin count p.1
@@ -73,7 +73,7 @@ net_of_bit nets count Unknown name within e = absurd (subst (λ (c : NamedBit). 
 abbrev pub id_of : ℕ → NetId
 id_of k = record { 0 = k }
 
-module _ (n m : Netlist) (n_ok : IsNetlist n) (m_ok : IsNetlist m) (same : named n ≡ named m) where
+module _ (n m : Netlist) (n_ok : IsNetlist n) (m_ok : IsNetlist m) (same : AreWiredAlike n m) where
   -- both sides of a pair of n, by their names a pair of m
   record HasPair (a c : ℕ) : Type 0 where
     left : NetId
@@ -83,7 +83,7 @@ module _ (n m : Netlist) (n_ok : IsNetlist n) (m_ok : IsNetlist m) (same : named
     right_same : IsSameNet n m (id_of c) right
 
   shown : map (named_pair n.nets) (assigned n) ≡ map (named_pair m.nets) (assigned m)
-  shown = assigned_by_name n ∙ ap (λ (N : NamedNetlist). flat_map (λ ps. ps) N.assigns) same ∙ sym (assigned_by_name m)
+  shown = assigned_by_name n ∙ ap (λ (N : NamedNetlist). flat_map (λ ps. ps) N.assigns) (same_wiring n m same) ∙ sym (assigned_by_name m)
 
   pair_of : (a c : ℕ) → Contains (assigned n) (net_bit a, net_bit c) → HasPair a c
   pair_of a c h =

@@ -21,16 +21,19 @@ use Rattle.chain_trace.specs.declared.tally.Tally.TheVariants.{Empty, One, Pair,
 use Rattle.chain_trace.specs.Paths.{drives, scan_path_at, source_net, AreApart, IsOnlySource}
 use Rattle.chain_trace.specs.Faults.{HasNoSource, HasTwoSources}
 
+-- the source drives a net of the class
 pub record StandsOn (n : Netlist) (cells : Cells) (classes : List ℕ) (class : ℕ) (source : Source) : Type 0 where
   pub net : NetId
   pub net_is : source_net n cells source ≡ Some net
   pub class_is : slice_index classes net.0 ≡ class
 
+-- of the sources that were gone over, this one alone stands there
 pub record IsOnly (Stands Done : Source → Type 0) (source : Source) : Type 0 where
   pub done : Done source
   pub stands : Stands source
   pub only : (other : Source) → Done other → Stands other → other ≡ source
 
+-- of the sources that were gone over, two different ones stand there
 pub record AreTwo (Stands Done : Source → Type 0) : Type 0 where
   pub one : Source
   pub other : Source
@@ -62,6 +65,7 @@ Keeps Stands Done (One source) = IsOnly Stands Done source
 Keeps Stands Done (Pair port other) = AreBoth Stands Done (sources.Port port) other
 Keeps Stands Done More = (but : NetId) → AreTwo Stands (λ source. Done source × AreApart source (sinks.Port but))
 
+-- what is kept of each class is true of the sources that were gone over
 pub record AreDrivers (n : Netlist) (cells : Cells) (classes : List ℕ) (Done : Source → Type 0) (drivers : List Tally) : Type 0 where
   pub count : length drivers ≡ length n.nets
   pub each : (class : ℕ) → class < length n.nets → Keeps (StandsOn n cells classes class) Done (slice_index_or drivers class Empty)
@@ -98,6 +102,7 @@ IsWithout but (Pair port other) found =
     ⊎ ((port ≢ but) × ((other ≢ sources.Port but) × (found ≡ Several))))
 IsWithout but More found = found ≡ Several
 
+-- a source was added to what is kept of one class
 pub record IsPut (old new : List Tally) (class : ℕ) (source : Source) : Type 0 where
   pub len : length new ≡ length old
   pub here : IsAdded source (slice_index_or old class Empty) (slice_index_or new class Empty)
@@ -122,6 +127,7 @@ abbrev pub IsDone : Netlist → ℕ → ℕ → ℕ → ℕ → Source → Type 
 IsDone n ports instance path out (sources.Port net) = list_any (λ port. port.net.0 == net.0 && drives port.direction) (take ports n.ports) ≡ true
 IsDone n ports instance path out (sources.Out step) = IsBefore instance path out step
 
+-- no source is left out
 abbrev pub IsAny : Source → Type 0
 IsAny source = Unit {0}
 
@@ -131,6 +137,7 @@ Says n cells sink Absent = HasNoSource n cells sink
 Says n cells sink (Only source) = IsOnlySource n cells source sink
 Says n cells sink Several = HasTwoSources n cells sink
 
+-- the same scan path of the same instance
 abbrev pub same_place : ℕ × ℕ → ℕ × ℕ → Bool
 same_place a b = a.0 == b.0 && a.1 == b.1
 

@@ -44,10 +44,12 @@ pub record HasTwoSources (n : Netlist) (cells : Cells) (sink : Sink) : Type 0 wh
 abbrev pub IsAmong : List Step → Step → Type 0
 IsAmong steps step = (k : ℕ) × (k < length steps) × AreOfOnePath (slice_index_or steps k step) step
 
+-- the line of a port, 0 where there is none
 abbrev pub line_of_port : Option Port → ℕ
 line_of_port None = 0
 line_of_port (Some port) = port.line
 
+-- the line of an instance, 0 where there is none
 abbrev pub line_of_instance : Option Instance → ℕ
 line_of_instance None = 0
 line_of_instance (Some placed) = placed.line

@@ -1,9 +1,9 @@
--- Ports by their names, and paths of netlists that are the same by names.
+-- Ports by their names, and paths of netlists with the same wiring by names.
 use Rattle.std.specs.Prelude.{◌≡◌, ℕ, Bool, List, IsTrue}
 use Rattle.netlist_core.specs.declared.netlist.NetId.{NetId}
 use Rattle.netlist_core.specs.declared.netlist.Direction.{Direction}
 use Rattle.netlist_core.specs.declared.netlist.Netlist.{Netlist}
-use Rattle.netlist_core.specs.Netlists.{named, plain_of, IsNetlist}
+use Rattle.netlist_core.specs.Netlists.{plain_of, AreWiredAlike, IsNetlist}
 use Rattle.cell_table.specs.Cells.{Cells}
 use Rattle.chain_trace.specs.declared.path.Path.{Path}
 use Rattle.chain_trace.specs.declared.ports.End.{End}
@@ -26,11 +26,13 @@ pub record IsSamePath (n m : Netlist) (old new : Path) : Type 0 where
   pub output : plain_of m.nets new.output ≡ plain_of n.nets old.output
   pub steps : new.steps ≡ old.steps
 
+-- the other netlist has a scan path that is the same by names
 pub record HasSamePath (n m : Netlist) (cells : Cells) (old : Path) : Type 0 where
   pub path : Path
   pub is : IsScanPath m cells path.output path
   pub same : IsSamePath n m old path
 
--- the numbers of nets are free: two netlists with the same names have the same paths
+-- the numbers of nets are free, and so are nets besides: two netlists with the same ports, assigns and instances by names
+-- have the same paths
 abbrev pub NamesLaw : Type 0
-NamesLaw = (n m : Netlist) (cells : Cells) (path : Path) → IsNetlist n → IsNetlist m → named n ≡ named m → IsScanPath n cells path.output path → HasSamePath n m cells path
+NamesLaw = (n m : Netlist) (cells : Cells) (path : Path) → IsNetlist n → IsNetlist m → AreWiredAlike n m → IsScanPath n cells path.output path → HasSamePath n m cells path

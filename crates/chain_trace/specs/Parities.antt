@@ -26,9 +26,11 @@ entry_marks step None out = []
 entry_marks step (Some path) None = []
 entry_marks step (Some path) (Some out) = bit_marks step.instance step.path 0 path.bits ++ Turn out.inverted ∷ []
 
+-- the bits that one step brings
 abbrev pub step_marks : Netlist → Cells → Step → List Mark
 step_marks n cells step = entry_marks step (scan_path_at n cells step.instance step.path) (out_pin_at n cells step)
 
+-- the bits of a path, from its input on
 abbrev pub path_marks : Netlist → Cells → List Step → List Mark
 path_marks n cells steps = flat_map (step_marks n cells) steps
 
@@ -43,6 +45,7 @@ abbrev pub plus : Bool → Bool → Bool
 plus false b = b
 plus true b = not b
 
+-- the parity of some inversions
 abbrev pub odd : List Bool → Bool
 odd [] = false
 odd (b ∷ bs) = plus b (odd bs)
@@ -53,6 +56,7 @@ entry_inversions None out = []
 entry_inversions (Some path) None = []
 entry_inversions (Some path) (Some out) = path.bits ++ out.inverted ∷ []
 
+-- the inversions of one step: those of its bits and that of its out pin
 abbrev pub step_inversions : Netlist → Cells → Step → List Bool
 step_inversions n cells step = entry_inversions (scan_path_at n cells step.instance step.path) (out_pin_at n cells step)
 

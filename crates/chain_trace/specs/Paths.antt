@@ -40,6 +40,7 @@ drives Input = true
 drives Output = false
 drives Inout = true
 
+-- an output or inout port, which the module drives
 abbrev pub is_driven : Direction → Bool
 is_driven Input = false
 is_driven Output = true

@@ -38,7 +38,7 @@ impl PathBits {
         Ok(())
     }
 
-    // A scan path with more than 2^32 bits counts as want of memory.
+    /// A scan path with more than 2^32 bits counts as want of memory.
     fn put_bits(&mut self, instance: u32, path: u32, bits: &[bool]) -> Result<(), NoMemory>
         ensures on { OnOk result (GoesOn self.old self.new (bit_marks instance path 0 bits.now)) }
     {

@@ -21,7 +21,7 @@ fn put(drivers: &mut Vec<Tally>, class: usize, source: Source)
     drivers[class] = added(drivers[class], source);
 }
 
-// Puts a source that stands on a net, where it stands on one.
+/// Puts a source that stands on a net, where it stands on one.
 fn put_at(drivers: &mut Vec<Tally>, classes: &Classes, net: Option<NetId>, source: Source)
     requires net { IfSome net (λ net. net.0 < length classes.now) }
     requires class { IfSome net (λ net. slice_index classes.now net.0 < length drivers.old.items) }
@@ -48,7 +48,7 @@ fn put_ports(drivers: &mut Vec<Tally>, netlist: &Netlist, classes: &Classes)
     }
 }
 
-// An out pin that has no number of 32 bits counts as want of memory.
+/// An out pin that has no number of 32 bits counts as want of memory.
 fn put_outs(
     drivers: &mut Vec<Tally>,
     netlist: &Netlist,
@@ -84,7 +84,7 @@ fn put_outs(
     Ok(())
 }
 
-// A path that has no number of 32 bits counts as want of memory.
+/// A path that has no number of 32 bits counts as want of memory.
 fn put_paths(
     drivers: &mut Vec<Tally>,
     netlist: &Netlist,
@@ -108,7 +108,7 @@ fn put_paths(
     Ok(())
 }
 
-// No class with a source.
+/// No class with a source.
 fn no_drivers(alloc: Global, count: usize) -> Result<Vec<Tally>, NoMemory>
     ensures value { IfOk result (λ drivers. drivers.items ≡ replicate count Tally.Empty) }
 {

@@ -33,7 +33,7 @@ pub(crate) fn path_at(paths: &[ScanPath], path: u32) -> Option<&ScanPath>
     paths.get(path as usize)
 }
 
-// The scan paths of an instance's cell; none where the cell has no entry.
+/// The scan paths of an instance's cell; none where the cell has no entry.
 fn paths_of<'a>(netlist: &Netlist, table: &'a CellTable, instance: u32) -> &'a [ScanPath]
     ensures entries { HasEntries netlist.now table.now instance result.now }
 {

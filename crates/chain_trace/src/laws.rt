@@ -19,7 +19,8 @@ pub fn path_law()
     ensures one_fault { (n : Netlist) (cells : Cells) (output : NetId) (f g : Fault) → IsTraceFault n cells output f → IsTraceFault n cells output g → f ≡ g }
 {}
 
-/// Paths don't hang on the numbers of nets. The call does nothing; its contract is the law.
+/// Paths hang on ports, assigns and instances by names, neither on the numbers of nets nor on other nets. The call does
+/// nothing; its contract is the law.
 pub fn names_law()
     ensures same { NamesLaw }
 {}

@@ -23,6 +23,3 @@ pub use path::{BitId, Path, PathBits, Sink, Source, Step};
 pub use ports::{input_named, output_named, plain_of};
 pub use tracer::Tracer;
 pub use tracing::trace;
-
-#[cfg(test)]
-mod tests;

@@ -43,14 +43,14 @@ pub(crate) fn is_source_port(netlist: &Netlist, net: NetId) -> bool
     false
 }
 
-// Which end of a path a port is asked for.
+/// Which end of a path a port is asked for.
 #[derive(Clone, Copy)]
 pub(crate) enum End {
     Input,
     Output,
 }
 
-// Whether a port of this direction can be such an end.
+/// Whether a port of this direction can be such an end.
 fn can_be(end: End, direction: Direction) -> bool
     ensures value { result ≡ can_be end direction }
 {

@@ -24,7 +24,7 @@ pub(crate) enum Tally {
     More,
 }
 
-// Two sources that differ.
+/// Two sources that differ.
 fn pair_of(one: Source, other: Source) -> Tally
     ensures value { result ≡ pair_of one other }
 {

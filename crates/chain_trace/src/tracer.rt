@@ -67,7 +67,7 @@ impl<'a> Tracer<'a> {
         })
     }
 
-    // What drives an output.
+    /// What drives an output.
     fn port_driver(&self, output: NetId) -> Found
         requires output { IsTrue (has_port is_driven self.now.netlist output) }
         ensures says { Says self.now.netlist self.now.cells (Sink.Port output) result }
@@ -78,7 +78,7 @@ impl<'a> Tracer<'a> {
         )
     }
 
-    // What drives a scan path's in pin.
+    /// What drives a scan path's in pin.
     fn in_driver(&self, instance: u32, path: u32) -> Found
         requires instance { instance < length self.now.netlist.instances }
         ensures says { Says self.now.netlist self.now.cells (Sink.In instance path) result }
@@ -92,7 +92,7 @@ impl<'a> Tracer<'a> {
         whole(self.drivers[self.classes.class_of(net).0 as usize])
     }
 
-    // Walks backward from an output. Each turn takes one step.
+    /// Walks backward from an output. Each turn takes one step.
     fn walk(&self, alloc: Global, output: NetId) -> Result<Path, ReadFault>
         requires output { IsTrue (has_port is_driven self.now.netlist output) }
         ensures path { IfOk result (IsScanPath self.now.netlist self.now.cells output) }

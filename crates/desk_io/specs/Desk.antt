@@ -13,12 +13,15 @@ pub record SlotState : Type 0 where
   pub written : Option (List ℕ)
   pub faults : ℕ
 
+-- the slot was never opened
 abbrev pub IsUnopened : SlotState → Type 0
 IsUnopened slot = slot.stage ≡ Unopened
 
+-- the slot is open
 abbrev pub IsOpen : SlotState → Type 0
 IsOpen slot = slot.stage ≡ Open
 
+-- the slot was opened and closed
 abbrev pub IsClosed : SlotState → Type 0
 IsClosed slot = slot.stage ≡ Closed
 

@@ -17,6 +17,7 @@ name_at names OutDef = names.out_def
 name_at names OutStil = names.out_stil
 name_at names Console = Some []
 
+-- the slot has a name
 abbrev pub IsNamed : Names → Slot → Type 0
 IsNamed names slot = IsSome (name_at names slot)
 

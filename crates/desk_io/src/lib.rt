@@ -28,6 +28,3 @@ pub use put::{PutFault, put_all};
 pub use slot::{INPUTS, SLOTS, Slot, Stage};
 pub use sure::SureDesk;
 pub use take::{TakeFault, take_all};
-
-#[cfg(test)]
-mod tests;

@@ -99,7 +99,7 @@ impl MemoryDesk {
         self.calls
     }
 
-    // Counts a call on the slot, which fails where it is one of the failing ones.
+    /// Counts a call on the slot, which fails where it is one of the failing ones.
     fn begin(&mut self, slot: Slot) -> Result<(), Failed>
         ensures fails { IsErr result ↔ IsFailing self.old }
         ensures ok { OnOk result (self.new ≡ record self.old { calls = next_call self.old }) }

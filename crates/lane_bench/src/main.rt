@@ -154,7 +154,7 @@ fn outside(
     })
 }
 
-// Changes the first byte for an allowed one, so that no round can be left out.
+/// Changes the first byte for an allowed one, so that no round can be left out.
 fn touch(text: &mut [u8], round: usize) {
     if let Some(first) = text.first_mut() {
         *first = if round % 2 == 0 { b'X' } else { b'0' };
@@ -217,7 +217,7 @@ fn gains_of_rows(
     })
 }
 
-// Other points in each round, and a limit that no sum is below, so that each call goes over the whole rows.
+/// Other points in each round, and a limit that no sum is below, so that each call goes over the whole rows.
 fn aim(round: usize) -> (i64, i64, i64, i64, i64)
     ensures { AreNear result.0 result.1 result.2 result.3 }
 {

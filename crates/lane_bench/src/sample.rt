@@ -71,7 +71,7 @@ impl Sample {
         )
     }
 
-    // Hundredths of the kernel's unit.
+    /// Hundredths of the kernel's unit.
     fn hundredths(&self, kernel: Kernel, time: Duration) -> u128 {
         let elements = (self.length as u128)
             .saturating_mul(self.rounds as u128)

@@ -67,7 +67,7 @@ pub fn any_byte_outside(bytes: &[u8], allowed: &[u8]) -> Option<usize>
     None
 }
 
-// How many of the 32 bytes from `at` on are `b`.
+/// How many of the 32 bytes from `at` on are `b`.
 #[inline(always)]
 fn count_in(bytes: &[u8], at: usize, b: u8) -> u32
     requires { at + 32 ≤ length bytes.now }
@@ -77,7 +77,7 @@ fn count_in(bytes: &[u8], at: usize, b: u8) -> u32
     lanes.simd_eq(u8x32::splat(b)).to_bitmask().count_ones()
 }
 
-// Flips the 32 symbols from `at` on where the mask is not 0.
+/// Flips the 32 symbols from `at` on where the mask is not 0.
 #[inline(always)]
 fn flip_in(symbols: &mut [u8], mask: &[u8], at: usize)
     requires symbols { at + 32 ≤ length symbols.old }
@@ -100,7 +100,7 @@ fn flip_in(symbols: &mut [u8], mask: &[u8], at: usize)
     out.copy_to_slice(&mut symbols[at..]);
 }
 
-// How many of the 32 bytes from `at` on come before the first that is not allowed.
+/// How many of the 32 bytes from `at` on come before the first that is not allowed.
 #[inline(always)]
 fn allowed_in(bytes: &[u8], at: usize, allowed: &[u8]) -> u32
     requires { at + 32 ≤ length bytes.now }

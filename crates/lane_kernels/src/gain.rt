@@ -50,7 +50,7 @@ pub fn first_gain(
     None
 }
 
-// How many of the four places from `at` on come before the first whose sum is less than the limit.
+/// How many of the four places from `at` on come before the first whose sum is less than the limit.
 #[inline(always)]
 fn places_before(
     aim: &Aim,

@@ -9,8 +9,6 @@
 mod bytes;
 mod gain;
 pub mod plain;
-#[cfg(test)]
-mod tests;
 
 pub use bytes::{any_byte_outside, count_byte, flip_where};
 pub use gain::first_gain;

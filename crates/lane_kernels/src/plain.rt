@@ -26,7 +26,7 @@ pub fn flip_where(symbols: &mut [u8], mask: &[u8])
     }
 }
 
-// Exchanges the symbol at one place, if the mask is not 0 there.
+/// Exchanges the symbol at one place, if the mask is not 0 there.
 pub(crate) fn flip_at(symbols: &mut [u8], mask: &[u8], at: usize)
     requires symbols { at < length symbols.old }
     requires mask { at < length mask.now }
@@ -37,7 +37,7 @@ pub(crate) fn flip_at(symbols: &mut [u8], mask: &[u8], at: usize)
     }
 }
 
-// `0` for `1`, `1` for `0`, `L` for `H`, `H` for `L`, and every other symbol for itself.
+/// `0` for `1`, `1` for `0`, `L` for `H`, `H` for `L`, and every other symbol for itself.
 fn flipped(symbol: u8) -> u8
     ensures value { result ≡ flipped symbol }
 {
@@ -75,7 +75,7 @@ pub(crate) struct Aim {
     pub limit: i64,
 }
 
-// Whether the sum at place k is less than the limit.
+/// Whether the sum at place k is less than the limit.
 pub(crate) fn is_gain(
     aim: &Aim,
     ex: &[i64],
@@ -149,7 +149,7 @@ pub fn are_rows(ex: &[i64], ey: &[i64], nx: &[i64], ny: &[i64], c: &[i64]) -> bo
         && are_within(c, 1 << 60)
 }
 
-// Whether each number is at most `most` in size.
+/// Whether each number is at most `most` in size.
 fn are_within(xs: &[i64], most: u64) -> bool
     ensures value { IsTrue result ↔ AllWithin most xs.now }
 {

@@ -19,12 +19,15 @@ abbrev pub sink_key : Sink → Option ℕ × ℕ
 sink_key (sinks.Port net) = (None, net.0)
 sink_key (sinks.In instance path) = (Some instance, path)
 
+-- a link by numbers
 abbrev pub Key : Type 0
 Key = Option (ℕ × ℕ) × ℕ × Option ℕ × ℕ
 
+-- the numbers of a link
 abbrev pub key_of : Link → Key
 key_of link = ((source_key link.0).0, (source_key link.0).1, (sink_key link.1).0, (sink_key link.1).1)
 
+-- the same numbers
 abbrev pub same_key : Key → Key → Bool
 same_key a b = ((option_eq (λ x y. x.0 == y.0 && x.1 == y.1) a.0 b.0 && a.1 == b.1) && option_eq ◌==◌ a.2 b.2) && a.3 == b.3
 

@@ -23,6 +23,7 @@ abbrev pub edited_expr : Option NetId → Expr → Expr
 edited_expr None expr = expr
 edited_expr (Some net) expr = record { bits = Net net ∷ []; span = expr.span }
 
+-- the in pin of a scan path
 abbrev pub input_of : Option ScanPath → List ℕ
 input_of None = []
 input_of (Some path) = path.input
@@ -31,12 +32,15 @@ input_of (Some path) = path.input
 abbrev pub is_edit_of_pin : Netlist → Cells → ℕ → List ℕ → PinEdit → Bool
 is_edit_of_pin n cells instance pin e = e.instance == instance && bytes_eq (input_of (scan_path_at n cells e.instance e.path)) pin
 
+-- the net that the edits put at a pin, if any does
 abbrev pub pin_source : Netlist → Cells → List PinEdit → ℕ → List ℕ → Option NetId
 pin_source n cells pins instance pin = option_map (λ e. e.source) (find (is_edit_of_pin n cells instance pin) pins)
 
+-- a connection with the edits
 abbrev pub edited_connection : Netlist → Cells → List PinEdit → ℕ → Connection → Connection
 edited_connection n cells pins instance c = record { pin = c.pin; expr = edited_expr (pin_source n cells pins instance c.pin) c.expr }
 
+-- an instance with the edits
 abbrev pub edited_instance : Netlist → Cells → List PinEdit → ℕ → Instance → Instance
 edited_instance n cells pins k placed = record {
   name = placed.name;
@@ -50,9 +54,11 @@ abbrev pub map_from : {X Y : Type 0} → (ℕ → X → Y) → ℕ → List X �
 map_from f k [] = []
 map_from f k (x ∷ xs) = f k x ∷ map_from f (k + 1) xs
 
+-- the net that the edits put at the right of an assign, if any does
 abbrev pub assign_source : List PortEdit → ℕ → Option NetId
 assign_source ports k = option_map (λ e. e.source) (find (λ e. e.assign == k) ports)
 
+-- an assign with the edits
 abbrev pub edited_assign : List PortEdit → ℕ → Assign → Assign
 edited_assign ports k assign = record { left = assign.left; right = edited_expr (assign_source ports k) assign.right; line = assign.line }
 

@@ -13,12 +13,15 @@ is_sink_pin sinks instance pin = list_any (λ sink. bytes_eq sink.instance insta
 abbrev pub erased_pin : Sinks → List ℕ → (List ℕ × List NamedBit) → List ℕ × List NamedBit
 erased_pin sinks instance connection = (connection.0, if is_sink_pin sinks instance connection.0 then [] else connection.1)
 
+-- an instance with its sinks blank
 abbrev pub erased_instance : Sinks → NamedInstance → NamedInstance
 erased_instance sinks placed = record { name = placed.name; cell = placed.cell; pins = map (erased_pin sinks placed.name) placed.pins }
 
+-- the name is one of these
 abbrev pub has_name : List (List ℕ) → List ℕ → Bool
 has_name names name = list_any (λ other. bytes_eq other name) names
 
+-- the bit is that of a port that is a sink
 abbrev pub is_sink_bit : Sinks → NamedBit → Bool
 is_sink_bit sinks (Named name) = has_name sinks.ports name
 is_sink_bit sinks Low = false

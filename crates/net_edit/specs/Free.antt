@@ -20,9 +20,11 @@ is_bit_of net Unknown = false
 abbrev pub count_in : NetId → List Bit → ℕ
 count_in net bits = count_by (is_bit_of net) bits
 
+-- how often a net stands in an assign
 abbrev pub count_in_assign : NetId → Assign → ℕ
 count_in_assign net assign = count_in net assign.left.bits + count_in net assign.right.bits
 
+-- how often a net stands in an instance's connections
 abbrev pub count_in_instance : NetId → Instance → ℕ
 count_in_instance net placed = sum_by (λ connection. count_in net connection.expr.bits) placed.connections
 

@@ -21,6 +21,7 @@ abbrev pub last_source : Source → List Step → Source
 last_source source [] = source
 last_source source (step ∷ steps) = last_source (sources.Out step) steps
 
+-- what drives the output of a path
 abbrev pub last_of : Path → Source
 last_of path = last_source (sources.Port path.input) path.steps
 
@@ -43,6 +44,7 @@ pub record IsReordered (n : Netlist) (cells : Cells) (old new : Path) : Type 0 w
   pub apart : ArePinsApart n cells old.steps
   pub free : last_of new ≢ last_of old → is_free n old.output ≡ true
 
+-- the in pin of a step
 abbrev pub sink_pin_of : Option Instance → Option ScanPath → List SinkPin
 sink_pin_of None path = []
 sink_pin_of (Some placed) None = []

@@ -20,7 +20,7 @@ fn is_sink_bit(nets: &[NetName], sinks: &Sinks, bit: Bit) -> bool
     }
 }
 
-// Whether the whole left side is the net bit of a scan output. Of sides that differ in width the shorter counts.
+/// Whether the whole left side is the net bit of a scan output. Of sides that differ in width the shorter counts.
 fn is_sink_assign(nets: &[NetName], sinks: &Sinks, left: &[Bit], right: &[Bit]) -> bool
     ensures value { result ≡ is_sink_assign sinks.now (map (λ p. (named_bit nets.now p.0, named_bit nets.now p.1)) (pairs left.now right.now)) }
 {

@@ -18,7 +18,7 @@ use chain_trace::{Path, Sink, Source, source_net};
 use netlist_core::{NetId, Netlist};
 use std::alloc::Global;
 
-// The edit of an in pin that gets another source.
+/// The edit of an in pin that gets another source.
 fn put_pin(
     pins: &mut Rows<PinEdit>,
     netlist: &Netlist,
@@ -39,7 +39,7 @@ fn put_pin(
     })
 }
 
-// The edit of an output that gets another source.
+/// The edit of an output that gets another source.
 fn put_port(
     ports: &mut Rows<PortEdit>,
     netlist: &Netlist,

@@ -14,7 +14,7 @@ fn is_bit_of(net: NetId, bit: Bit) -> bool
     }
 }
 
-// Of two counts the sum, where more than two counts as two.
+/// Of two counts the sum, where more than two counts as two.
 fn both(a: u32, b: u32) -> u32
     requires a { a ≤ 2 }
     requires b { b ≤ 2 }

@@ -21,6 +21,3 @@ pub use edits::{Edits, PinEdit, PortEdit};
 pub use erasure::erased;
 pub use free::is_free;
 pub use sinks::{SinkPin, Sinks};
-
-#[cfg(test)]
-mod tests;

@@ -27,6 +27,7 @@ abbrev pub IsChain : (ℕ → ℕ → Type 0) → ℕ → List ℕ → ℕ → T
 IsChain Sides a [] b = a ≡ b
 IsChain Sides a (c ∷ cs) b = Sides a c × IsChain Sides c cs b
 
+-- a chain of sides leads from one net to the other
 pub record AreLinked (Sides : ℕ → ℕ → Type 0) (a b : ℕ) : Type 0 where
   pub over : List ℕ
   pub chain : IsChain Sides a over b

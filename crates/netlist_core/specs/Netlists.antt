@@ -47,6 +47,7 @@ pairs [] rs = []
 pairs (l ∷ ls) [] = []
 pairs (l ∷ ls) (r ∷ rs) = (l, r) ∷ pairs ls rs
 
+-- both sides of an assign, bit by bit
 abbrev pub bit_pairs : Assign → List (Bit × Bit)
 bit_pairs assign = pairs assign.left.bits assign.right.bits
 
@@ -54,22 +55,27 @@ bit_pairs assign = pairs assign.left.bits assign.right.bits
 abbrev pub plain_of : List NetName → NetId → List ℕ
 plain_of nets net = (slice_index_or nets net.0 (record { plain = []; text = [] })).plain
 
+-- a bit by its name
 abbrev pub named_bit : List NetName → Bit → NamedBit
 named_bit nets (Net net) = Named (plain_of nets net)
 named_bit nets Zero = Low
 named_bit nets One = High
 named_bit nets Unknown = Undefined
 
+-- a port by its name
 abbrev pub named_port : List NetName → Port → NamedPort
 named_port nets port = record { name = plain_of nets port.net; direction = port.direction }
 
+-- a pin with its bits by their names
 abbrev pub named_pin : List NetName → Connection → List ℕ × List NamedBit
 named_pin nets connection = (connection.pin, map (named_bit nets) connection.expr.bits)
 
+-- an instance with its bits by their names
 abbrev pub named_instance : List NetName → Instance → NamedInstance
 named_instance nets instance =
     record { name = instance.name; cell = instance.cell; pins = map (named_pin nets) instance.connections }
 
+-- the pairs of an assign by their names
 abbrev pub named_assign : List NetName → Assign → List (NamedBit × NamedBit)
 named_assign nets assign = map (λ p. (named_bit nets p.0, named_bit nets p.1)) (bit_pairs assign)
 
@@ -82,6 +88,12 @@ named n = record {
   assigns = map (named_assign n.nets) n.assigns;
   instances = map (named_instance n.nets) n.instances;
 }
+
+-- the ports, the assigns and the instances are the same by names; what other nets there are is free
+pub record AreWiredAlike (n m : Netlist) : Type 0 where
+  pub ports : (named n).ports ≡ (named m).ports
+  pub assigns : (named n).assigns ≡ (named m).assigns
+  pub instances : (named n).instances ≡ (named m).instances
 
 -- no two members are the same
 abbrev pub AreDistinct : {X : Type 0} → List X → Type 0

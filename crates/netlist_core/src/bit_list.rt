@@ -1,4 +1,4 @@
-ghost use Rattle.std.specs.Prelude.{◌≡◌, [], ◌∷◌, ◌++◌, IfOk, OnOk};
+ghost use Rattle.std.specs.Prelude.{◌≡◌, [], ◌∷◌, ◌++◌, IfOk, OnOk, OnErr};
 
 use crate::netlist::Bit;
 use base_types::NoMemory;
@@ -58,6 +58,22 @@ impl Bits {
         })
     }
 
+    /// These bits, from the left; takes no memory.
+    pub fn of(bits: Vec<Bit>) -> Bits
+        ensures value { result ≡ bits.items }
+    {
+        Bits {
+            bits: SmallVec::from_vec(bits),
+        }
+    }
+
+    /// The bits as a vector, or want of memory. Up to two lie in the value itself and need a place; more take no memory.
+    pub fn into_vec(self) -> Result<Vec<Bit>, NoMemory>
+        ensures value { IfOk result (λ bits. bits.items ≡ self) }
+    {
+        Ok(self.bits.into_vec()?)
+    }
+
     /// The bits in order, from the left. Takes no memory.
     pub fn as_slice(&self) -> &[Bit]
         ensures value { result.now ≡ self.now }
@@ -65,9 +81,10 @@ impl Bits {
         self.bits.as_slice()
     }
 
-    /// Puts a bit behind the last one.
+    /// Puts a bit behind the last one; after want of memory the bits are as before.
     pub fn push(&mut self, bit: Bit) -> Result<(), NoMemory>
         ensures ok { OnOk result (self.new ≡ self.old ++ bit ∷ []) }
+        ensures unchanged { OnErr result (self.new ≡ self.old) }
     {
         self.bits.push(bit)?;
         Ok(())

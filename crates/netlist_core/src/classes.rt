@@ -34,7 +34,7 @@ impl Classes {
     }
 }
 
-// Each net as its own parent.
+/// Each net as its own parent.
 pub(crate) fn alone(alloc: Global, nets: usize) -> Result<Vec<u32>, NoMemory>
     requires { nets < 4294967296 }
     ensures len { IfOk result (λ parents. length parents.items ≡ nets) }
@@ -47,7 +47,7 @@ pub(crate) fn alone(alloc: Global, nets: usize) -> Result<Vec<u32>, NoMemory>
     Ok(parents)
 }
 
-// The root of a net. Each second net on the way gets its parent's parent, so that later ways are short.
+/// The root of a net. Each second net on the way gets its parent's parent, so that later ways are short.
 fn root_of(parents: &mut Vec<u32>, net: u32) -> u32
     requires within { net < length parents.old.items }
     requires falls { Falls parents.old.items }
@@ -67,7 +67,7 @@ fn root_of(parents: &mut Vec<u32>, net: u32) -> u32
     at as u32
 }
 
-// Joins two nets: the greater root gets the lesser one as its parent.
+/// Joins two nets: the greater root gets the lesser one as its parent.
 fn link(parents: &mut Vec<u32>, a: u32, b: u32)
     requires a_within { a < length parents.old.items }
     requires b_within { b < length parents.old.items }
@@ -114,7 +114,7 @@ fn join_sides(parents: &mut Vec<u32>, left: &[Bit], right: &[Bit])
     }
 }
 
-// Gives each net its root as its parent.
+/// Gives each net its root as its parent.
 fn flatten(parents: &mut Vec<u32>)
     requires falls { Falls parents.old.items }
     ensures len { length parents.new.items ≡ length parents.old.items }

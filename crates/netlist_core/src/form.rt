@@ -125,7 +125,7 @@ fn are_instances(alloc: Global, instances: &[Instance], count: usize) -> Result<
     Ok(true)
 }
 
-// Whether no net name, no port's net and no instance name stands twice.
+/// Whether no net name, no port's net and no instance name stands twice.
 fn has_each_once(alloc: Global, netlist: &Netlist) -> Result<bool, NoMemory>
     ensures value { IfOk result (λ once. IsTrue once ↔ AreDistinct (map (λ net. net.plain) netlist.now.nets) × AreDistinct (map (λ port. port.net.0) netlist.now.ports) × AreDistinct (map (λ instance. instance.name) netlist.now.instances)) }
 {
@@ -139,7 +139,7 @@ fn has_each_once(alloc: Global, netlist: &Netlist) -> Result<bool, NoMemory>
     )
 }
 
-// Whether the nets and instances are few enough, and the ports and assigns are over these nets.
+/// Whether the nets and instances are few enough, and the ports and assigns are over these nets.
 fn has_parts(netlist: &Netlist) -> bool
     ensures value { IsTrue result ↔ (length netlist.now.nets < 2 ^ 32) × (length netlist.now.instances < 2 ^ 32) × All (λ port. port.net.0 < length netlist.now.nets) netlist.now.ports × All (IsAssign (length netlist.now.nets)) netlist.now.assigns × (netlist.now.declared ≤ length netlist.now.nets) }
 {

@@ -19,6 +19,3 @@ pub use netlist::{
     Assign, Bit, Connection, Direction, Expr, Instance, NetId, NetName, Netlist, Port,
 };
 pub use pins::net_of;
-
-#[cfg(test)]
-mod tests;

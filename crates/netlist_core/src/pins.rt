@@ -7,7 +7,7 @@ ghost use Rattle.netlist_core.specs.Netlists.{single_net, net_at};
 use crate::netlist::{Bit, Connection, NetId, Netlist};
 use base_types::Name;
 
-// The net of an expression that is one net bit.
+/// The net of an expression that is one net bit.
 fn single_net(bits: &[Bit]) -> Option<NetId>
     ensures value { result ≡ single_net bits.now }
 {
@@ -17,7 +17,7 @@ fn single_net(bits: &[Bit]) -> Option<NetId>
     }
 }
 
-// Whether a connection is that of a pin.
+/// Whether a connection is that of a pin.
 fn is_of(connection: &Connection, pin: &Name) -> bool
     ensures value { result ≡ bytes_eq connection.now.pin pin.now }
 {

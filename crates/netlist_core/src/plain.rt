@@ -10,7 +10,7 @@ use crate::netlist::{Bit, Netlist};
 use base_types::NoMemory;
 use std::alloc::Global;
 
-// Gives the class `from` the number `to`.
+/// Gives the class `from` the number `to`.
 fn merge(classes: &mut Vec<u32>, from: u32, to: u32)
     ensures len { length classes.new.items ≡ length classes.old.items }
     ensures each { (k : ℕ) → k < length classes.old.items → slice_index classes.new.items k ≡ merged from to (slice_index classes.old.items k) }

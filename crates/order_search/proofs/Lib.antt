@@ -1,4 +1,6 @@
 pub mod Turns
+pub mod Small
+pub mod Lanes
 pub mod Pinned
 pub mod Different
 pub mod Legal

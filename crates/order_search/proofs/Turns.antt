@@ -1,7 +1,6 @@
 -- What a reversed run changes.
-use Rattle.std.proofs.Common.{◌≡◌, ℕ, ◌+◌, ◌-◌, ◌<◌, ◌≤◌, List, [], ◌∷◌, ◌++◌, length, take, drop, reverse, get_or, Option, refl, sym, ap, ◌∙◌, arith, append_assoc, subst, slice_get, inl, inr, suc, zero}
+use Rattle.std.proofs.Common.{◌≡◌, ℕ, ◌+◌, ◌-◌, ◌<◌, ◌≤◌, List, [], ◌∷◌, ◌++◌, length, take, drop, reverse, get_or, Option, refl, sym, ap, ◌∙◌, arith, append_assoc, subst, slice_get, suc, zero}
 use Rattle.std.proofs.lemmas.List.{take_more, reverse-append, take-append-drop, drop-drop, length-take-le, length-drop, get_or-drop, length-reverse}
-use Rattle.std.proofs.lemmas.Bool.{cases_lt}
 use Rattle.std.proofs.lemmas.List.Elements.{All-get_or, All-from_get_or}
 use Rattle.std.proofs.lemmas.List.Sorted.{All-permutation, length_permutation}
 use Rattle.std.proofs.lemmas.Slice.{drop-put_mid}
@@ -59,41 +58,6 @@ run_grown e us i j h fw bw x y l k r p q =
     (subst (λ (m : ℕ). IsRun e (take (j + 1 - i) (drop i us)) h v (fw + x) (bw + m)) (sym q)
     (subst (λ (m : ℕ). IsRun e (take (j + 1 - i) (drop i us)) h v (fw + m) (bw + link_of (exit_at e v) (entry_at e (get_or us (j - 1) 0)))) (sym p)
     (subst (λ (w : List ℕ). IsRun e w h v (fw + link_of (exit_at e (get_or us (j - 1) 0)) (entry_at e v)) (bw + link_of (exit_at e v) (entry_at e (get_or us (j - 1) 0)))) b s)))
-
--- the four links that the code compares, and what follows for the run up to j
-pub record Compared (e : ChainEnds) (us : List ℕ) (i m h t fw bw now then : ℕ) : Type 0 where
-  pub run : IsRun e (take m (drop i us)) h t fw bw
-  pub before : now ≡ link_of (end_of e.exit e.start (take i us)) (entry_at e h) + fw + link_of (exit_at e t) (first_of e.entry e.stop (drop (i + m) us))
-  pub after : then ≡ link_of (end_of e.exit e.start (take i us)) (entry_at e t) + bw + link_of (exit_at e h) (first_of e.entry e.stop (drop (i + m) us))
-
-pub is_shorter : (e : ChainEnds) (us : List ℕ) (i m h t fw bw now then : ℕ) → Compared e us i m h t fw bw now then → then < now → length_of e (reversed_run us i m) < length_of e us
-is_shorter e us i m h t fw bw now then q l = omega (arith, run_changes e us i m h t fw bw q.run, q.before, q.after)
-
-pub is_settled : (e : ChainEnds) (us : List ℕ) (i m h t fw bw now then : ℕ) → Compared e us i m h t fw bw now then → now ≤ then → length_of e us ≤ length_of e (reversed_run us i m)
-is_settled e us i m h t fw bw now then q l = omega (arith, run_changes e us i m h t fw bw q.run, q.before, q.after)
-
--- from what the calls gave
-pub compared : (e : ChainEnds) (us : List ℕ) (i j h t fw bw : ℕ) (before after he hx te tx : Option Point) (p q r s : ℕ) → i < j
-    → IsRun e (take (j + 1 - i) (drop i us)) h t fw bw
-    → before ≡ end_of e.exit e.start (take i us) → after ≡ first_of e.entry e.stop (drop (j + 1) us) → he ≡ entry_at e h → hx ≡ exit_at e h → te ≡ entry_at e t → tx ≡ exit_at e t
-    → p ≡ link_of before he → q ≡ link_of tx after → r ≡ link_of before te → s ≡ link_of hx after
-    → Compared e us i (j + 1 - i) h t fw bw (p + fw + q) (r + bw + s)
-compared e us i j h t fw bw before after he hx te tx p q r s l run eb ea ehe ehx ete etx ep eq er es =
-    let k : j + 1 ≡ i + (j + 1 - i) = omega arith in
-    let eo : after ≡ first_of e.entry e.stop (drop (i + (j + 1 - i)) us) = ea ∙ ap (λ (n : ℕ). first_of e.entry e.stop (drop n us)) k in
-    let gp : p ≡ link_of (end_of e.exit e.start (take i us)) (entry_at e h) = ep ∙ (λ n. link_of (eb n) (ehe n)) in
-    let gq : q ≡ link_of (exit_at e t) (first_of e.entry e.stop (drop (i + (j + 1 - i)) us)) = eq ∙ (λ n. link_of (etx n) (eo n)) in
-    let gr : r ≡ link_of (end_of e.exit e.start (take i us)) (entry_at e t) = er ∙ (λ n. link_of (eb n) (ete n)) in
-    let gs : s ≡ link_of (exit_at e h) (first_of e.entry e.stop (drop (i + (j + 1 - i)) us)) = es ∙ (λ n. link_of (ehx n) (eo n)) in
-    record { run = run; before = (λ n. gp n + fw + gq n); after = (λ n. gr n + bw + gs n) }
-
--- every run up to the one that was compared
-pub settled_more : (e : ChainEnds) (us : List ℕ) (i j : ℕ) → i < j → ((m : ℕ) → m ≤ j - i → length_of e us ≤ length_of e (reversed_run us i m)) → length_of e us ≤ length_of e (reversed_run us i (j + 1 - i))
-    → (m : ℕ) → m ≤ j + 1 - i → length_of e us ≤ length_of e (reversed_run us i m)
-settled_more e us i j l h g m k = elim (cases_lt (j - i) m) [
-  | inl a ↦ (let n : j + 1 - i ≡ m = omega arith in subst (λ (q : ℕ). length_of e us ≤ length_of e (reversed_run us i q)) n g)
-  | inr b ↦ h m b
-]
 
 -- the same units in another order are in range too
 pub within_moved : (n : ℕ) (us vs : List ℕ) → IsPermutation us vs → AreWithin us n → AreWithin vs n

@@ -1,5 +1,6 @@
 pub mod Steps
 pub mod Runs
+pub mod Sums
 pub mod Searches
 pub mod Nearest
 pub mod Trials

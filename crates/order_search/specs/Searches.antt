@@ -5,6 +5,7 @@ use Rattle.chain_rules.specs.declared.unit.Rules.{Rules}
 use Rattle.wire_cost.specs.declared.ends.Ends.{Ends}
 use Rattle.wire_cost.specs.Lengths.{ArePlaced}
 
+-- what a search asks of the rules and the places
 pub record AreSearchable (rules : Rules) (ends : Ends) : Type 0 where
   -- every place is near
   pub placed : ArePlaced ends

@@ -19,9 +19,11 @@ pub record HasGain (changes : Plan → Plan → Type 0) (rules : Rules) (ends : 
   pub change : changes p plan
   pub gain : IsGain rules ends p plan
 
+-- the plan with a run of one chain reversed
 abbrev pub turned_plan : Plan → ℕ → ℕ → ℕ → Plan
 turned_plan p c i m = with_chain p c (reversed_run (chain_at p c) i m)
 
+-- a place in a chain
 abbrev pub at : ℕ → ℕ → Position
 at c i = record { chain = c; place = i }
 

@@ -12,7 +12,7 @@ use chain_rules::{Plan, Rules};
 use std::alloc::Global;
 use wire_cost::{Ends, entry_of, exit_of, wire};
 
-// The place of the unit with the least link from `from`, the first on a tie.
+/// The place of the unit with the least link from `from`, the first on a tie.
 fn nearest_of(ends: &Ends, from: Option<Point>, left: &[u32]) -> usize
     requires near { AreNear ends.now.entry }
     requires from { IsNearOrNowhere from }
@@ -34,7 +34,7 @@ fn nearest_of(ends: &Ends, from: Option<Point>, left: &[u32]) -> usize
     best
 }
 
-// The units of a chain as read, each the nearest to what stands before it, and a pinned one last.
+/// The units of a chain as read, each the nearest to what stands before it, and a pinned one last.
 fn nearest_chain(
     alloc: Global,
     rules: &Rules,

@@ -12,7 +12,7 @@ use chain_rules::{Plan, Rules};
 use std::alloc::Global;
 use wire_cost::{Ends, Sums};
 
-// The number of units in the longest chain.
+/// The number of units in the longest chain.
 fn longest_chain(plan: &Plan) -> usize
     ensures longest { (c : ℕ) → c < length plan.now.chains → length (chain_at plan.now c) ≤ result }
 {

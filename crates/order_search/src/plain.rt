@@ -23,7 +23,7 @@ pub fn length_of(rules: &Rules, ends: &Ends, plan: &Plan) -> i64
     plan_length(ends, plan)
 }
 
-// Whether the new plan is legal and shorter than the old one.
+/// Whether the new plan is legal and shorter than the old one.
 fn is_gain(rules: &Rules, ends: &Ends, old: &Plan, new: &Plan) -> bool
     requires searchable { AreSearchable rules.now ends.now }
     requires legal { IsLegal rules.now old.now }
@@ -32,7 +32,7 @@ fn is_gain(rules: &Rules, ends: &Ends, old: &Plan, new: &Plan) -> bool
     is_legal(rules, new) && length_of(rules, ends, new) < length_of(rules, ends, old)
 }
 
-// The plan with a run of one chain reversed.
+/// The plan with a run of one chain reversed.
 fn turned(alloc: Global, plan: &Plan, c: usize, i: usize, m: usize) -> Result<Plan, NoMemory>
     requires chain { c < length plan.now.chains }
     requires run { i + m ≤ length (chain_at plan.now c) }
@@ -46,7 +46,7 @@ fn turned(alloc: Global, plan: &Plan, c: usize, i: usize, m: usize) -> Result<Pl
     Ok(plan)
 }
 
-// The plan with the unit at place i of chain c put at place j of chain d.
+/// The plan with the unit at place i of chain c put at place j of chain d.
 fn moved(
     alloc: Global,
     plan: &Plan,
@@ -67,7 +67,7 @@ fn moved(
     Ok(plan)
 }
 
-// Puts another unit at a place.
+/// Puts another unit at a place.
 fn replace(alloc: Global, plan: &mut Plan, c: usize, i: usize, unit: u32)
     requires chain { c < length plan.old.chains }
     requires place { i < length (chain_at plan.old c) }
@@ -79,7 +79,7 @@ fn replace(alloc: Global, plan: &mut Plan, c: usize, i: usize, unit: u32)
     plan.exchange(c, &mut units);
 }
 
-// The plan with the unit at place i of chain c and the one at place j of chain d exchanged.
+/// The plan with the unit at place i of chain c and the one at place j of chain d exchanged.
 fn swapped(
     alloc: Global,
     plan: &Plan,
@@ -103,7 +103,7 @@ fn swapped(
     Ok(plan)
 }
 
-// Whether a reversed run that begins at place i of chain c is a gain.
+/// Whether a reversed run that begins at place i of chain c is a gain.
 fn has_turn_at(
     alloc: Global,
     rules: &Rules,
@@ -127,7 +127,7 @@ fn has_turn_at(
     Ok(false)
 }
 
-// Whether a reversed run of chain c is.
+/// Whether a reversed run of chain c is.
 fn has_turn_in(
     alloc: Global,
     rules: &Rules,
@@ -149,7 +149,7 @@ fn has_turn_in(
     Ok(false)
 }
 
-// Whether a reversed run of any chain is.
+/// Whether a reversed run of any chain is.
 fn has_turn(alloc: Global, rules: &Rules, ends: &Ends, plan: &Plan) -> Result<bool, NoMemory>
     requires searchable { AreSearchable rules.now ends.now }
     requires legal { IsLegal rules.now plan.now }
@@ -164,7 +164,7 @@ fn has_turn(alloc: Global, rules: &Rules, ends: &Ends, plan: &Plan) -> Result<bo
     Ok(false)
 }
 
-// How many units chain d has once one of chain c is taken out.
+/// How many units chain d has once one of chain c is taken out.
 fn len_without(plan: &Plan, c: usize, i: usize, d: usize) -> usize
     requires chain { c < length plan.now.chains }
     requires place { i < length (chain_at plan.now c) }
@@ -176,7 +176,7 @@ fn len_without(plan: &Plan, c: usize, i: usize, d: usize) -> usize
     if c == d { units - 1 } else { units }
 }
 
-// Whether a move of the unit at place i of chain c to chain d is a gain.
+/// Whether a move of the unit at place i of chain c to chain d is a gain.
 fn has_move_to(
     alloc: Global,
     rules: &Rules,
@@ -202,7 +202,7 @@ fn has_move_to(
     Ok(false)
 }
 
-// Whether a move of it to any chain is.
+/// Whether a move of it to any chain is.
 fn has_move_of(
     alloc: Global,
     rules: &Rules,
@@ -226,7 +226,7 @@ fn has_move_of(
     Ok(false)
 }
 
-// Whether a move of a unit of chain c is.
+/// Whether a move of a unit of chain c is.
 fn has_move_in(
     alloc: Global,
     rules: &Rules,
@@ -248,7 +248,7 @@ fn has_move_in(
     Ok(false)
 }
 
-// Whether a move of any unit is.
+/// Whether a move of any unit is.
 fn has_move(alloc: Global, rules: &Rules, ends: &Ends, plan: &Plan) -> Result<bool, NoMemory>
     requires searchable { AreSearchable rules.now ends.now }
     requires legal { IsLegal rules.now plan.now }
@@ -263,7 +263,7 @@ fn has_move(alloc: Global, rules: &Rules, ends: &Ends, plan: &Plan) -> Result<bo
     Ok(false)
 }
 
-// Whether an exchange of the unit at place i of chain c with one of chain d is a gain.
+/// Whether an exchange of the unit at place i of chain c with one of chain d is a gain.
 fn has_swap_with(
     alloc: Global,
     rules: &Rules,
@@ -290,7 +290,7 @@ fn has_swap_with(
     Ok(false)
 }
 
-// Whether an exchange of it with a unit of any other chain is.
+/// Whether an exchange of it with a unit of any other chain is.
 fn has_swap_of(
     alloc: Global,
     rules: &Rules,
@@ -314,7 +314,7 @@ fn has_swap_of(
     Ok(false)
 }
 
-// Whether an exchange of a unit of chain c is.
+/// Whether an exchange of a unit of chain c is.
 fn has_swap_in(
     alloc: Global,
     rules: &Rules,
@@ -336,7 +336,7 @@ fn has_swap_in(
     Ok(false)
 }
 
-// Whether an exchange of any unit is.
+/// Whether an exchange of any unit is.
 fn has_swap(alloc: Global, rules: &Rules, ends: &Ends, plan: &Plan) -> Result<bool, NoMemory>
     requires searchable { AreSearchable rules.now ends.now }
     requires legal { IsLegal rules.now plan.now }

@@ -1,53 +1,19 @@
 //! Reverses runs of one chain's units until none makes the chain shorter.
 //!
 //! `settle_run` goes over the places and never starts anew: after a gain it goes on at the same place, and it ends after one
-//! whole pass without a gain. A run costs constant time to test, since its inner links are summed up while it grows.
-ghost use Rattle.std.specs.Prelude.{◌≡◌, ℕ, ◌+◌, ◌-◌, ◌*◌, ◌^◌, ◌<◌, ◌≤◌, length, take, drop, Option, Some, IfSome, IfNone, slice_get, slice_index_or, IsPermutation, nat_eq};
+//! whole pass without a gain. A run costs constant time to test, since the sums are filled in anew after each gain.
+ghost use Rattle.std.specs.Prelude.{◌≡◌, ◌+◌, ◌<◌, ◌≤◌, length, drop, IsPermutation, nat_eq};
 ghost use Rattle.std.specs.List.{IsDistinct};
 ghost use Rattle.wire_cost.specs.Lengths.{ArePlaced, AreWithin, IsChainAt, chain_length_of};
-ghost use Rattle.order_search.specs.Runs.{IsFreeCount, IsRunSettled, IsSettledAt};
+ghost use Rattle.order_search.specs.Runs.{IsFreeCount, IsRunSettled};
 ghost use Rattle.order_search.specs.Searches.{AreSearchable};
 ghost use Rattle.order_search.specs.Steps.{IsChainSettled, IsPinnedLast, reversed_run};
 
+use crate::gains::shorter_at;
 use chain_rules::Rules;
-use wire_cost::{Ends, Sums, entry_of, exit_of, point_after, point_before, wire};
+use wire_cost::{Ends, Sums};
 
-// The length of the shortest run from place i on, among the first `limit` places, whose reversal makes the chain shorter.
-fn shorter_at(ends: &Ends, chain: u32, units: &[u32], limit: usize, i: usize) -> Option<usize>
-    requires placed { ArePlaced ends.now }
-    requires chain { IsChainAt ends.now chain units.now }
-    requires below { i < limit }
-    requires within { limit ≤ length units.now }
-    ensures found { IfSome result (λ m. (i + m ≤ limit) × (chain_length_of ends.now chain (reversed_run units.now i m) < chain_length_of ends.now chain units.now)) }
-    ensures none { IfNone result (IsSettledAt ends.now chain units.now limit i) }
-{
-    let before = point_before(ends, chain, units, i);
-    let head = units[i];
-    let head_entry = Some(entry_of(ends, head));
-    let head_exit = Some(exit_of(ends, head));
-    let mut last_entry = head_entry;
-    let mut last_exit = head_exit;
-    let mut forward: u64 = 0;
-    let mut backward: u64 = 0;
-    for j in i + 1..limit {
-        let unit = units[j];
-        let unit_entry = Some(entry_of(ends, unit));
-        let unit_exit = Some(exit_of(ends, unit));
-        forward += wire(last_exit, unit_entry);
-        backward += wire(unit_exit, last_entry);
-        last_entry = unit_entry;
-        last_exit = unit_exit;
-        let after = point_after(ends, chain, units, j + 1);
-        let now = wire(before, head_entry) + forward + wire(last_exit, after);
-        let then = wire(before, last_entry) + backward + wire(head_exit, after);
-        if then < now {
-            return Some(j + 1 - i);
-        }
-    }
-    None
-}
-
-// Reverses the run of m units from place i on.
+/// Reverses the run of m units from place i on.
 pub(crate) fn reverse_run(units: &mut [u32], i: usize, m: usize)
     requires within { i + m ≤ length units.old }
     ensures after { units.new ≡ reversed_run units.old i m }
@@ -63,18 +29,27 @@ pub struct SearchCount {
     pub steps: u64,
 }
 
-// Reverses runs of the first `limit` units until none makes the chain shorter.
-fn settle_run(ends: &Ends, chain: u32, units: &mut [u32], limit: usize) -> SearchCount
+/// Reverses runs of the first `limit` units until none makes the chain shorter.
+fn settle_run(
+    ends: &Ends,
+    chain: u32,
+    units: &mut [u32],
+    sums: &mut Sums,
+    limit: usize,
+) -> SearchCount
     requires placed { ArePlaced ends.now }
     requires chain { IsChainAt ends.now chain units.old }
     requires within { limit ≤ length units.old }
+    requires room { length units.old ≤ sums.old.room }
     ensures permutation { IsPermutation units.old units.new }
     ensures tail { drop limit units.new ≡ drop limit units.old }
     ensures no_longer { chain_length_of ends.now chain units.new ≤ chain_length_of ends.now chain units.old }
     ensures settled { IsRunSettled ends.now chain units.new limit }
     ensures shorter { result.steps + chain_length_of ends.now chain units.new ≤ chain_length_of ends.now chain units.old }
     ensures still { result.steps ≡ 0 → units.new ≡ units.old }
+    ensures room { sums.new.room ≡ sums.old.room }
 {
+    sums.fill(ends, chain, units);
     let mut taken = SearchCount {
         passes: 0,
         steps: 0,
@@ -84,8 +59,9 @@ fn settle_run(ends: &Ends, chain: u32, units: &mut [u32], limit: usize) -> Searc
         again = false;
         taken.passes = taken.passes.saturating_add(1);
         'places: for i in 0..limit {
-            'gains: while let Some(m) = shorter_at(ends, chain, units, limit, i) {
+            'gains: while let Some(m) = shorter_at(ends, chain, units, sums, limit, i) {
                 reverse_run(units, i, m);
+                sums.fill(ends, chain, units);
                 taken.steps = taken.steps.saturating_add(1);
                 again = true;
             }
@@ -94,7 +70,7 @@ fn settle_run(ends: &Ends, chain: u32, units: &mut [u32], limit: usize) -> Searc
     taken
 }
 
-// How many of a chain's units a reversed run may hold: all but a pinned one at the end.
+/// How many of a chain's units a reversed run may hold: all but a pinned one at the end.
 pub(crate) fn free_count(rules: &Rules, units: &[u32]) -> usize
     requires units { AreWithin units.now (length rules.now.units) }
     ensures count { IsFreeCount rules.now units.now result }
@@ -128,7 +104,7 @@ pub fn settle_chain_counted(
     ensures still { result.steps ≡ 0 → units.new ≡ units.old }
 {
     let limit = free_count(rules, units);
-    settle_run(ends, chain, units, limit)
+    settle_run(ends, chain, units, sums, limit)
 }
 
 /// Reverses runs of a chain's units until none makes the chain shorter; a pinned unit stays the last. It takes no memory.

@@ -9,6 +9,3 @@ mod settle;
 mod swaps;
 
 pub use settle::settle_all;
-
-#[cfg(test)]
-mod tests;

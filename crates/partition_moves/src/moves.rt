@@ -10,7 +10,7 @@ use base_types::NoMemory;
 use chain_rules::{Plan, Position, Rules, can_move};
 use wire_cost::{Ends, entry_of, exit_of, point_after, point_before, wire};
 
-// Whether a move that is told to be shorter or not is also legal.
+/// Whether a move that is told to be shorter or not is also legal.
 fn is_move(rules: &Rules, plan: &Plan, shorter: bool, from: Position, to: Position) -> bool
     requires legal { IsLegal rules.now plan.now }
     requires from { IsIn plan.now from }
@@ -20,8 +20,8 @@ fn is_move(rules: &Rules, plan: &Plan, shorter: bool, from: Position, to: Positi
     shorter && can_move(rules, plan, from, to)
 }
 
-// The first place among the units of chain d, of which the unit at place i of chain c is none, where that unit makes the
-// plan shorter and leaves it legal.
+/// The first place among the units of chain d, of which the unit at place i of chain c is none, where that unit makes the
+/// plan shorter and leaves it legal.
 fn place_for(
     rules: &Rules,
     ends: &Ends,
@@ -67,7 +67,7 @@ fn place_for(
     None
 }
 
-// Writes the units of a chain but the one at place i to the first places of a room.
+/// Writes the units of a chain but the one at place i to the first places of a room.
 fn leave_out(us: &[u32], i: usize, room: &mut [u32])
     requires place { i < length us.now }
     requires room { length us.now ≤ length room.old }
@@ -78,7 +78,7 @@ fn leave_out(us: &[u32], i: usize, room: &mut [u32])
     room[i..last].copy_from_slice(&us[i + 1..]);
 }
 
-// The units of chain d but the one at place i of chain c, where `left` are those of chain c.
+/// The units of chain d but the one at place i of chain c, where `left` are those of chain c.
 fn others_of<'a>(plan: &'a Plan, c: usize, i: usize, d: usize, left: &'a [u32]) -> &'a [u32]
     requires chain { c < length plan.now.chains }
     requires other { d < length plan.now.chains }
@@ -91,7 +91,7 @@ fn others_of<'a>(plan: &'a Plan, c: usize, i: usize, d: usize, left: &'a [u32]) 
     plan.chain(d)
 }
 
-// Where the unit at place i of chain c makes the plan shorter and leaves it legal.
+/// Where the unit at place i of chain c makes the plan shorter and leaves it legal.
 fn open_place(
     rules: &Rules,
     ends: &Ends,
@@ -123,7 +123,7 @@ fn open_place(
     None
 }
 
-// Takes a unit out and puts it in at another place.
+/// Takes a unit out and puts it in at another place.
 fn move_unit(plan: &mut Plan, c: usize, i: usize, to: Position) -> Result<(), NoMemory>
     requires chain { c < length plan.old.chains }
     requires place { i < length (chain_at plan.old c) }
@@ -134,7 +134,7 @@ fn move_unit(plan: &mut Plan, c: usize, i: usize, to: Position) -> Result<(), No
     plan.insert(to.chain as usize, to.place as usize, unit)
 }
 
-// Moves each unit of a chain once, where a move makes the plan shorter, and tells whether one did.
+/// Moves each unit of a chain once, where a move makes the plan shorter, and tells whether one did.
 fn moves_from(
     rules: &Rules,
     ends: &Ends,

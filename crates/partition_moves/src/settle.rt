@@ -14,7 +14,7 @@ use order_search::settle_plan;
 use std::alloc::Global;
 use wire_cost::{Ends, Sums};
 
-// Takes steps until none makes the plan shorter.
+/// Takes steps until none makes the plan shorter.
 fn settle_steps(
     rules: &Rules,
     ends: &Ends,
@@ -42,8 +42,8 @@ fn settle_steps(
     Ok(())
 }
 
-// A copy of a plan in which each chain has room for as many units as a legal plan may give it: a unit with bits takes one
-// of its bound at least.
+/// A copy of a plan in which each chain has room for as many units as a legal plan may give it: a unit with bits takes one
+/// of its bound at least.
 fn roomy_copy(alloc: Global, rules: &Rules, plan: &Plan) -> Result<Plan, NoMemory>
     requires chains { length plan.now.chains ≤ length rules.now.chains }
     ensures value { IfOk result (λ copy. copy ≡ plan.now) }

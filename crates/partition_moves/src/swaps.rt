@@ -9,7 +9,7 @@ ghost use Rattle.partition_moves.specs.Quiet.{HasNoSwap};
 use chain_rules::{Plan, Position, Rules, can_swap};
 use wire_cost::{Ends, entry_of, exit_of, point_after, point_before, wire};
 
-// Whether an exchange that is told to be shorter or not is also legal.
+/// Whether an exchange that is told to be shorter or not is also legal.
 fn is_swap(rules: &Rules, plan: &Plan, shorter: bool, one: Position, other: Position) -> bool
     requires legal { IsLegal rules.now plan.now }
     requires one { IsIn plan.now one }
@@ -19,8 +19,8 @@ fn is_swap(rules: &Rules, plan: &Plan, shorter: bool, one: Position, other: Posi
     shorter && can_swap(rules, plan, one, other)
 }
 
-// The first place of chain d whose unit, exchanged with the one at place i of chain c, makes the plan shorter and leaves
-// it legal.
+/// The first place of chain d whose unit, exchanged with the one at place i of chain c, makes the plan shorter and leaves
+/// it legal.
 fn partner_for(
     rules: &Rules,
     ends: &Ends,
@@ -69,7 +69,7 @@ fn partner_for(
     None
 }
 
-// The unit of another chain that, exchanged with the one at place i of chain c, makes the plan shorter and leaves it legal.
+/// The unit of another chain that, exchanged with the one at place i of chain c, makes the plan shorter and leaves it legal.
 fn partner_of(rules: &Rules, ends: &Ends, plan: &Plan, c: usize, i: usize) -> Option<Position>
     requires searchable { AreSearchable rules.now ends.now }
     requires legal { IsLegal rules.now plan.now }
@@ -93,7 +93,7 @@ fn partner_of(rules: &Rules, ends: &Ends, plan: &Plan, c: usize, i: usize) -> Op
     None
 }
 
-// Puts another unit at a place; the list serves as a place for the chain and is as before afterwards.
+/// Puts another unit at a place; the list serves as a place for the chain and is as before afterwards.
 fn replace(plan: &mut Plan, c: usize, i: usize, unit: u32, spare: &mut Vec<u32>)
     requires chain { c < length plan.old.chains }
     requires place { i < length (chain_at plan.old c) }
@@ -104,7 +104,7 @@ fn replace(plan: &mut Plan, c: usize, i: usize, unit: u32, spare: &mut Vec<u32>)
     plan.exchange(c, spare);
 }
 
-// Exchanges two units of two chains.
+/// Exchanges two units of two chains.
 fn swap_units(plan: &mut Plan, c: usize, i: usize, other: Position, spare: &mut Vec<u32>)
     requires chain { c < length plan.old.chains }
     requires place { i < length (chain_at plan.old c) }
@@ -119,7 +119,7 @@ fn swap_units(plan: &mut Plan, c: usize, i: usize, other: Position, spare: &mut 
     replace(plan, d, j, one, spare);
 }
 
-// Exchanges each unit of a chain once, where an exchange makes the plan shorter, and tells whether one did.
+/// Exchanges each unit of a chain once, where an exchange makes the plan shorter, and tells whether one did.
 fn swaps_from(rules: &Rules, ends: &Ends, plan: &mut Plan, c: usize, spare: &mut Vec<u32>) -> bool
     requires searchable { AreSearchable rules.now ends.now }
     requires legal { IsLegal rules.now plan.old }

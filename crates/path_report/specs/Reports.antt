@@ -1,5 +1,5 @@
 -- The text of the scan path of an output, and the faults for which there is none.
-use Rattle.std.specs.Prelude.{◌≡◌, ℕ, Bool, true, false, List, [], ◌∷◌, ◌++◌, length, codes, decimal, Option, Some, None, Ok, Err}
+use Rattle.std.specs.Prelude.{◌≡◌, ℕ, Bool, true, false, List, [], ◌∷◌, ◌++◌, length, codes, decimal, Option, Some, None}
 use Rattle.std.specs.List.{flat_map, slice_get}
 use Rattle.base_types.specs.declared.fault.Fault.{Fault}
 use Rattle.base_types.specs.declared.kind.Kind.TheVariants.{NoPort}
@@ -9,11 +9,12 @@ use Rattle.netlist_core.specs.declared.netlist.NetId.{NetId}
 use Rattle.netlist_core.specs.declared.netlist.Instance.{Instance}
 use Rattle.netlist_core.specs.declared.netlist.Netlist.{Netlist}
 use Rattle.netlist_core.specs.Netlists.{plain_of}
-use Rattle.verilog_checks.specs.Faults.{read_faultless}
+use Rattle.verilog_checks.specs.Faults.{HoldsInVerilog}
 use Rattle.verilog_reader.specs.Denoted.{DenotesNetlist}
 use Rattle.cell_table.specs.declared.paths.ScanPath.{ScanPath}
 use Rattle.cell_table.specs.declared.paths.OutPin.{OutPin}
-use Rattle.cell_table.specs.Cells.{Cells, table_of}
+use Rattle.cell_table.specs.Cells.{Cells}
+use Rattle.cell_table.specs.Entries.{DenotesCells, HoldsInTable}
 use Rattle.chain_trace.specs.declared.path.Step.{Step}
 use Rattle.chain_trace.specs.declared.path.Path.{Path}
 use Rattle.chain_trace.specs.Paths.{scan_path_at, out_pin_at, is_driven, IsScanPath}
@@ -29,9 +30,11 @@ entry_text (Some placed) (Some path) None = []
 entry_text (Some placed) (Some path) (Some out) =
     placed.name ++ 32 ∷ placed.cell ++ 32 ∷ path.input ++ 32 ∷ out.pin ++ 32 ∷ decimal (length path.bits) ++ 10 ∷ []
 
+-- the line of a step
 abbrev pub step_text : Netlist → Cells → Step → List ℕ
 step_text n cells step = entry_text (slice_get n.instances step.instance) (scan_path_at n cells step.instance step.path) (out_pin_at n cells step)
 
+-- a parity, as it is printed
 abbrev pub parity_text : Bool → List ℕ
 parity_text false = codes "0"
 parity_text true = codes "1"
@@ -48,7 +51,7 @@ IsOutputNamed n name net = IsPortNamed is_driven n name net
 
 -- the cells of a table's text, and the netlist of a Verilog text
 pub record AreRead (table verilog : List ℕ) (cells : Cells) (n : Netlist) : Type 0 where
-  pub cells_are : table_of table ≡ Ok cells
+  pub cells_are : DenotesCells table cells
   pub netlist_is : DenotesNetlist verilog n
 
 -- the text of the scan path of an output
@@ -61,14 +64,6 @@ pub record IsPathText (table verilog output text : List ℕ) : Type 0 where
   pub path : Path
   pub is : IsScanPath netlist cells net path
   pub same : text ≡ path_text netlist cells path
-
--- TableSyntax, TableShape: the table's text denotes no cells
-abbrev pub IsTableFault : List ℕ → Fault → Type 0
-IsTableFault table fault = table_of table ≡ Err fault
-
--- VerilogSyntax, SecondModule, VerilogNumber, VerilogTwice, BadSelect: the Verilog text denotes no netlist
-abbrev pub IsVerilogFault : List ℕ → Fault → Type 0
-IsVerilogFault verilog fault = read_faultless verilog ≡ Err fault
 
 -- NoPort: no bit of an output or inout port of the netlist has the name
 pub record IsPortFault (verilog output : List ℕ) (fault : Fault) : Type 0 where
@@ -86,10 +81,11 @@ pub record IsOutputFault (table verilog output : List ℕ) (fault : Fault) : Typ
   pub port : IsOutputNamed netlist output net
   pub met : IsTraceFault netlist cells net fault
 
--- a fault of the texts and of the output's name
+-- a fault of the table (TableSyntax, TableShape), of the Verilog text (VerilogSyntax, SecondModule, VerilogNumber,
+-- VerilogTwice, BadSelect), of the output's name, and of what is met going backward from it
 pub data HoldsInTrace (table verilog output : List ℕ) (fault : Fault) : Type 0 where
-  OfTable : IsTableFault table fault → HoldsInTrace table verilog output fault
-  OfVerilog : IsVerilogFault verilog fault → HoldsInTrace table verilog output fault
+  OfTable : HoldsInTable table fault → HoldsInTrace table verilog output fault
+  OfVerilog : HoldsInVerilog verilog fault → HoldsInTrace table verilog output fault
   OfPort : IsPortFault verilog output fault → HoldsInTrace table verilog output fault
   OfOutput : IsOutputFault table verilog output fault → HoldsInTrace table verilog output fault
 

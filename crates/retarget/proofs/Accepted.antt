@@ -1,13 +1,17 @@
 -- What a call does that is refused for nothing.
-use Rattle.std.proofs.Common.{◌≡◌, ℕ, ◌<◌, ◌≤◌, length, true, false, sym, ap, ◌∙◌, arith, ⊎_elim}
+use Rattle.std.proofs.Common.{◌≡◌, ℕ, ◌<◌, ◌≤◌, length, get_or, true, false, sym, ap, ◌∙◌, arith, ⊎_elim}
 use Rattle.std.proofs.lemmas.Bool.{cases_lt, cases_Bool}
 use Rattle.stil_reader.specs.declared.statement.ScanCall.{ScanCall}
 use Rattle.stil_tester.specs.declared.symbol.Expect.TheVariants.{Any}
 use Rattle.stil_tester.specs.declared.chains.Chains.{Chains}
 use Rattle.stil_tester.specs.Symbols.{flip_if, meets, expect_of}
-use Rattle.stil_tester.specs.Shifting.{AreChains, cell_at, IsCallFor}
-use Rattle.retarget.specs.Places.{parity_after, chain_at, bits_at, longest}
-use Rattle.retarget.specs.Judging.{compare_at, exit_of, is_expectation, IsShortLoad, IsLongCompare, IsAccepted, LoadsCells, ComparesCells}
+use Rattle.std.proofs.lemmas.List.{get_or-map}
+use Rattle.stil_tester.specs.declared.chains.ChainBits.{ChainBits}
+use Rattle.stil_tester.specs.Shifting.{AreChains, bit_counts, cell_at, IsCallFor}
+use Rattle.stil_tester.proofs.Calls.{length-bit_counts}
+use Rattle.retarget.specs.Places.{parity_after, no_bits, chain_at, bits_at, longest}
+use Rattle.stil_reader.specs.Calls.{compare_at, is_expectation}
+use Rattle.retarget.specs.Judging.{exit_of, IsShortLoad, IsLongCompare, IsAccepted, LoadsCells, ComparesCells}
 use Rattle.retarget.proofs.WholeCall.{loaded_is, passed_at, passed_from}
 use Rattle.retarget.proofs.SameMeaning.{bits_within, expect_of_quiet}
 
@@ -18,10 +22,19 @@ long_enough chains call none some =
     (λ (long : longest chains ≤ call.shifts). long)
     (cases_lt call.shifts (longest chains))
 
+-- the bits of a chain
+pub bits_are : (chains : Chains) (c : ℕ) → c < length chains.chains → get_or (bit_counts chains) c 0 ≡ bits_at chains c
+bits_are chains c l = get_or-map (λ (chain : ChainBits). length chain.cells) chains.chains c no_bits 0 l
+
+-- an L or H stands behind the bits of a chain
+pub long_compare : (chains : Chains) (call : ScanCall) (c k : ℕ) → c < length chains.chains → bits_at chains c ≤ k → is_expectation (compare_at call c k) ≡ true → IsLongCompare chains call
+long_compare chains call c k l g strict =
+    record { chain = c; index = k; is_chain = omega (arith, length-bit_counts chains, l); beyond = omega (arith, bits_are chains c l, g); stands = strict }
+
 -- and expects nothing behind the bits of a chain
 pub quiet_from : (chains : Chains) (call : ScanCall) → ¬ IsLongCompare chains call → (c k : ℕ) → c < length chains.chains → bits_at chains c ≤ k → expect_of (compare_at call c k) ≡ Any
 quiet_from chains call none c k l g =
-    ⊎_elim (λ (strict : is_expectation (compare_at call c k) ≡ true). absurd (none (record { chain = c; index = k; is_chain = l; beyond = g; stands = strict })))
+    ⊎_elim (λ (strict : is_expectation (compare_at call c k) ≡ true). absurd (none (long_compare chains call c k l g strict)))
     (λ (quiet : is_expectation (compare_at call c k) ≡ false). expect_of_quiet (compare_at call c k) quiet)
     (cases_Bool (is_expectation (compare_at call c k)))
 

@@ -6,22 +6,23 @@ use Rattle.std.proofs.lemmas.List.{get_or_append_left, get_or_push}
 use Rattle.stil_tester.specs.declared.chains.Chains.{Chains}
 use Rattle.retarget.specs.declared.side.Side.{Side}
 use Rattle.retarget.specs.Places.{differ, chain_at, bits_at}
-use Rattle.retarget.specs.Retargeting.{flip_character, flip_character_if}
+use Rattle.lane_kernels.specs.Kernels.{flipped}
+use Rattle.retarget.specs.Retargeting.{flip_character_if}
 use Rattle.retarget.specs.Sides.{filler_of, parity_at, text_of, character_in, character_at, raw_at, HasParities, AreValues, IsFullString, IsMoved}
 
-flip_character_self : (ch : ℕ) → flip_character (flip_character ch) ≡ ch
+flip_character_self : (ch : ℕ) → flipped (flipped ch) ≡ ch
 flip_character_self ch =
-    ⊎_elim (λ (e : ch ≡ 48). subst (λ (x : ℕ). flip_character (flip_character x) ≡ x) (sym e) refl)
-    (λ (n0 : ch ≡ 48 → ⊥). ⊎_elim (λ (e : ch ≡ 49). subst (λ (x : ℕ). flip_character (flip_character x) ≡ x) (sym e) refl)
-    (λ (n1 : ch ≡ 49 → ⊥). ⊎_elim (λ (e : ch ≡ 76). subst (λ (x : ℕ). flip_character (flip_character x) ≡ x) (sym e) refl)
-    (λ (n2 : ch ≡ 76 → ⊥). ⊎_elim (λ (e : ch ≡ 72). subst (λ (x : ℕ). flip_character (flip_character x) ≡ x) (sym e) refl)
+    ⊎_elim (λ (e : ch ≡ 48). subst (λ (x : ℕ). flipped (flipped x) ≡ x) (sym e) refl)
+    (λ (n0 : ch ≡ 48 → ⊥). ⊎_elim (λ (e : ch ≡ 49). subst (λ (x : ℕ). flipped (flipped x) ≡ x) (sym e) refl)
+    (λ (n1 : ch ≡ 49 → ⊥). ⊎_elim (λ (e : ch ≡ 76). subst (λ (x : ℕ). flipped (flipped x) ≡ x) (sym e) refl)
+    (λ (n2 : ch ≡ 76 → ⊥). ⊎_elim (λ (e : ch ≡ 72). subst (λ (x : ℕ). flipped (flipped x) ≡ x) (sym e) refl)
     (λ (n3 : ch ≡ 72 → ⊥).
     let a : eqb ch 48 ≡ false = ne_eqb ch 48 n0 in
     let b : eqb ch 49 ≡ false = ne_eqb ch 49 n1 in
     let c : eqb ch 76 ≡ false = ne_eqb ch 76 n2 in
     let d : eqb ch 72 ≡ false = ne_eqb ch 72 n3 in
-    let stays : flip_character ch ≡ ch = λ i. cond (a i) 49 (cond (b i) 48 (cond (c i) 72 (cond (d i) 76 ch))) in
-    ap flip_character stays ∙ stays)
+    let stays : flipped ch ≡ ch = λ i. cond (a i) 49 (cond (b i) 48 (cond (c i) 72 (cond (d i) 76 ch))) in
+    ap flipped stays ∙ stays)
     (cases_eq ch 72)) (cases_eq ch 76)) (cases_eq ch 49)) (cases_eq ch 48)
 
 pub flip_character-twice : (p q : Bool) (ch : ℕ) → flip_character_if q (flip_character_if p ch) ≡ flip_character_if (differ p q) ch

@@ -6,17 +6,20 @@ use Rattle.std.proofs.lemmas.List.{get_or_past, get_or_default, get_or-reverse, 
 use Rattle.stil_reader.specs.declared.statement.ScanCall.{ScanCall}
 use Rattle.stil_tester.specs.declared.symbol.Symbol.{Symbol}
 use Rattle.stil_tester.specs.declared.chains.Chains.{Chains}
-use Rattle.stil_tester.specs.Shifting.{HasCells, string_length, longest_string, is_load_character, is_compare_character, IsStringOf, IsCallFor, scan_call}
+use Rattle.stil_reader.specs.Calls.{string_length, longest_string, is_load_character, is_compare_character, IsStringOf, compare_character, compare_at, is_expectation}
+use Rattle.stil_tester.specs.Shifting.{HasCells, IsCallFor, scan_call}
 use Rattle.retarget.specs.declared.route.Route.{Route}
 use Rattle.retarget.specs.declared.side.Side.TheVariants.{Load, Compare}
+use Rattle.stil_tester.proofs.Calls.{length-bit_counts, length-loads, length-compares}
 use Rattle.retarget.specs.Places.{differ, parity_to, parity_after, chain_at, bits_at, StandsAt, longest}
-use Rattle.retarget.specs.Judging.{load_character, compare_character, load_at, compare_at, exit_of, is_expectation, IsAccepted}
-use Rattle.retarget.specs.Retargeting.{flip_character, flip_character_if, HaveSameCells, KeepsLoads, KeepsCompares, AreFull}
+use Rattle.retarget.specs.Judging.{load_character, load_at, exit_of, IsAccepted}
+use Rattle.lane_kernels.specs.Kernels.{flipped}
+use Rattle.retarget.specs.Retargeting.{flip_character_if, HaveSameCells, KeepsLoads, KeepsCompares, AreFull}
 use Rattle.retarget.specs.Sides.{text_of, IsMap, AreMoved}
 use Rattle.retarget.proofs.AllChains.{standing}
 use Rattle.retarget.proofs.WholeCall.{string_within}
 use Rattle.retarget.proofs.SameMeaning.{cell_within, same_call}
-use Rattle.retarget.proofs.Accepted.{long_enough, quiet_from}
+use Rattle.retarget.proofs.Accepted.{long_enough, quiet_from, bits_are}
 
 -- ---- the characters
 
@@ -61,26 +64,26 @@ are_full old new call written shifts loads compares = record {
 -- ---- the alphabets
 
 -- a character is in an alphabet that a flip doesn't leave
-flips_within : (test : ℕ → Bool) → ((ch : ℕ) → test ch ≡ true → test (flip_character ch) ≡ true) → (p : Bool) (ch : ℕ) → test ch ≡ true → test (flip_character_if p ch) ≡ true
+flips_within : (test : ℕ → Bool) → ((ch : ℕ) → test ch ≡ true → test (flipped ch) ≡ true) → (p : Bool) (ch : ℕ) → test ch ≡ true → test (flip_character_if p ch) ≡ true
 flips_within test closed true ch h = closed ch h
 flips_within test closed false ch h = h
 
-load_flips : (ch : ℕ) → is_load_character ch ≡ true → is_load_character (flip_character ch) ≡ true
+load_flips : (ch : ℕ) → is_load_character ch ≡ true → is_load_character (flipped ch) ≡ true
 load_flips ch h =
     ⊎_elim (λ (digit : (eqb ch 48 || eqb ch 49) ≡ true).
-    ⊎_elim (λ (e : eqb ch 48 ≡ true). subst (λ (x : ℕ). is_load_character (flip_character x) ≡ true) (sym (eqb-true ch 48 e)) refl)
-    (λ (e : eqb ch 49 ≡ true). subst (λ (x : ℕ). is_load_character (flip_character x) ≡ true) (sym (eqb-true ch 49 e)) refl)
+    ⊎_elim (λ (e : eqb ch 48 ≡ true). subst (λ (x : ℕ). is_load_character (flipped x) ≡ true) (sym (eqb-true ch 48 e)) refl)
+    (λ (e : eqb ch 49 ≡ true). subst (λ (x : ℕ). is_load_character (flipped x) ≡ true) (sym (eqb-true ch 49 e)) refl)
     (or_cases (eqb ch 48) (eqb ch 49) digit))
-    (λ (e : eqb ch 78 ≡ true). subst (λ (x : ℕ). is_load_character (flip_character x) ≡ true) (sym (eqb-true ch 78 e)) refl)
+    (λ (e : eqb ch 78 ≡ true). subst (λ (x : ℕ). is_load_character (flipped x) ≡ true) (sym (eqb-true ch 78 e)) refl)
     (or_cases (eqb ch 48 || eqb ch 49) (eqb ch 78) h)
 
-compare_flips : (ch : ℕ) → is_compare_character ch ≡ true → is_compare_character (flip_character ch) ≡ true
+compare_flips : (ch : ℕ) → is_compare_character ch ≡ true → is_compare_character (flipped ch) ≡ true
 compare_flips ch h =
     ⊎_elim (λ (letter : (eqb ch 76 || eqb ch 72) ≡ true).
-    ⊎_elim (λ (e : eqb ch 76 ≡ true). subst (λ (x : ℕ). is_compare_character (flip_character x) ≡ true) (sym (eqb-true ch 76 e)) refl)
-    (λ (e : eqb ch 72 ≡ true). subst (λ (x : ℕ). is_compare_character (flip_character x) ≡ true) (sym (eqb-true ch 72 e)) refl)
+    ⊎_elim (λ (e : eqb ch 76 ≡ true). subst (λ (x : ℕ). is_compare_character (flipped x) ≡ true) (sym (eqb-true ch 76 e)) refl)
+    (λ (e : eqb ch 72 ≡ true). subst (λ (x : ℕ). is_compare_character (flipped x) ≡ true) (sym (eqb-true ch 72 e)) refl)
     (or_cases (eqb ch 76) (eqb ch 72) letter))
-    (λ (e : eqb ch 88 ≡ true). subst (λ (x : ℕ). is_compare_character (flip_character x) ≡ true) (sym (eqb-true ch 88 e)) refl)
+    (λ (e : eqb ch 88 ≡ true). subst (λ (x : ℕ). is_compare_character (flipped x) ≡ true) (sym (eqb-true ch 88 e)) refl)
     (or_cases (eqb ch 76 || eqb ch 72) (eqb ch 88) h)
 
 load_valid : (string : Option (List ℕ)) → IsStringOf is_load_character string → (j : ℕ) → is_load_character (load_character string j) ≡ true
@@ -199,11 +202,11 @@ written_shifts old new call written shifts same fits some loads compares =
     let at_most' : longest_string written.compares ≤ shifts = most_longest written.compares shifts full.compares in
     ⊎_elim (λ (load : 0 < longest_string call.loads).
     let one : (d : ℕ) × (d < length call.loads) × IsSome (get_or call.loads d None) = some_longest call.loads load in
-    let l : one.0 < length new.chains = omega (arith, one.1, fits.loads, same.chains) in
+    let l : one.0 < length new.chains = omega (arith, one.1, length-loads old call fits, same.chains) in
     omega (arith, least_longest written.loads shifts one.0 ((loads.each one.0 l).stands.1 (inl one.2)) (full.loads one.0)))
     (λ (none : longest_string call.loads ≤ 0).
     let one : (d : ℕ) × (d < length call.compares) × IsSome (get_or call.compares d None) = some_longest call.compares (omega (arith, fits.shifts)) in
-    let l : one.0 < length new.chains = omega (arith, one.1, fits.compares, same.chains) in
+    let l : one.0 < length new.chains = omega (arith, one.1, length-compares old call fits, same.chains) in
     omega (arith, least_longest written.compares shifts one.0 ((compares.each one.0 l).stands.1 (inl one.2)) (full.compares one.0)))
     (cases_lt 0 (longest_string call.loads))
 
@@ -215,8 +218,8 @@ retargeted old new shifts call written map fits accepted some e loads compares =
     let keeps : KeepsLoads a b call written = keeps_loads a b call written shifts loads in
     let keeps' : KeepsCompares a b call written = keeps_compares a b call written shifts compares in
     let well_formed : IsCallFor b written = record {
-      loads = loads.long;
-      compares = compares.long;
+      loads = loads.long ∙ sym (length-bit_counts b);
+      compares = compares.long ∙ sym (length-bit_counts b);
       load_characters = strings_from is_load_character written.loads (λ d l. load_string (get_or written.loads d None) (λ j. written_loads_valid a b call written map.same fits.load_characters keeps d j (omega (arith, loads.long))));
       compare_characters = strings_from is_compare_character written.compares (λ d l. compare_string (get_or written.compares d None) (λ k. written_compares_valid a b call written map.same fits.compare_characters keeps' d k (omega (arith, compares.long))));
       shifts = e ∙ written_shifts a b call written shifts map.same fits some loads compares;
@@ -226,7 +229,10 @@ retargeted old new shifts call written map fits accepted some e loads compares =
       well_formed = well_formed;
       accepted = record {
         not_short = λ short. omega (arith, short.short, e, map.longest_new);
-        not_long = λ long. false≢true (sym (ap is_expectation (keeps'.others long.chain long.index long.is_chain long.beyond)) ∙ long.stands);
+        not_long = λ long.
+            let l : long.chain < length b.chains = omega (arith, length-bit_counts b, long.is_chain) in
+            let past : bits_at b long.chain ≤ long.index = omega (arith, bits_are b long.chain l, long.beyond) in
+            false≢true (sym (ap is_expectation (keeps'.others long.chain long.index l past)) ∙ long.stands);
       };
       loads = keeps;
       compares = keeps';
@@ -236,8 +242,8 @@ retargeted old new shifts call written map fits accepted some e loads compares =
 -- a call that doesn't shift is well-formed beside the new chains too, and accepted
 pub still_fits : (old new : Chains) (call : ScanCall) → HaveSameCells old new → IsCallFor old call → IsCallFor new call
 still_fits old new call same fits = record {
-  loads = fits.loads ∙ sym same.chains;
-  compares = fits.compares ∙ sym same.chains;
+  loads = length-loads old call fits ∙ (sym same.chains ∙ sym (length-bit_counts new));
+  compares = length-compares old call fits ∙ (sym same.chains ∙ sym (length-bit_counts new));
   load_characters = fits.load_characters;
   compare_characters = fits.compare_characters;
   shifts = fits.shifts;

@@ -1,5 +1,5 @@
 -- A call that keeps the loads and the compares of all cells does on the new chains what the old one does on the old ones.
-use Rattle.std.proofs.Common.{◌≡◌, ℕ, ◌+◌, ◌<◌, ◌≤◌, List, [], ◌∷◌, length, Bool, true, false, cond, refl, sym, ap, ◌∙◌, arith, suc, zero, get_or, ⊎_elim, subst, eqb}
+use Rattle.std.proofs.Common.{◌≡◌, ℕ, ◌+◌, ◌<◌, ◌≤◌, List, [], ◌∷◌, length, map, Bool, true, false, cond, refl, sym, ap, ◌∙◌, arith, suc, zero, get_or, ⊎_elim, subst, eqb}
 use Rattle.std.proofs.lemmas.Bool.{cases_lt, cases_eq, ne_eqb, or_parts}
 use Rattle.std.proofs.lemmas.List.{ext_get_or}
 use Rattle.stil_reader.specs.declared.statement.ScanCall.{ScanCall}
@@ -11,27 +11,29 @@ use Rattle.stil_tester.specs.declared.chains.ChainBits.{ChainBits}
 use Rattle.stil_tester.specs.declared.chains.Chains.{Chains}
 use Rattle.stil_tester.specs.Symbols.{flip, flip_if, meets, symbol_of, expect_of}
 use Rattle.stil_tester.specs.Shifting.{AreChains, HasCells, cell_at, IsCallFor, cells_before, met_before, scan_call}
-use Rattle.retarget.specs.Places.{differ, parity_to, parity_after, no_bits, chain_at, bits_at, StandsAt, longest_of, longest}
-use Rattle.retarget.specs.Judging.{load_at, compare_at, exit_of, is_expectation}
-use Rattle.retarget.specs.Retargeting.{flip_character, flip_character_if, HaveSameCells, KeepsLoads, KeepsCompares}
+use Rattle.retarget.specs.Places.{differ, parity_to, parity_after, no_bits, chain_at, bits_at, StandsAt, longest}
+use Rattle.stil_reader.specs.Calls.{compare_at, is_expectation, most_bits}
+use Rattle.retarget.specs.Judging.{load_at, exit_of}
+use Rattle.lane_kernels.specs.Kernels.{flipped}
+use Rattle.retarget.specs.Retargeting.{flip_character_if, HaveSameCells, KeepsLoads, KeepsCompares}
 use Rattle.retarget.proofs.OneChain.{flip-flip}
 use Rattle.retarget.proofs.AllChains.{standing, start_of, number_at, number_within}
 use Rattle.retarget.proofs.WholeCall.{length-cells_before, other_before, loaded_is, passed_at, passed_from}
 
 -- ---- characters
 
-pub symbol_of-flip_character : (ch : ℕ) → symbol_of (flip_character ch) ≡ flip (symbol_of ch)
+pub symbol_of-flip_character : (ch : ℕ) → symbol_of (flipped ch) ≡ flip (symbol_of ch)
 symbol_of-flip_character ch =
-    ⊎_elim (λ (e : ch ≡ 48). subst (λ (x : ℕ). symbol_of (flip_character x) ≡ flip (symbol_of x)) (sym e) refl)
-    (λ (n0 : ch ≡ 48 → ⊥). ⊎_elim (λ (e : ch ≡ 49). subst (λ (x : ℕ). symbol_of (flip_character x) ≡ flip (symbol_of x)) (sym e) refl)
-    (λ (n1 : ch ≡ 49 → ⊥). ⊎_elim (λ (e : ch ≡ 76). subst (λ (x : ℕ). symbol_of (flip_character x) ≡ flip (symbol_of x)) (sym e) refl)
-    (λ (n2 : ch ≡ 76 → ⊥). ⊎_elim (λ (e : ch ≡ 72). subst (λ (x : ℕ). symbol_of (flip_character x) ≡ flip (symbol_of x)) (sym e) refl)
+    ⊎_elim (λ (e : ch ≡ 48). subst (λ (x : ℕ). symbol_of (flipped x) ≡ flip (symbol_of x)) (sym e) refl)
+    (λ (n0 : ch ≡ 48 → ⊥). ⊎_elim (λ (e : ch ≡ 49). subst (λ (x : ℕ). symbol_of (flipped x) ≡ flip (symbol_of x)) (sym e) refl)
+    (λ (n1 : ch ≡ 49 → ⊥). ⊎_elim (λ (e : ch ≡ 76). subst (λ (x : ℕ). symbol_of (flipped x) ≡ flip (symbol_of x)) (sym e) refl)
+    (λ (n2 : ch ≡ 76 → ⊥). ⊎_elim (λ (e : ch ≡ 72). subst (λ (x : ℕ). symbol_of (flipped x) ≡ flip (symbol_of x)) (sym e) refl)
     (λ (n3 : ch ≡ 72 → ⊥).
     let a : eqb ch 48 ≡ false = ne_eqb ch 48 n0 in
     let b : eqb ch 49 ≡ false = ne_eqb ch 49 n1 in
     let c : eqb ch 76 ≡ false = ne_eqb ch 76 n2 in
     let d : eqb ch 72 ≡ false = ne_eqb ch 72 n3 in
-    let stays : flip_character ch ≡ ch = λ i. cond (a i) 49 (cond (b i) 48 (cond (c i) 72 (cond (d i) 76 ch))) in
+    let stays : flipped ch ≡ ch = λ i. cond (a i) 49 (cond (b i) 48 (cond (c i) 72 (cond (d i) 76 ch))) in
     let none : symbol_of ch ≡ Unknown = λ i. cond (a i) Zero (cond (b i) One Unknown) in
     ap symbol_of stays ∙ none ∙ sym (ap flip none))
     (cases_eq ch 72)) (cases_eq ch 76)) (cases_eq ch 49)) (cases_eq ch 48)
@@ -41,18 +43,18 @@ flip_expect Low = High
 flip_expect High = Low
 flip_expect Any = Any
 
-pub expect_of-flip_character : (ch : ℕ) → expect_of (flip_character ch) ≡ flip_expect (expect_of ch)
+pub expect_of-flip_character : (ch : ℕ) → expect_of (flipped ch) ≡ flip_expect (expect_of ch)
 expect_of-flip_character ch =
-    ⊎_elim (λ (e : ch ≡ 48). subst (λ (x : ℕ). expect_of (flip_character x) ≡ flip_expect (expect_of x)) (sym e) refl)
-    (λ (n0 : ch ≡ 48 → ⊥). ⊎_elim (λ (e : ch ≡ 49). subst (λ (x : ℕ). expect_of (flip_character x) ≡ flip_expect (expect_of x)) (sym e) refl)
-    (λ (n1 : ch ≡ 49 → ⊥). ⊎_elim (λ (e : ch ≡ 76). subst (λ (x : ℕ). expect_of (flip_character x) ≡ flip_expect (expect_of x)) (sym e) refl)
-    (λ (n2 : ch ≡ 76 → ⊥). ⊎_elim (λ (e : ch ≡ 72). subst (λ (x : ℕ). expect_of (flip_character x) ≡ flip_expect (expect_of x)) (sym e) refl)
+    ⊎_elim (λ (e : ch ≡ 48). subst (λ (x : ℕ). expect_of (flipped x) ≡ flip_expect (expect_of x)) (sym e) refl)
+    (λ (n0 : ch ≡ 48 → ⊥). ⊎_elim (λ (e : ch ≡ 49). subst (λ (x : ℕ). expect_of (flipped x) ≡ flip_expect (expect_of x)) (sym e) refl)
+    (λ (n1 : ch ≡ 49 → ⊥). ⊎_elim (λ (e : ch ≡ 76). subst (λ (x : ℕ). expect_of (flipped x) ≡ flip_expect (expect_of x)) (sym e) refl)
+    (λ (n2 : ch ≡ 76 → ⊥). ⊎_elim (λ (e : ch ≡ 72). subst (λ (x : ℕ). expect_of (flipped x) ≡ flip_expect (expect_of x)) (sym e) refl)
     (λ (n3 : ch ≡ 72 → ⊥).
     let a : eqb ch 48 ≡ false = ne_eqb ch 48 n0 in
     let b : eqb ch 49 ≡ false = ne_eqb ch 49 n1 in
     let c : eqb ch 76 ≡ false = ne_eqb ch 76 n2 in
     let d : eqb ch 72 ≡ false = ne_eqb ch 72 n3 in
-    let stays : flip_character ch ≡ ch = λ i. cond (a i) 49 (cond (b i) 48 (cond (c i) 72 (cond (d i) 76 ch))) in
+    let stays : flipped ch ≡ ch = λ i. cond (a i) 49 (cond (b i) 48 (cond (c i) 72 (cond (d i) 76 ch))) in
     let none : expect_of ch ≡ Any = λ i. cond (c i) Low (cond (d i) High Any) in
     ap expect_of stays ∙ none ∙ sym (ap flip_expect none))
     (cases_eq ch 72)) (cases_eq ch 76)) (cases_eq ch 49)) (cases_eq ch 48)
@@ -96,7 +98,7 @@ same_verdict false false f g = refl
 
 -- ---- lengths
 
-pub length_within : (chains : List ChainBits) (c : ℕ) → length (get_or chains c no_bits).cells ≤ longest_of chains
+pub length_within : (chains : List ChainBits) (c : ℕ) → length (get_or chains c no_bits).cells ≤ most_bits (map (λ (chain : ChainBits). length chain.cells) chains)
 length_within [] c = omega arith
 length_within (chain ∷ chains) zero = omega arith
 length_within (chain ∷ chains) (suc c) = omega (arith, length_within chains c)

@@ -11,9 +11,11 @@ use Rattle.stil_tester.specs.declared.symbol.Expect.TheVariants.{Any}
 use Rattle.stil_tester.specs.declared.chains.ChainBits.{ChainBits}
 use Rattle.stil_tester.specs.declared.chains.Chains.{Chains}
 use Rattle.stil_tester.specs.Symbols.{flip, flip_if, meets, symbol_of, expect_of, padded_load, padded_compare}
-use Rattle.stil_tester.specs.Shifting.{AreChains, HasCells, cell_at, held_by, output_of, moved_on, string_length, longest_string, IsCallFor, inputs_at, expects_at, cells_before, outputs_at, all_met, met_before, scan_call}
+use Rattle.stil_reader.specs.Calls.{string_length, longest_string, compare_character, compare_at}
+use Rattle.stil_tester.specs.Shifting.{AreChains, HasCells, cell_at, held_by, output_of, moved_on, IsCallFor, inputs_at, expects_at, cells_before, outputs_at, all_met, met_before, scan_call}
+use Rattle.stil_tester.proofs.Calls.{length-loads, length-compares}
 use Rattle.retarget.specs.Places.{differ, parity_of, parity_to, parity_after, no_bits, chain_at, bits_at, StandsAt}
-use Rattle.retarget.specs.Judging.{load_character, compare_character, load_at, compare_at}
+use Rattle.retarget.specs.Judging.{load_character, load_at}
 use Rattle.retarget.proofs.OneChain.{flip-flip, moved_all, moved_all-push, loaded_bit, last_bit, parity_of-append}
 use Rattle.retarget.proofs.AllChains.{length-held_by, chain_is, length-step, held-step, other-step}
 
@@ -78,7 +80,7 @@ length-cells_before chains cells call zero = refl
 length-cells_before chains cells call (suc k) = length-step chains (inputs_at call k) (cells_before chains cells call k) ∙ length-cells_before chains cells call k
 
 input_is : (chains : Chains) (call : ScanCall) → IsCallFor chains call → (c k : ℕ) → c < length chains.chains → get_or (inputs_at call k) c Unknown ≡ get_or (load_of call c) k Unknown
-input_is chains call fits c k l = get_or-map (λ load. get_or (padded_load call.shifts load) k Unknown) call.loads c None Unknown (omega (arith, fits.loads))
+input_is chains call fits c k l = get_or-map (λ load. get_or (padded_load call.shifts load) k Unknown) call.loads c None Unknown (omega (arith, (length-loads chains call fits)))
 
 -- before shift k each chain holds what k shifts of it alone leave
 pub held_before : (chains : Chains) (cells : List Symbol) (call : ScanCall) → AreChains chains → HasCells chains cells → IsCallFor chains call → (c k : ℕ) → c < length chains.chains → k ≤ call.shifts
@@ -88,7 +90,7 @@ held_before chains cells call good room fits c (suc k) l m =
     let ps : List Bool = (chain_at chains c).parity in
     let held : List Symbol = held_by (chain_at chains c) cells in
     held-step chains (inputs_at call k) (cells_before chains cells call k) good (omega (arith, length-cells_before chains cells call k))
-    (length-map call.loads (λ load. get_or (padded_load call.shifts load) k Unknown) ∙ fits.loads) c l
+    (length-map call.loads (λ load. get_or (padded_load call.shifts load) k Unknown) ∙ (length-loads chains call fits)) c l
     ∙ ap (λ x. moved_on ps x (held_by (chain_at chains c) (cells_before chains cells call k))) (input_is chains call fits c k l)
     ∙ ap (moved_on ps (get_or (load_of call c) k Unknown)) (held_before chains cells call good room fits c k l (omega arith))
     ∙ sym (moved_all-push ps (take k (load_of call c)) (get_or (load_of call c) k Unknown) held)
@@ -183,7 +185,7 @@ met_before_from chains cells call (suc n) h =
 
 expect_is : (chains : Chains) (call : ScanCall) → IsCallFor chains call → (c k : ℕ) → c < length chains.chains → get_or (expects_at call k) c Any ≡ expect_of (compare_at call c k)
 expect_is chains call fits c k l =
-    get_or-map (λ compare. get_or (padded_compare call.shifts compare) k Any) call.compares c None Any (omega (arith, fits.compares))
+    get_or-map (λ compare. get_or (padded_compare call.shifts compare) k Any) call.compares c None Any (omega (arith, (length-compares chains call fits)))
     ∙ get_or-padded_compare call.shifts (get_or call.compares c None) k
 
 -- each comparison below a chain's bits holds a cell against its character, flipped by the parities to the scan output
@@ -192,7 +194,7 @@ pub passed_at : (chains : Chains) (cells : List Symbol) (call : ScanCall) → Ar
 passed_at chains cells call good room fits cell c i k stands at long h =
     sym (λ j. meets (expect_is chains call fits c k stands.is_chain j) (output_is chains cells call good room fits cell c i k stands at (omega arith) j))
     ∙ met_at (expects_at call k) (outputs_at chains cells call k) c (met_before_at chains cells call call.shifts k h long)
-    (omega (arith, length-map call.compares (λ compare. get_or (padded_compare call.shifts compare) k Any), fits.compares, stands.is_chain))
+    (omega (arith, length-map call.compares (λ compare. get_or (padded_compare call.shifts compare) k Any), (length-compares chains call fits), stands.is_chain))
     (omega (arith, length-map chains.chains (output_of (cells_before chains cells call k)), stands.is_chain))
 
 -- where nothing is expected beyond the chains' bits, the verdict is that of the cells
@@ -203,7 +205,7 @@ pub passed_from : (chains : Chains) (cells : List Symbol) (call : ScanCall) → 
 passed_from chains cells call good room fits quiet each =
     met_before_from chains cells call call.shifts (λ k l.
     met_from (expects_at call k) (outputs_at chains cells call k) (λ c m.
-    let n : c < length chains.chains = omega (arith, length-map call.compares (λ compare. get_or (padded_compare call.shifts compare) k Any), fits.compares) in
+    let n : c < length chains.chains = omega (arith, length-map call.compares (λ compare. get_or (padded_compare call.shifts compare) k Any), (length-compares chains call fits)) in
     ⊎_elim (λ (inside : k < bits_at chains c).
     let i : ℕ = bits_at chains c - 1 - k in
     let at : k + i + 1 ≡ bits_at chains c = omega arith in

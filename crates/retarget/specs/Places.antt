@@ -1,8 +1,10 @@
 -- Where the cells stand in the chains, and the parities before and behind them (IEEE 1450-1999, ScanStructures).
-use Rattle.std.specs.Prelude.{◌≡◌, ℕ, ◌+◌, ◌<◌, Bool, false, not, List, [], ◌∷◌, length, max, take, drop, slice_index_or}
+use Rattle.std.specs.Prelude.{◌≡◌, ℕ, ◌+◌, ◌<◌, Bool, false, not, List, [], ◌∷◌, length, take, drop, slice_index_or}
 use Rattle.std.specs.Bool.{beq}
 use Rattle.stil_tester.specs.declared.chains.ChainBits.{ChainBits}
 use Rattle.stil_tester.specs.declared.chains.Chains.{Chains}
+use Rattle.stil_reader.specs.Calls.{most_bits}
+use Rattle.stil_tester.specs.Shifting.{bit_counts}
 
 -- the sum of two parities
 abbrev pub differ : Bool → Bool → Bool
@@ -21,6 +23,7 @@ parity_to chain place = parity_of (take (place + 1) chain.parity)
 abbrev pub parity_after : ChainBits → ℕ → Bool
 parity_after chain place = differ (parity_of (drop (place + 1) chain.parity)) chain.out_parity
 
+-- what stands for a chain that isn't there
 abbrev pub no_bits : ChainBits
 no_bits = record { cells = []; parity = []; out_parity = false }
 
@@ -28,6 +31,7 @@ no_bits = record { cells = []; parity = []; out_parity = false }
 abbrev pub chain_at : Chains → ℕ → ChainBits
 chain_at chains number = slice_index_or chains.chains number no_bits
 
+-- how many bits a chain has
 abbrev pub bits_at : Chains → ℕ → ℕ
 bits_at chains number = length (chain_at chains number).cells
 
@@ -37,10 +41,6 @@ pub record StandsAt (chains : Chains) (cell number place : ℕ) : Type 0 where
   pub is_place : place < bits_at chains number
   pub is_there : slice_index_or (chain_at chains number).cells place 0 ≡ cell
 
-abbrev pub longest_of : List ChainBits → ℕ
-longest_of [] = 0
-longest_of (chain ∷ chains) = max (length chain.cells) (longest_of chains)
-
 -- the bits of the longest chain
 abbrev pub longest : Chains → ℕ
-longest chains = longest_of chains.chains
+longest chains = most_bits (bit_counts chains)

@@ -1,18 +1,16 @@
 -- Which scan call does on new chains what another one does on old chains of the same cells.
-use Rattle.std.specs.Prelude.{◌≡◌, ◌≢◌, ℕ, ◌<◌, ◌≤◌, ◌==◌, ◌↔◌, ◌⊎◌, Bool, if◌then◌else◌, length, slice_index_or, None, IsSome, IfSome}
+use Rattle.std.specs.Prelude.{◌≡◌, ◌≢◌, ℕ, ◌<◌, ◌≤◌, ◌↔◌, ◌⊎◌, Bool, if◌then◌else◌, length, slice_index_or, None, IsSome, IfSome}
+use Rattle.lane_kernels.specs.Kernels.{flipped}
 use Rattle.stil_reader.specs.declared.statement.ScanCall.{ScanCall}
 use Rattle.stil_tester.specs.declared.chains.Chains.{Chains}
 use Rattle.stil_tester.specs.Shifting.{AreChains}
 use Rattle.retarget.specs.Places.{differ, parity_to, parity_after, chain_at, bits_at, StandsAt}
-use Rattle.retarget.specs.Judging.{load_at, compare_at, exit_of}
+use Rattle.stil_reader.specs.Calls.{compare_at}
+use Rattle.retarget.specs.Judging.{load_at, exit_of}
 
--- 0 and 1, and L and H, are exchanged (48 and 49, 76 and 72)
-abbrev pub flip_character : ℕ → ℕ
-flip_character character =
-    if character == 48 then 49 else (if character == 49 then 48 else (if character == 76 then 72 else (if character == 72 then 76 else character)))
-
+-- a character, with 0 and 1, and L and H, exchanged where the parity is 1
 abbrev pub flip_character_if : Bool → ℕ → ℕ
-flip_character_if parity character = if parity then flip_character character else character
+flip_character_if parity character = if parity then flipped character else character
 
 -- as many chains, and the same cells
 pub record HaveSameCells (old new : Chains) : Type 0 where

@@ -1,7 +1,8 @@
 ghost use Rattle.std.specs.Prelude.{◌≡◌, ℕ, ◌<◌, ◌≤◌, ◌↔◌, IsTrue, IfNone, IfSome, slice_index_or};
 ghost use Rattle.stil_tester.specs.Shifting.{AreChains, IsCallFor};
 ghost use Rattle.retarget.specs.Places.{longest};
-ghost use Rattle.retarget.specs.Judging.{compare_character, is_expectation, IsLongCompare, IsAccepted, IsRefusal, LoadsCells, ComparesCells};
+ghost use Rattle.stil_reader.specs.Calls.{compare_character, is_expectation};
+ghost use Rattle.retarget.specs.Judging.{IsLongCompare, IsAccepted, IsRefusal, LoadsCells, ComparesCells};
 
 use base_types::{Kind, Text};
 use stil_reader::ScanCall;

@@ -1,5 +1,6 @@
 ghost use Rattle.std.specs.Prelude.{◌≡◌, ◌<◌, ◌≤◌};
-ghost use Rattle.retarget.specs.Retargeting.{flip_character, flip_character_if};
+ghost use Rattle.lane_kernels.specs.Kernels.{flipped};
+ghost use Rattle.retarget.specs.Retargeting.{flip_character_if};
 ghost use Rattle.retarget.specs.Sides.{filler_of, character_in, index_of, text_of};
 
 use base_types::Text;
@@ -50,7 +51,7 @@ impl Side {
 
 /// A character, with 0 and 1, and L and H, exchanged where the parity is 1.
 #[inline]
-pub fn flipped(character: u8, parity: bool) -> u8
+pub fn flipped_if(character: u8, parity: bool) -> u8
     ensures { result ≡ flip_character_if parity character }
 {
     let exchanged = exchanged(character);
@@ -61,7 +62,7 @@ pub fn flipped(character: u8, parity: bool) -> u8
 /// branch: 0 and 1 differ in one bit, and so do L and H.
 #[inline]
 fn exchanged(character: u8) -> u8
-    ensures { result ≡ flip_character character }
+    ensures { result ≡ flipped character }
 {
     let digit = (character == b'0') | (character == b'1');
     let letter = (character == b'L') | (character == b'H');

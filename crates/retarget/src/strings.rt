@@ -4,7 +4,7 @@ ghost use Rattle.retarget.specs.Retargeting.{flip_character_if, HaveSameCells};
 ghost use Rattle.retarget.specs.Sides.{filler_of, character_in, index_of, AreValues, AreApart, IsRoute, IsFullString, AreMoved};
 
 use crate::route::Route;
-use crate::side::{Side, bytes_of, flipped};
+use crate::side::{Side, bytes_of, flipped_if};
 use base_types::{NoMemory, Rows, Text};
 use std::alloc::Global;
 
@@ -70,7 +70,7 @@ fn put_characters(values: &mut [u8], side: Side, cells: &[u32], parities: &[bool
 {
     for (place, cell) in cells.iter().enumerate() {
         let character = side.character(text, cells.len(), place);
-        values[*cell as usize] = flipped(character, parities[place]);
+        values[*cell as usize] = flipped_if(character, parities[place]);
     }
 }
 
@@ -118,7 +118,7 @@ fn full_string(
     let mut text = vec![in alloc; side.filler(); shifts]?;
     for (place, cell) in cells.iter().enumerate() {
         let index = side.index(shifts, cells.len(), place);
-        text[index] = flipped(values[*cell as usize], parities[place]);
+        text[index] = flipped_if(values[*cell as usize], parities[place]);
     }
     Ok(text)
 }

@@ -13,6 +13,8 @@ ghost use Rattle.stil_tester.specs.Shifting.{AreChains, IsCallFor};
 mod made;
 mod plain;
 #[cfg(test)]
+mod playing;
+#[cfg(test)]
 mod small;
 #[cfg(test)]
 mod sweep;

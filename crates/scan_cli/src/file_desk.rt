@@ -1,13 +1,57 @@
 // The desk over real files and standard output.
 ghost use Rattle.std.specs.Prelude.{◌≡◌, None, true, slice_index, slice_index_or};
+ghost use Rattle.std.specs.Io.{ReadsAtMost, WritesAtMost};
 ghost use Rattle.desk_io.specs.declared.slot.Slot.{Slot};
 ghost use Rattle.desk_io.specs.declared.slot.Stage.TheVariants.{Unopened};
 ghost use Rattle.desk_io.specs.Number.{number};
 
 use desk_io::{Desk, Failed, Slot, Stage};
-use std::fs;
 use std::fs::File;
-use std::io::{Read, Write};
+use std::io::{ErrorKind, Read, Write};
+use std::{fs, io};
+
+/// How often a call is made anew where a signal interrupts it.
+const TURNS: usize = 1000;
+
+/// Reads once more where a signal interrupted it.
+fn read_file(file: &mut File, room: &mut [u8]) -> io::Result<usize>
+    ensures count { ReadsAtMost result room.new }
+{
+    for _ in 0..TURNS {
+        match file.read(room) {
+            Err(error) if error.kind() == ErrorKind::Interrupted => {}
+            answer => return answer,
+        }
+    }
+    file.read(room)
+}
+
+/// Writes once more where a signal interrupted it.
+fn write_file<W: Write>(file: &mut W, piece: &[u8]) -> io::Result<usize>
+    ensures count { WritesAtMost result piece.now }
+{
+    for _ in 0..TURNS {
+        match file.write(piece) {
+            Err(error) if error.kind() == ErrorKind::Interrupted => {}
+            answer => return answer,
+        }
+    }
+    file.write(piece)
+}
+
+/// Has the system put what was written on the disk, so that what it couldn't keep is told now and not lost. A pipe and
+/// a device have nothing to put there, which the system says by one of three errors.
+fn sync_file(file: &File) -> io::Result<()> {
+    match file.sync_all() {
+        Err(error) => match error.kind() {
+            ErrorKind::InvalidInput | ErrorKind::Unsupported | ErrorKind::ReadOnlyFilesystem => Ok(
+                (),
+            ),
+            _ => Err(error),
+        },
+        done => done,
+    }
+}
 
 /// Real files, opened by their names, and standard output as the console.
 #[derive(Drop)]
@@ -68,7 +112,7 @@ impl Desk for FileDesk {
     fn read(&mut self, slot: Slot, room: &mut [u8]) -> Result<usize, Failed> {
         let at = slot.number();
         if let Some(file) = &mut self.files[at] {
-            if let Ok(count) = file.read(room) {
+            if let Ok(count) = read_file(file, room) {
                 return Ok(count);
             }
         }
@@ -79,8 +123,8 @@ impl Desk for FileDesk {
     fn write(&mut self, slot: Slot, piece: &[u8]) -> Result<usize, Failed> {
         let at = slot.number();
         let written = match &mut self.files[at] {
-            Some(file) => file.write(piece),
-            None => self.rt.stdout().write(piece),
+            Some(file) => write_file(file, piece),
+            None => write_file(&mut self.rt.stdout(), piece),
         };
         match written {
             Ok(0) => {
@@ -97,6 +141,14 @@ impl Desk for FileDesk {
 
     fn close(&mut self, slot: Slot) -> Result<(), Failed> {
         let at = slot.number();
+        let kept = match (slot, &self.files[at]) {
+            (Slot::OutVerilog | Slot::OutDef | Slot::OutStil, Some(file)) => sync_file(file),
+            _ => Ok(()),
+        };
+        if kept.is_err() {
+            self.faults[at] = self.faults[at].saturating_add(1);
+            return Err(Failed);
+        }
         self.files[at] = None;
         self.stages[at] = Stage::Closed;
         Ok(())

@@ -45,6 +45,7 @@ pub record IsOutOfMemory (request : Request) (old new : Slots) : Type 0 where
   pub counts : SameCounts old new
   pub outputs : SameOutputs old new
 
+-- a run of a request ended so, with this result
 abbrev pub HasEnded : Request → Slots → Slots → Result (Unit {0}) Stop → Type 0
 HasEnded request old new (Ok done) = IsDone request old new
 HasEnded request old new (Err NoForm) = ⊥
@@ -53,6 +54,7 @@ HasEnded request old new (Err InputFailed) = IsInputFailed request old new
 HasEnded request old new (Err OutputFailed) = IsOutputFailed request old new
 HasEnded request old new (Err NoMemory) = IsOutOfMemory request old new
 
+-- the status of a result
 abbrev pub status_of : Result (Unit {0}) Stop → ℕ
 status_of (Ok done) = 0
 status_of (Err NoForm) = 1

@@ -60,6 +60,7 @@ HoldsInCommand (requests.Trace r) files = HoldsInTrace (files Table) (files Veri
 abbrev pub IsCommandFault : Request → (Slot → List ℕ) → Fault → Type 0
 IsCommandFault request files fault = IsFirstFault (HoldsInCommand request files) fault
 
+-- the files have no fault of the command
 abbrev pub HasNoCommandFault : Request → (Slot → List ℕ) → Type 0
 HasNoCommandFault request files = (fault : Fault) → IsCommandFault request files fault → ⊥
 
@@ -68,6 +69,7 @@ HasNoCommandFault request files = (fault : Fault) → IsCommandFault request fil
 abbrev pub IsRunFault : Request → (Slot → List ℕ) → Fault → Type 0
 IsRunFault request files fault = IsFirstFault (IsSizeFault request files) fault ⊎ (AreSmall request files × IsCommandFault request files fault)
 
+-- the files have no fault at all
 abbrev pub HasNoFault : Request → (Slot → List ℕ) → Type 0
 HasNoFault request files = (fault : Fault) → IsRunFault request files fault → ⊥
 
@@ -93,6 +95,7 @@ rewire_word r kinds.Def = codes "words"
 rewire_word r kinds.Stil = codes "words"
 rewire_word r kinds.Words = codes "words"
 
+-- the file words of `trace`
 abbrev pub trace_word : TraceRequest → FileKind → List ℕ
 trace_word r kinds.Table = r.table
 trace_word r kinds.Verilog = r.verilog

@@ -27,6 +27,7 @@ pub record HasFailedAtLine (request : Request) (fault : Fault) (old new : Slots)
   pub prefix : HoldsPrefix (fault_text request fault) (old Console) (new Console)
   pub risen : HasRisen (old Console).faults (new Console).faults
 
+-- the fault was said on the console, or saying it failed
 abbrev pub HasSaid : Request → Fault → Slots → Slots → Result (Unit {0}) Stop → Type 0
 HasSaid request fault old new (Ok done) = ⊥
 HasSaid request fault old new (Err NoForm) = ⊥
@@ -40,11 +41,13 @@ pub record AreJudged (request : Request) (texts : List (Option (List ℕ))) (out
   pub no_fault : HasNoCommandFault request (input_at texts)
   pub are : AreTexts request (input_at texts) outputs
 
+-- all outputs were written
 pub record HasPutAll (request : Request) (texts : List (Option (List ℕ))) (old new : Slots) : Type 0 where
   pub outputs : Outputs
   pub judged : AreJudged request texts outputs
   pub put : HasPutOutputs (names_of request) outputs 4 old new
 
+-- writing the outputs failed
 pub record HasPutSome (request : Request) (texts : List (Option (List ℕ))) (old new : Slots) : Type 0 where
   pub outputs : Outputs
   pub judged : AreJudged request texts outputs

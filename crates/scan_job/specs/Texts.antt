@@ -26,6 +26,7 @@ pub record AreRewired (r : RewireRequest) (verilog : List ℕ) (outputs : Output
   -- and its scan path has the instances in the order of the words
   pub path : HasPath outputs.verilog (rewire_of r) r.units
 
+-- the outputs are those of the command
 abbrev pub AreTexts : Request → (Slot → List ℕ) → Outputs → Type 0
 AreTexts (requests.Rewire r) files outputs = AreRewired r (files Verilog) outputs
 AreTexts (requests.Trace r) files outputs = IsPathText (files Table) (files Verilog) r.scan_out outputs.console

@@ -18,6 +18,7 @@ use Rattle.scan_job.specs.Requests.{names_of}
 use Rattle.scan_job.specs.Faults.{IsRunFault, IsFoundWriting, fault_text}
 use Rattle.scan_job.specs.Texts.{AreOutputsOf, AreOutputsBefore}
 
+-- what stands at each slot
 abbrev pub Slots : Type 0
 Slots = Slot → SlotState
 
@@ -33,6 +34,7 @@ Reads request files slots = HoldsFiles (names_of request) files slots
 abbrev pub SaysNothing : List (List ℕ) → Type 0
 SaysNothing words = (order : Order) → Says words order → ⊥
 
+-- no slot changed
 abbrev pub SameEverywhere : Slots → Slots → Type 0
 SameEverywhere old new = (slot : Slot) → new slot ≡ old slot
 
@@ -40,9 +42,11 @@ SameEverywhere old new = (slot : Slot) → new slot ≡ old slot
 abbrev pub SameUnused : Request → Slots → Slots → Type 0
 SameUnused request old new = (slot : Slot) → (IsUsed request slot → ⊥) → new slot ≡ old slot
 
+-- no slot's count of faults rose
 abbrev pub NoneRose : Slots → Slots → Type 0
 NoneRose old new = (slot : Slot) → HasRisen (old slot).faults (new slot).faults → ⊥
 
+-- no slot is open
 abbrev pub NoneOpen : Slots → Type 0
 NoneOpen slots = (slot : Slot) → IsOpen (slots slot) → ⊥
 
@@ -54,6 +58,7 @@ AllClosed request slots = (slot : Slot) → IsUsed request slot → IsClosed (sl
 abbrev pub AllRead : Request → Slots → Type 0
 AllRead request slots = (slot : Slot) → IsInput slot → IsUsed request slot → IsAtEnd (slots slot)
 
+-- no output slot changed
 abbrev pub SameOutputs : Slots → Slots → Type 0
 SameOutputs old new = (slot : Slot) → IsOutput slot → new slot ≡ old slot
 

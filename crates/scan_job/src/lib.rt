@@ -16,6 +16,3 @@ mod top;
 pub use laws::one_fault_law;
 pub use request::{Request, RewireRequest, TraceRequest};
 pub use top::run;
-
-#[cfg(test)]
-mod tests;

@@ -11,25 +11,32 @@ use Rattle.scan_words.specs.declared.verb.Verb.TheVariants.{Rewire, Trace}
 use Rattle.scan_words.specs.Orders.{verb_name, option_names, takes_further}
 use Rattle.clap.specs.declared.builder.action.ArgAction.TheVariants.{Append}
 
+-- the rule of an option: it may stand as often as it likes, each time with a value
 abbrev pub bare_option : Text → Rule
 bare_option name = record (new_rule name) { long = Some name; action = Some Append }
 
+-- the rule of further words
 abbrev pub bare_further : Rule
 bare_further = record (new_rule (codes "further")) { action = Some Append }
 
+-- the rule of further words, where the command takes any
 abbrev pub bare_furthers : Bool → List Rule
 bare_furthers true = bare_further ∷ []
 bare_furthers false = []
 
+-- the rules of a command's options and further words
 abbrev pub bare_rules : List Text → Bool → List Rule
 bare_rules names takes_further = map bare_option names ++ bare_furthers takes_further
 
+-- a command's shape with these rules
 abbrev pub with_bare_rules : List Rule → Shape → Shape
 with_bare_rules rules s = record s { rules = rules }
 
+-- the subcommand of a name with its rules
 abbrev pub app_for : Text → List Text → Bool → App
 app_for name names takes_further = on_top (with_bare_rules (bare_rules names takes_further)) (new_app name)
 
+-- the subcommand of a command
 abbrev pub app_of_verb : Verb → App
 app_of_verb verb = app_for (verb_name verb) (option_names verb) (takes_further verb)
 
@@ -37,6 +44,7 @@ app_of_verb verb = app_for (verb_name verb) (option_names verb) (takes_further v
 abbrev pub program_top : App
 program_top = on_top (λ s. record s { no_binary_name = true; disable_help_flag = true; disable_help_subcommand = true }) (new_app (codes "wrenpewter"))
 
+-- the program with a subcommand for each command
 abbrev pub program : App
 program = with_subcommand (with_subcommand program_top (app_of_verb Rewire).top) (app_of_verb Trace).top
 

@@ -7,14 +7,17 @@ use Rattle.clap.specs.Lexer.{long_of}
 use Rattle.scan_words.specs.declared.form.WordKind.{WordKind}
 use Rattle.scan_words.specs.declared.form.WordKind.TheVariants as kinds
 
+-- what a value leads to, if there is one
 infixl 10 ◌>>=◌
 abbrev pub ◌>>=◌ : {A B : Type 0} → Option A → (A → Option B) → Option B
 o >>= f = option_and_then f o
 
+-- a value, if the test holds
 abbrev pub only_if : Bool → Option (Unit {0})
 only_if true = Some tt
 only_if false = None
 
+-- the bytes of a word
 abbrev pub Text : Type 0
 Text = List ℕ
 
@@ -23,6 +26,7 @@ abbrev pub is_value : Text → Bool
 is_value [] = false
 is_value (b ∷ bs) = not (b == 45)
 
+-- the word is one of the options' names
 abbrev pub is_name : List Text → Text → Bool
 is_name names name = list_any (λ n. bytes_eq n name) names
 
@@ -32,6 +36,7 @@ long_kind names None = kinds.Wrong
 long_kind names (Some (name, None)) = if is_name names name then kinds.Alone else kinds.Wrong
 long_kind names (Some (name, Some value)) = if is_name names name && is_value value then kinds.Attached else kinds.Wrong
 
+-- what a word is where an option or a further word may stand
 unfoldable pub word_kind : List Text → Text → WordKind
 word_kind names word = if is_value word then kinds.Plain else long_kind names (long_of word)
 
@@ -39,6 +44,7 @@ word_kind names word = if is_value word then kinds.Plain else long_kind names (l
 abbrev pub Part : Type 0
 Part = Text × Text
 
+-- one more part in front
 abbrev pub with_part : Part → Option (List Part) → Option (List Part)
 with_part part None = None
 with_part part (Some parts) = Some (part ∷ parts)
@@ -50,6 +56,7 @@ word_parts takes word kinds.Alone (Some (name, value)) behind = behind (Some nam
 word_parts takes word kinds.Attached (Some (name, Some value)) behind = with_part (name, value) (behind None)
 word_parts takes word _ long behind = None
 
+-- the parts of the words behind the command word, in order, an option's name waiting for its value
 unfoldable pub parts_from : List Text → Bool → Option Text → List Text → Option (List Part)
 parts_from names takes None [] = Some []
 parts_from names takes (Some name) [] = None
@@ -68,6 +75,7 @@ kind_turn takes kinds.Alone = Some true
 kind_turn takes kinds.Attached = Some false
 kind_turn takes kinds.Wrong = None
 
+-- whether a value is awaited behind a word, None where the word may not stand
 unfoldable pub turn : List Text → Bool → Bool → Text → Option Bool
 turn names takes false word = kind_turn takes (word_kind names word)
 turn names takes true word = if is_value word then Some false else None

@@ -21,9 +21,11 @@ options_of Rewire =
     needed options.Verilog ∷ needed options.Cell ∷ needed options.InPin ∷ needed options.OutPin ∷ needed options.ScanIn ∷ needed options.ScanOut ∷ needed options.OutVerilog ∷ []
 options_of Trace = needed options.Table ∷ needed options.Verilog ∷ needed options.ScanOut ∷ []
 
+-- the names of a command's options
 abbrev pub option_names : Verb → List Text
 option_names verb = texts (options_of verb)
 
+-- whether a command takes further words
 abbrev pub takes_further : Verb → Bool
 takes_further Rewire = true
 takes_further Trace = false
@@ -47,10 +49,12 @@ order_by verb values = do
   count ← only_if (is_count (takes_further verb) (length (values (codes "further"))))
   Some (record { verb = verb; values = given; further = values (codes "further") })
 
+-- the command word
 abbrev pub verb_name : Verb → Text
 verb_name Rewire = codes "rewire"
 verb_name Trace = codes "trace"
 
+-- the command of a word
 unfoldable pub verb_of : Text → Option Verb
 verb_of word = if bytes_eq word (codes "rewire") then Some Rewire else (if bytes_eq word (codes "trace") then Some Trace else None)
 

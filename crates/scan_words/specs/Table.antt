@@ -62,6 +62,7 @@ has_form forms.Device value = bytes_eq value (codes "hold") || bytes_eq value (c
 abbrev pub Values : Type 0
 Values = Text → List Text
 
+-- an option stands among the words
 abbrev pub is_given : List Text → Bool
 is_given [] = false
 is_given (v ∷ vs) = true
@@ -84,9 +85,11 @@ value_among o values [] = if may_lack o.need values then Some None else None
 value_among o values (v ∷ []) = if may_stand o.need values && has_form (value_form o.name) v then Some (Some v) else None
 value_among o values (v ∷ w ∷ ws) = None
 
+-- the value of an option, where its row allows one so
 abbrev pub option_value : OptionForm → Values → Option (Option Text)
 option_value o values = value_among o values (values (option_text o.name))
 
+-- a value that may be left out, as a list
 abbrev pub value_list : Option Text → List Text
 value_list None = []
 value_list (Some v) = v ∷ []

@@ -1,16 +1,22 @@
-//! Times the nearest plan and its settling for one chain of random points.
+//! Times the nearest plan, its settling and the search, for one chain or several of units at random.
 //!
-//! Without an argument it takes a small chain and prints its lengths, passes and steps alone; with a number of units it
-//! prints the times too.
+//! Without an argument it takes a small chain and a small case of several chains and prints lengths, passes and steps alone;
+//! with a number of units it times the settling of one chain; with the name of a layout, a number of units, a number of chains
+//! and letters it times the search: e for units left beside their entry, t for tight bounds, b for units of several bits, o
+//! for some units of several bits that are left far away.
 //!
-//! Floor: benches, on chain_rules, wire_cost, order_search and base_types.
+//! Floor: benches, on plan_search, partition_moves, chain_rules, wire_cost, order_search and base_types.
 #![tactic(auto)]
 
 ghost use Rattle.std.specs.Prelude.{ℕ, ◌^◌, ◌<◌};
 
+mod cases;
+mod searching;
+
 use base_types::{NoMemory, Point, Rows};
 use chain_rules::{ChainRule, Plan, Rules, Unit};
 use order_search::{are_searchable, nearest_plan, settle_order_counted};
+use searching::{run_search, run_small_search};
 use std::alloc::{Alloc, Global};
 use std::rt::Clock;
 use std::time::Instant;
@@ -21,13 +27,13 @@ const SMALL: u32 = 60;
 
 const MANY: u32 = 65536;
 
-// A pseudorandom sequence of full period.
+/// A pseudorandom sequence of full period.
 fn next(seed: u64) -> u64 {
     seed.wrapping_mul(6364136223846793005)
         .wrapping_add(1442695040888963407)
 }
 
-// A coordinate from the upper bits of the sequence.
+/// A coordinate from the upper bits of the sequence.
 fn coordinate(seed: u64) -> u64
     ensures { result < 2 ^ 20 }
 {
@@ -44,7 +50,7 @@ fn point(x: u64, y: u64) -> Point
     }
 }
 
-// One chain of n units at random places of a square; each is left a little beside its entry.
+/// One chain of n units at random places of a square; each is left a little beside its entry.
 fn random_chain(alloc: Global, n: u32) -> Result<(Rules, Ends), NoMemory> {
     let mut units = Rows::new(alloc);
     let mut chains = Rows::new(alloc);
@@ -96,7 +102,7 @@ fn random_chain(alloc: Global, n: u32) -> Result<(Rules, Ends), NoMemory> {
     Ok((rules, ends))
 }
 
-// The length of a plan's one chain; 0 where it has none.
+/// The length of a plan's one chain; 0 where it has none.
 fn length_of(ends: &Ends, plan: &Plan) -> i64 {
     if plan.len() != 1 {
         return 0;
@@ -145,16 +151,44 @@ fn run(
     Ok(Ok(()))
 }
 
+/// A number in a word, or another one.
+fn number(word: Option<&String>, none: u32) -> u32 {
+    match word {
+        Some(word) => word.as_str().parse::<u32>().unwrap_or(none),
+        None => none,
+    }
+}
+
+/// What the words ask for.
+fn run_words(
+    rt: &(impl Clock + Print + Alloc<A = Global>),
+    words: &[String],
+) -> io::Result<Result<(), NoMemory>> {
+    let Some(first) = words.first() else {
+        return match run(rt, SMALL, false)? {
+            Ok(()) => run_small_search(rt),
+            Err(refused) => Ok(Err(refused)),
+        };
+    };
+    if let Ok(n) = first.as_str().parse::<u32>() {
+        return run(rt, n.min(MANY), true);
+    }
+    let letters = words.get(3).map_or("", |word| word.as_str());
+    run_search(
+        rt,
+        first.as_str(),
+        number(words.get(1), MANY / 4),
+        number(words.get(2), 8),
+        letters,
+    )
+}
+
 fn main(rt: HostRuntime) -> io::Result<()> {
-    let asked = match env::args(&rt)?.nth(1) {
-        Some(word) => word.as_str().parse::<u32>().ok(),
-        None => None,
-    };
-    let ran = match asked {
-        Some(n) if n <= MANY => run(&rt, n, true)?,
-        _ => run(&rt, SMALL, false)?,
-    };
-    match ran {
+    let mut words = Vec::new(rt.alloc());
+    for word in env::args(&rt)?.skip(1) {
+        words.push(word)?;
+    }
+    match run_words(&rt, words.as_slice())? {
         Ok(()) => Ok(()),
         Err(NoMemory) => println!(rt; "no memory"),
     }

@@ -6,8 +6,7 @@ use Rattle.token_forms.specs.Tokens.{Token}
 use Rattle.std.specs.List.{AllByRecursion as Each}
 use Rattle.splice.specs.declared.Edit.{Edit}
 use Rattle.token_forms.specs.Parts.{Part, Fixed, Slot, Fits, spelled, token_texts}
-use Rattle.token_forms.proofs.Spelled.{split_fits, fits_front}
-use Rattle.token_forms.proofs.Unspelled.{spelled_append}
+use Rattle.token_forms.proofs.Spelled.{spelled_append, split_fits, fits_front}
 use Rattle.splice.proofs.Edited.{AreEdits}
 use Rattle.splice.proofs.Seams.{Seams, texts_in, IsReady}
 use Rattle.splice.proofs.Tokens.{AreSwapped}

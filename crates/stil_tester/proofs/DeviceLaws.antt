@@ -1,4 +1,4 @@
--- No device tells patterns of the same meaning apart, by induction over what happens in a run.
+-- No device tells patterns that run alike apart, by induction over what happens in a run.
 use Rattle.std.proofs.Common.{◌≡◌, ℕ, ◌≤◌, List, [], ◌∷◌, length, drop, get_or, refl, sym, ap, ◌∙◌, arith}
 use Rattle.std.specs.Prelude.{⊤, All}
 use Rattle.std.proofs.lemmas.List.Elements.{All-nil, All-cons}
@@ -10,7 +10,7 @@ use Rattle.stil_tester.specs.declared.chains.Chains.{Chains}
 use Rattle.stil_tester.specs.declared.results.ScanResult.{ScanResult}
 use Rattle.stil_tester.specs.Shifting.{HasCells, scan_call}
 use Rattle.stil_tester.specs.Runs.{Telling, Begins, Reads, Ends, Event, Tells, Shifts, all_events, Answer, answers_taken, Results, run_events, run_patterns, AreAnswersFor, Behaviour, answers_along, device_after, Play, play_of}
-use Rattle.stil_tester.specs.Meaning.{Patterns, Reading, AllAlike, HaveSameMeaning}
+use Rattle.stil_tester.specs.Meaning.{Patterns, Reading, AllAlike, RunAlike}
 use Rattle.stil_tester.specs.DeviceLaw.{AnswersForEachCell, AnswersAlike}
 use Rattle.stil_tester.proofs.Lengths.{length-scan_call}
 
@@ -133,7 +133,7 @@ same_along tokens device old new each alike (Tells a ∷ es) (Shifts d ∷ fs) s
 same_along tokens device old new each alike (Shifts a ∷ es) (Tells b ∷ fs) state cells e long h = absurd e
 
 -- two plays from equal cells are equal: each answer, what is shown, and the device at the end
-pub plays_alike : {S : Type 0} (reading : Reading) (old new : Patterns) (device : Behaviour S) → AnswersForEachCell device → AnswersAlike reading.tokens device → HaveSameMeaning reading old new
+pub plays_alike : {S : Type 0} (reading : Reading) (old new : Patterns) (device : Behaviour S) → AnswersForEachCell device → AnswersAlike reading.tokens device → RunAlike reading old new
     → (state : S) (cells : List Symbol) → HasCells old.chains cells → play_of device old.chains old.statements state cells ≡ play_of device new.chains new.statements state cells
 plays_alike {S} reading old new device each alike h state cells long =
     let es : List Event = all_events old.statements in

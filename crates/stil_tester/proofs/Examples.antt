@@ -1,10 +1,11 @@
 -- The definitions, computed on small patterns.
-use Rattle.std.proofs.Common.{◌≡◌, ℕ, List, [], ◌∷◌, true, false, refl}
+use Rattle.std.proofs.Common.{◌≡◌, ℕ, List, [], ◌∷◌, true, false, get_or, refl, ap, arith}
 use Rattle.std.specs.Prelude.{Option, None, Some, codes}
 use Rattle.stil_reader.specs.declared.statement.ScanCall.{ScanCall}
 use Rattle.stil_tester.specs.declared.symbol.Symbol.TheVariants.{Zero, One, Unknown}
 use Rattle.stil_tester.specs.declared.chains.Chains.{Chains}
 use Rattle.stil_tester.specs.Shifting.{scan_call}
+use Rattle.stil_tester.specs.Meaning.{HaveSameMeaning, PatternText, Reading}
 
 abbrev three_flops : Chains
 three_flops = record { chains = record { cells = 0 ∷ 1 ∷ 2 ∷ []; parity = false ∷ false ∷ false ∷ []; out_parity = false } ∷ []; cells = 3 }
@@ -30,3 +31,10 @@ inverted = record { chains = record { cells = 2 ∷ 0 ∷ 1 ∷ []; parity = tru
 
 loads_inverted : scan_call inverted (One ∷ Zero ∷ Zero ∷ []) (call (Some (codes "110")) (Some (codes "HHL"))) ≡ record { loaded = Zero ∷ One ∷ One ∷ []; passed = true }
 loads_inverted = refl
+
+-- a Pattern of another name has another meaning, though it runs alike
+abbrev named : List ℕ → PatternText
+named name = record { head = []; names = name ∷ []; played = record { chains = three_flops; statements = [] } }
+
+renamed : (reading : Reading) → ¬ HaveSameMeaning reading (named (codes "p1")) (named (codes "q1"))
+renamed reading same = omega (arith, ap (λ (names : List (List ℕ)). get_or (get_or names 0 []) 0 0) same.names)

@@ -1,3 +1,4 @@
+pub mod Calls
 pub mod Strings
 pub mod WellFormed
 pub mod DeviceLaws

@@ -1,4 +1,4 @@
--- Patterns whose scan calls show the same, one by one, have the same meaning.
+-- Patterns whose scan calls show the same, one by one, run alike.
 use Rattle.std.proofs.Common.{◌≡◌, List, [], ◌∷◌, refl, ap, ◌∙◌, arith}
 use Rattle.std.specs.Prelude.{⊤, All}
 use Rattle.std.proofs.lemmas.List.Elements.{All-head, All-tail}
@@ -9,7 +9,7 @@ use Rattle.stil_tester.specs.declared.chains.Chains.{Chains}
 use Rattle.stil_tester.specs.declared.results.ScanResult.{ScanResult}
 use Rattle.stil_tester.specs.Shifting.{HasCells, scan_call}
 use Rattle.stil_tester.specs.Runs.{Event, Tells, Shifts, all_events, Answer, Results, run_events}
-use Rattle.stil_tester.specs.Meaning.{AllAlike, AllShowSame, HaveSameMeaning, Patterns, Reading, ShowSame}
+use Rattle.stil_tester.specs.Meaning.{AllAlike, AllShowSame, RunAlike, Patterns, Reading, ShowSame}
 use Rattle.stil_tester.proofs.Lengths.{length-scan_call}
 
 -- at each place of both lists the device is told something, or scan calls shift that show the same
@@ -51,8 +51,8 @@ run_same old new (Shifts a ∷ es) [] h cells long answers each = absurd h
 run_same old new (Tells a ∷ es) (Shifts d ∷ fs) h cells long answers each = absurd h
 run_same old new (Shifts a ∷ es) (Tells b ∷ fs) h cells long answers each = absurd h
 
-pub same_meaning : (reading : Reading) (old new : Patterns) → old.chains.cells ≡ new.chains.cells → AllAlike reading old.statements new.statements → AllShowSame old.chains new.chains old.statements new.statements → HaveSameMeaning reading old new
-same_meaning reading old new same alike h =
+pub run_alike : (reading : Reading) (old new : Patterns) → old.chains.cells ≡ new.chains.cells → AllAlike reading old.statements new.statements → AllShowSame old.chains new.chains old.statements new.statements → RunAlike reading old new
+run_alike reading old new same alike h =
     record {
       cells = same;
       alike = alike;

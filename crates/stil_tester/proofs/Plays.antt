@@ -1,16 +1,18 @@
 -- Playing events one after another.
-use Rattle.std.proofs.Common.{◌≡◌, ℕ, ◌+◌, ◌<◌, zero, suc, List, [], ◌∷◌, ◌++◌, length, take, get_or, refl, sym, ap, ◌∙◌, add-one, arith}
+use Rattle.std.proofs.Common.{◌≡◌, ℕ, ◌+◌, ◌<◌, zero, suc, List, [], ◌∷◌, ◌++◌, length, take, drop, get_or, refl, sym, ap, ◌∙◌, add-one, arith}
 use Rattle.std.specs.Prelude.{All, Bool, OnErr, Result, Ok, Err}
-use Rattle.std.proofs.Math.Seq.{take-suc}
+use Rattle.std.proofs.Math.Seq.{take-suc, take-append_seam}
+use Rattle.std.proofs.lemmas.List.{length-append, take-append-drop}
 use Rattle.std.proofs.lemmas.List.Elements.{All-append, All-nil}
 use Rattle.stil_tester.proofs.WellFormed.{All-left, All-right}
 use Rattle.std.proofs.lemmas.List.Concat.{flat_map-append}
 use Rattle.stil_reader.specs.declared.statement.PatternStatement.{PatternStatement}
+use Rattle.stil_reader.specs.declared.statement.PatternStatement.TheVariants.{Scan, Other}
 use Rattle.stil_tester.specs.declared.symbol.Symbol.{Symbol}
 use Rattle.stil_tester.specs.declared.chains.Chains.{Chains}
 use Rattle.stil_tester.specs.declared.results.ScanResult.{ScanResult}
 use Rattle.stil_tester.specs.Shifting.{scan_call}
-use Rattle.stil_tester.specs.Runs.{Event, Tells, Shifts, events_of, all_events, Answer, Behaviour, Play, play_events, play_of}
+use Rattle.stil_tester.specs.Runs.{Event, Tells, Shifts, Reads, scan_events, runs_of, all_runs, events_in, events_of, all_events, Answer, AreAfterSome, Behaviour, Play, play_events, play_of}
 
 -- one play after another
 abbrev pub joined : {S : Type 0} → Play S → Play S → Play S
@@ -57,6 +59,28 @@ play_of-more device chains ss i d state cells l =
     ap (λ (ts : List PatternStatement). play_of device chains ts state cells) more
     ∙ (ap (λ (es : List Event). play_events device chains es state cells) (flat_map-append events_of (take i ss) (get_or ss i d ∷ []))
     ∙ play_events-append device chains (all_events (take i ss)) (all_events (get_or ss i d ∷ [])) state cells)
+
+-- what is run at some statements from the front is run first
+runs-front : (ss : List PatternStatement) (i : ℕ) → all_runs ss ≡ all_runs (take i ss) ++ all_runs (drop i ss)
+runs-front ss i = ap all_runs (sym (take-append-drop i ss)) ∙ flat_map-append runs_of (take i ss) (drop i ss)
+
+-- all that happens is what happens in all that is run
+events_in-runs : (ss : List PatternStatement) → events_in (all_runs ss) ≡ all_events ss
+events_in-runs [] = refl
+events_in-runs (Scan p text call line ∷ ss) = ap (λ (es : List Event). scan_events call ++ es) (events_in-runs ss)
+events_in-runs (Other p text ∷ ss) = ap (λ (es : List Event). Tells (Reads text) ∷ es) (events_in-runs ss)
+
+-- what is left after some statements from the front is left after some of what is run
+pub after_some : {S : Type 0} (device : Behaviour S) (chains : Chains) (ss : List PatternStatement) (i : ℕ) (state : S) (cells : List Symbol) (state' : S) (cells' : List Symbol)
+    → state' ≡ (play_of device chains (take i ss) state cells).device → cells' ≡ (play_of device chains (take i ss) state cells).results.cells → AreAfterSome device chains ss state cells state' cells'
+after_some {S} device chains ss i state cells state' cells' d e =
+    let front : List (List Event) = all_runs (take i ss) in
+    let back : List (List Event) = all_runs (drop i ss) in
+    let parts : all_runs ss ≡ front ++ back = runs-front ss i in
+    let first : take (length front) (all_runs ss) ≡ front = ap (take (length front)) parts ∙ take-append_seam front back in
+    let events : events_in (take (length front) (all_runs ss)) ≡ all_events (take i ss) = ap events_in first ∙ events_in-runs (take i ss) in
+    let same : play_events device chains (events_in (take (length front) (all_runs ss))) state cells ≡ play_of device chains (take i ss) state cells = ap (λ (es : List Event). play_events device chains es state cells) events in
+    (length front, omega (arith, ap length parts, length-append front back), d ∙ sym (ap (λ (p : Play S). p.device) same), e ∙ sym (ap (λ (p : Play S). p.results.cells) same))
 
 -- a scan call of some statements fits the chains where those of all do
 pub events_at : (P : Event → Type 0) (ss : List PatternStatement) (i : ℕ) (d : PatternStatement) → i < length ss → All P (all_events ss) → All P (all_events (get_or ss i d ∷ []))

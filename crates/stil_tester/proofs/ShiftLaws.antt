@@ -14,6 +14,7 @@ use Rattle.stil_tester.specs.declared.chains.ChainBits.{ChainBits}
 use Rattle.stil_tester.specs.declared.chains.Chains.{Chains}
 use Rattle.stil_tester.specs.Symbols.{flip_if, meets, padded_compare}
 use Rattle.stil_tester.specs.Shifting.{AreChains, AllMet, HasCells, IsCallFor, IsChain, MoveOn, all_met, all_moved_on, cell_at, cells_before, expects_at, held_by, met_before, moved_on, numbers_of, output_of, outputs_at, scan_call, shift_step, with_symbols}
+use Rattle.stil_tester.proofs.Calls.{length-compares}
 use Rattle.stil_tester.proofs.Lengths.{length-with_symbols}
 use Rattle.stil_tester.proofs.Shifts.{AreApart, HaveParities, count_of, count_of-append, count_of-more, held-with_symbols, length-moved_on, shift_each, shift_each-is}
 use Rattle.stil_tester.proofs.WellFormed.{All-left, All-right, apart_of, count_of-chain, parities_of}
@@ -152,9 +153,9 @@ passes_where_met chains cells call h =
     let as_many : (k : ℕ) → length (outputs_at chains cells call k) ≡ length chains.chains = λ k. length-map chains.chains (output_of (cells_before chains cells call k)) in
     let expected : (k : ℕ) → length (expects_at call k) ≡ length call.compares = λ k. length-map call.compares (λ compare. get_or (padded_compare call.shifts compare) k Any) in (
       λ met k n l m.
-          let each : n < length (expects_at call k) = omega (arith, expected k, h.compares) in
+          let each : n < length (expects_at call k) = omega (arith, expected k, length-compares chains call h) in
           let there : n < length (outputs_at chains cells call k) = omega (arith, as_many k) in
-          subst (λ (e : Expect). meets e (get_or (outputs_at chains cells call k) n Unknown) ≡ true) (expects-at call k n (omega (arith, h.compares)))
+          subst (λ (e : Expect). meets e (get_or (outputs_at chains cells call k) n Unknown) ≡ true) (expects-at call k n (omega (arith, length-compares chains call h)))
           (all_met-each (expects_at call k) (outputs_at chains cells call k) n (met_before-each chains cells call call.shifts k met l) each there),
       λ all. met_before-from_each chains cells call call.shifts (λ k l.
           all_met-from_each (expects_at call k) (outputs_at chains cells call k) (λ n m there.

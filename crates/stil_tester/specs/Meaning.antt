@@ -13,6 +13,12 @@ pub record Patterns : Type 0 where
   pub chains : Chains
   pub statements : List PatternStatement
 
+-- a text of patterns: the tokens of its head, but for the numbers of ScanLength and ScanInversion and the lists of ScanCells, which are left out; the names of its Patterns in order; and what is played
+pub record PatternText : Type 0 where
+  pub head : List (List ℕ)
+  pub names : List (List ℕ)
+  pub played : Patterns
+
 -- how the text of a statement is read: its tokens, and for a Scan its labels and what it calls
 pub record Reading : Type 0 where
   pub tokens : List ℕ → List (List ℕ)
@@ -33,10 +39,16 @@ AllAlike reading (a ∷ as') [] = ⊥
 AllAlike reading (a ∷ as') (b ∷ bs) = AreAlike reading a b × AllAlike reading as' bs
 
 -- the same statements but for the data of scan calls, on chains of the same cells, and from whatever cells and with whatever answers both show the same
-pub record HaveSameMeaning (reading : Reading) (old new : Patterns) : Type 0 where
+pub record RunAlike (reading : Reading) (old new : Patterns) : Type 0 where
   pub cells : old.chains.cells ≡ new.chains.cells
   pub alike : AllAlike reading old.statements new.statements
   pub results : (cells : List Symbol) (answers : List Answer) → HasCells old.chains cells → AreAnswersFor old.chains old.statements answers → run_patterns old.chains old.statements cells answers ≡ run_patterns new.chains new.statements cells answers
+
+-- equal heads, but for the lengths, inversions and cells of the chains; Patterns of equal names; and what is played runs alike
+pub record HaveSameMeaning (reading : Reading) (old new : PatternText) : Type 0 where
+  pub head : old.head ≡ new.head
+  pub names : old.names ≡ new.names
+  pub run : RunAlike reading old.played new.played
 
 -- from whatever cells, one call on these chains and the other on those leave the same cells, and pass alike
 abbrev pub ShowSame : Chains → Chains → ScanCall → ScanCall → Type 0

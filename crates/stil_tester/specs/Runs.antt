@@ -24,10 +24,22 @@ pub data Event : Type 0 where
 abbrev pub scan_events : ScanCall → List Event
 scan_events call = Tells Begins ∷ Shifts call ∷ Tells Ends ∷ []
 
+-- what is run at a statement, one after the other: a whole scan call, or another statement
+abbrev pub runs_of : PatternStatement → List (List Event)
+runs_of (Scan pattern text call line) = scan_events call ∷ []
+runs_of (Other pattern text) = (Tells (Reads text) ∷ []) ∷ []
+
+-- what is run at all statements, in order
+abbrev pub all_runs : List PatternStatement → List (List Event)
+all_runs statements = flat_map runs_of statements
+
+-- what happens in all that is run
+abbrev pub events_in : List (List Event) → List Event
+events_in runs = flat_map (λ run. run) runs
+
 -- what happens at a statement
 abbrev pub events_of : PatternStatement → List Event
-events_of (Scan pattern text call line) = scan_events call
-events_of (Other pattern text) = Tells (Reads text) ∷ []
+events_of statement = events_in (runs_of statement)
 
 -- what happens at all statements, in order
 abbrev pub all_events : List PatternStatement → List Event
@@ -108,6 +120,7 @@ pub record Play (S : Type 0) : Type 0 where
   pub results : Results
   pub device : S
 
+-- a device plays events
 abbrev pub play_events : {S : Type 0} → Behaviour S → Chains → List Event → S → List Symbol → Play S
 play_events device chains events state cells =
     let answers = answers_along device chains events state cells in
@@ -121,7 +134,7 @@ play_events device chains events state cells =
 abbrev pub play_of : {S : Type 0} → Behaviour S → Chains → List PatternStatement → S → List Symbol → Play S
 play_of device chains statements state cells = play_events device chains (all_events statements) state cells
 
--- the device and the cells are those after some statements from the front
+-- the device and the cells are those after some of what is run, from the front
 abbrev pub AreAfterSome : {S : Type 0} → Behaviour S → Chains → List PatternStatement → S → List Symbol → S → List Symbol → Type 0
 AreAfterSome device chains statements state cells state' cells' =
-    (n : ℕ) × (n ≤ length statements) × (state' ≡ (play_of device chains (take n statements) state cells).device) × (cells' ≡ (play_of device chains (take n statements) state cells).results.cells)
+    (n : ℕ) × (n ≤ length (all_runs statements)) × (state' ≡ (play_events device chains (events_in (take n (all_runs statements))) state cells).device) × (cells' ≡ (play_events device chains (events_in (take n (all_runs statements))) state cells).results.cells)

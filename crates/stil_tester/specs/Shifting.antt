@@ -1,7 +1,8 @@
 -- Scan chains, one shift of all of them at once, and one scan call (IEEE 1450-1999, ScanStructures and Shift).
-use Rattle.std.specs.Prelude.{◌≡◌, ℕ, ◌+◌, ◌-◌, ◌<◌, ◌≤◌, ◌==◌, ◌&&◌, ◌||◌, ◌++◌, ⊤, zero, suc, Bool, true, false, nat_eq, max, List, [], ◌∷◌, length, map, slice_get, slice_index, slice_index_or, slice_set, count_by, All, Option, None, Some}
-use Rattle.std.specs.List.{AllPass, flat_map}
+use Rattle.std.specs.Prelude.{◌≡◌, ℕ, ◌+◌, ◌-◌, ◌<◌, ◌≤◌, ◌&&◌, ◌++◌, zero, suc, Bool, true, false, nat_eq, List, [], ◌∷◌, length, map, slice_get, slice_index, slice_index_or, slice_set, count_by, All, None, Some}
+use Rattle.std.specs.List.{flat_map}
 use Rattle.stil_reader.specs.declared.statement.ScanCall.{ScanCall}
+use Rattle.stil_reader.specs.Calls.{IsCallOn}
 use Rattle.stil_tester.specs.declared.symbol.Symbol.{Symbol}
 use Rattle.stil_tester.specs.declared.symbol.Symbol.TheVariants.{Unknown}
 use Rattle.stil_tester.specs.declared.symbol.Expect.{Expect}
@@ -82,35 +83,13 @@ pub record MoveOn (chains : Chains) (cells inputs outs after : List Symbol) : Ty
   -- what the last bit held stands at the scan output
   pub output : (k : ℕ) (chain : ChainBits) → slice_get chains.chains k ≡ Some chain → slice_index_or outs k Unknown ≡ flip_if chain.out_parity (cell_at cells (slice_index chain.cells (length chain.cells - 1)))
 
--- the length of a string, and 0 where none is given
-abbrev pub string_length : Option (List ℕ) → ℕ
-string_length None = 0
-string_length (Some text) = length text
+-- how many bits each chain has
+abbrev pub bit_counts : Chains → List ℕ
+bit_counts chains = map (λ chain. length chain.cells) chains.chains
 
-abbrev pub longest_string : List (Option (List ℕ)) → ℕ
-longest_string [] = 0
-longest_string (string ∷ strings) = max (string_length string) (longest_string strings)
-
--- 0, 1 or N
-abbrev pub is_load_character : ℕ → Bool
-is_load_character character = character == 48 || character == 49 || character == 78
-
--- L, H or X
-abbrev pub is_compare_character : ℕ → Bool
-is_compare_character character = character == 76 || character == 72 || character == 88
-
--- each character of a string passes a test
-abbrev pub IsStringOf : (ℕ → Bool) → Option (List ℕ) → Type 0
-IsStringOf test None = ⊤
-IsStringOf test (Some text) = AllPass test text
-
--- a call gives each chain at most one string of each kind, and shifts as often as its longest string asks for
-pub record IsCallFor (chains : Chains) (call : ScanCall) : Type 0 where
-  pub loads : length call.loads ≡ length chains.chains
-  pub compares : length call.compares ≡ length chains.chains
-  pub load_characters : All (IsStringOf is_load_character) call.loads
-  pub compare_characters : All (IsStringOf is_compare_character) call.compares
-  pub shifts : call.shifts ≡ max (longest_string call.loads) (longest_string call.compares)
+-- a call fits the chains
+abbrev pub IsCallFor : Chains → ScanCall → Type 0
+IsCallFor chains call = IsCallOn (bit_counts chains) call
 
 -- what stands at the scan inputs in shift k
 abbrev pub inputs_at : ScanCall → ℕ → List Symbol

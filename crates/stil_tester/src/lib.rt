@@ -23,6 +23,3 @@ pub use results::{PlayLog, ScanResult};
 pub use scan::scan_call;
 pub use shift::shift_step;
 pub use symbol::{Expect, Symbol};
-
-#[cfg(test)]
-mod tests;

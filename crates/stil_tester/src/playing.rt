@@ -15,7 +15,7 @@ use stil_reader::{PatternStatement, ScanCall};
 ///
 /// The device answers before the shifts of each scan call, after them, and at each other statement;
 /// what it answers becomes the cells. Where memory runs out, the device and the cells are those
-/// after some statements from the front.
+/// after some of what is run, from the front: whole scan calls and whole other statements.
 pub fn play<D: Device>(
     alloc: Global,
     chains: &Chains,

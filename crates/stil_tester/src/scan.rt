@@ -1,5 +1,6 @@
 ghost use Rattle.std.specs.Prelude.{◌≡◌, ℕ, ◌<◌, ◌≤◌, ◌↔◌, IfOk, IsTrue, OnErr, OnOk, length, slice_index_or};
-ghost use Rattle.stil_tester.specs.Shifting.{AllMet, AreChains, HasCells, IsCallFor, all_met, expects_at, inputs_at, longest_string, scan_call as scan_call_of, string_length};
+ghost use Rattle.stil_reader.specs.Calls.{longest_string, string_length};
+ghost use Rattle.stil_tester.specs.Shifting.{AllMet, AreChains, HasCells, IsCallFor, all_met, expects_at, inputs_at, scan_call as scan_call_of};
 ghost use Rattle.stil_tester.specs.Symbols.{padded_compare, padded_load};
 
 use crate::chains::Chains;

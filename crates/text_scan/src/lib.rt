@@ -8,6 +8,3 @@ pub use base_types::{
     plain_name,
 };
 pub use verilog_syntax::verilog_tokens;
-
-#[cfg(test)]
-mod tests;

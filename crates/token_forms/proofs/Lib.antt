@@ -3,13 +3,13 @@ pub mod ClassLemmas
 pub mod Cuts
 pub mod Exact
 pub mod Fronts
+pub mod Joined
 pub mod Laws
-pub mod Lists
 pub mod Loops
+pub mod Parted
 pub mod PassLoops
 pub mod Reaches
 pub mod Spelled
 pub mod SplitLaw
 pub mod SplitUnique
 pub mod TokenPlaces
-pub mod Unspelled

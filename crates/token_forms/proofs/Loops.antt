@@ -56,6 +56,27 @@ module _ {X : Type 0} (starts : List Class) (reads : List Token → Option (X ×
     stops_many stops.NoForm rest rest' here read s = sym s.same ∙ ap (with_front front) (none_within s.fuel here read)
     stops_many stops.NoMemory rest rest' here read s = tt
 
+-- no value stands there, or the first is of no form
+module _ {X : Type 0} (starts : List Class) (reads : List Token → Option (X × List Token)) (ts : List Token) where
+  none_more : (n : ℕ) → begins starts ts ≡ false → many_within starts reads n ts ≡ Some ([], ts)
+  unfolding many_within
+  none_more zero none = rw none
+  none_more (suc n) none = rw none
+
+  pub no_more : begins starts ts ≡ false → many_at starts reads ts ≡ Some ([], ts)
+  unfolding many_at
+  no_more none = none_more (length ts) none
+
+  none_first : (n : ℕ) → begins starts ts ≡ true → reads ts ≡ None → many_within starts reads n ts ≡ None
+  unfolding many_within
+  none_first zero here read = rw here
+  none_first (suc n) here read = rw (here, read)
+
+  pub stops_first : (e : Stop) (rest rest' : List Token) → begins starts ts ≡ true → Gives {X = X} (Err e) rest (reads ts) → Gives {X = List X} (Err e) rest' (many_at starts reads ts)
+  unfolding many_at
+  stops_first stops.NoForm rest rest' here read = none_first (length ts) here read
+  stops_first stops.NoMemory rest rest' here read = tt
+
 -- where each value takes a token at least, more turns than tokens change nothing
 module _ {X : Type 0} (starts : List Class) (reads : List Token → Option (X × List Token)) (short : (ts : List Token) (x : X × List Token) → reads ts ≡ Some x → length x.1 < length ts) where
   abbrev turn_of : Bool → Option (X × List Token) → (X × List Token → Option (List X × List Token)) → List Token → Option (List X × List Token)

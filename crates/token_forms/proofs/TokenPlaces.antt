@@ -1,7 +1,7 @@
 -- Where some tokens stand, from their spans.
-use Rattle.std.proofs.Common.{◌≡◌, ◌<◌, ◌≤◌, ◌-◌, ◌+◌, ℕ, zero, suc, List, [], ◌∷◌, length, take, map, slice_index_or, refl, sym, ap, ◌∙◌, arith}
+use Rattle.std.proofs.Common.{◌≡◌, ◌<◌, ◌≤◌, ◌-◌, ℕ, zero, suc, List, [], ◌∷◌, length, take, slice_index_or, refl, ap, arith}
 use Rattle.base_types.specs.declared.span.Span.{Span}
-use Rattle.token_forms.specs.Tokens.{Token, token_of, tokens_of, last_end_of, place_of}
+use Rattle.token_forms.specs.Tokens.{token_of, tokens_of, last_end_of, place_of}
 
 abbrev nowhere : Span
 nowhere = record { start = 0; end = 0 }

@@ -13,6 +13,7 @@ pub record Chunk : Type 0 where
   pub taken : List Token
   pub left : List Token
 
+-- a chunk with one more token in front
 abbrev pub put_before : Token → Chunk → Chunk
 put_before t chunk = record { ended = chunk.ended; taken = t ∷ chunk.taken; left = chunk.left }
 
@@ -22,6 +23,7 @@ chunk_at GoesOn t ts more = put_before t more
 chunk_at Closes t ts more = record { ended = Closed; taken = t ∷ []; left = ts }
 chunk_at Stops t ts more = record { ended = Stopped; taken = []; left = ts }
 
+-- the tokens up to the first at which a statement ends, and what is left behind it
 abbrev pub chunk_of : {S : Type 0} → (S → List ℕ → Step × S) → S → List Token → Chunk
 chunk_of step s [] = record { ended = Text; taken = []; left = [] }
 chunk_of step s (t ∷ ts) = chunk_at (step s t.text).0 t ts (chunk_of step (step s t.text).1 ts)

@@ -1,6 +1,6 @@
 -- Grammars as values. A form says which tokens spell a value of its type; the same form reads the value from the front of
 -- tokens, by one token of foresight. What the form reads is spelled so, and what is spelled so is read: proofs/Laws.
-use Rattle.std.specs.Prelude.{◌≡◌, ◌-◌, ◌==◌, ◌+◌, ℕ, zero, suc, Bool, true, false, ◌&&◌, ◌||◌, not, if◌then◌else◌, List, [], ◌∷◌, ◌++◌, length, take, Option, Some, None, IsSomeAnd, codes, ◌⊎◌}
+use Rattle.std.specs.Prelude.{◌≡◌, ◌-◌, ◌==◌, ◌+◌, ℕ, zero, suc, Bool, true, false, ◌&&◌, ◌||◌, not, if◌then◌else◌, List, [], ◌∷◌, ◌++◌, length, Option, Some, None, IsSomeAnd, codes, ◌⊎◌}
 use Prim.Native.String.{String}
 use Rattle.std.specs.Str.{bytes_eq}
 use Rattle.token_forms.specs.Tokens.{Token, place_of, run_place, front_of}
@@ -32,6 +32,7 @@ pub record Split (P Q : List Token → Type 0) (ts : List Token) : Type 0 where
 abbrev pub IsNothing : List Token → Type 0
 IsNothing ts = ts ≡ []
 
+-- the tokens are the one word
 pub record IsWord (word : List ℕ) (ts : List Token) : Type 0 where
   pub token : Token
   pub is : ts ≡ token ∷ []
@@ -46,6 +47,7 @@ word w =
 abbrev pub key : String → Form (Unit {0})
 key w = word (codes w)
 
+-- the tokens are one, whose text is the value
 pub record IsText (kind : Class) (test : List ℕ → Bool) (value : List ℕ) (ts : List Token) : Type 0 where
   pub token : Token
   pub is : ts ≡ token ∷ []
@@ -53,6 +55,7 @@ pub record IsText (kind : Class) (test : List ℕ → Bool) (value : List ℕ) (
   pub kind_is : is_in kind value ≡ true
   pub passes : test value ≡ true
 
+-- the text of the first token, if it is of the class and passes the test
 unfoldable pub text_at : Class → (List ℕ → Bool) → List Token → Option (List ℕ × List Token)
 text_at kind test [] = None
 text_at kind test (t ∷ ts) = if (is_in kind t.text && test t.text) then Some (t.text, ts) else None
@@ -75,6 +78,7 @@ a & b =
       is_clear = a.is_clear && (b.is_clear && all_apart a.goes_on b.starts);
     }
 
+-- the value is made of parts of which this holds
 pub record IsMade {A X : Type 0} (f : A → X) (P : A → Type 0) (x : X) : Type 0 where
   pub parts : A
   pub is : f parts ≡ x
@@ -97,10 +101,12 @@ infixr 20 ◌▸◌
 abbrev pub ◌▸◌ : {A : Type 0} → String → Form A → Form A
 w ▸ a = made (λ x. x.1) (key w & a)
 
+-- a form and a word behind it
 infixl 15 ◌◂◌
 abbrev pub ◌◂◌ : {A : Type 0} → Form A → String → Form A
 a ◂ w = made (λ x. x.0) (a & key w)
 
+-- this holds of the value, and it passes the test
 pub record Passes {X : Type 0} (P : X → Type 0) (test : X → Bool) (x : X) : Type 0 where
   pub holds : P x
   pub passes : test x ≡ true
@@ -131,6 +137,7 @@ a or b =
       is_clear = (a.is_clear && not a.may_be_empty) && (b.is_clear && all_apart a.starts b.starts);
     }
 
+-- the tokens spell the value, or are none where there is no value
 abbrev pub IsMaybe : {X : Type 0} → (X → List Token → Type 0) → Option X → List Token → Type 0
 IsMaybe P None ts = IsNothing ts
 IsMaybe P (Some x) ts = P x ts
@@ -147,6 +154,7 @@ maybe a =
       is_clear = a.is_clear && not a.may_be_empty;
     }
 
+-- the tokens spell the values, one behind the other
 abbrev pub AreMany : {X : Type 0} → (X → List Token → Type 0) → List X → List Token → Type 0
 AreMany P [] ts = IsNothing ts
 AreMany P (x ∷ xs) ts = Split (P x) (AreMany P xs) ts
@@ -157,6 +165,7 @@ many_within starts reads zero ts = if begins starts ts then None else Some ([], 
 many_within starts reads (suc n) ts =
     if begins starts ts then (reads ts >>= λ x. many_within starts reads n x.1 >>= λ xs. Some (x.0 ∷ xs.0, xs.1)) else Some ([], ts)
 
+-- values as long as one begins
 unfoldable pub many_at : {X : Type 0} → List Class → (List Token → Option (X × List Token)) → List Token → Option (List X × List Token)
 many_at starts reads ts = many_within starts reads (length ts) ts
 
@@ -200,14 +209,17 @@ abbrev pub AllPass : Passing → ℕ → List Token → Type 0
 AllPass p depth [] = depth ≡ 0
 AllPass p depth (t ∷ ts) = IsSomeAnd (depth_behind p depth t.text) (λ d. AllPass p d ts)
 
+-- tokens that are passed unread, in balanced brackets
 pub record IsPassing (p : Passing) (ts : List Token) : Type 0 where
   pub all : AllPass p 0 ts
 
+-- passing tokens from a depth of brackets on
 unfoldable pub passes_at : Passing → ℕ → List Token → Option (Unit {0} × List Token)
 passes_at p depth [] = if depth == 0 then Some (tt, []) else None
 passes_at p depth (t ∷ ts) =
     elim (depth_behind p depth t.text) [ None ↦ if depth == 0 then Some (tt, t ∷ ts) else None | Some d ↦ passes_at p d ts ]
 
+-- the form of tokens that are passed unread
 abbrev pub passed : Passing → Form (Unit {0})
 passed p =
     record {
@@ -219,6 +231,7 @@ passed p =
       is_clear = true;
     }
 
+-- the tokens spell the value, and stand at the place
 pub record IsAt {X : Type 0} (P : X → List Token → Type 0) (x : X × Span) (ts : List Token) : Type 0 where
   pub holds : P x.0 ts
   pub place : x.1 ≡ place_of ts
@@ -258,6 +271,7 @@ between w a v =
       is_clear = a.is_clear && all_apart a.goes_on (Only (codes v ∷ []) ∷ []);
     }
 
+-- the value is made of parts, where they make one
 pub record IsMadeIf {A X : Type 0} (f : A → Option X) (P : A → Type 0) (x : X) : Type 0 where
   pub parts : A
   pub is : f parts ≡ Some x

@@ -12,6 +12,7 @@ pub record Stands (P : List Token → Type 0) (ts rest : List Token) : Type 0 wh
   pub is : ts ≡ front ++ rest
   pub holds : P front
 
+-- the two readings of a form agree
 pub record IsLawful {X : Type 0} (f : Form X) : Type 0 where
   -- what is read is spelled so
   pub spelled : (ts : List Token) (x : X) (rest : List Token) → f.reads ts ≡ Some (x, rest) → Stands (f.spells x) ts rest

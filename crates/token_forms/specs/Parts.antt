@@ -1,7 +1,6 @@
 -- How a form is spelled in tokens, for any reader: a form is a list of parts, and these fit some tokens.
-use Rattle.std.specs.Prelude.{◌≡◌, ◌<◌, ℕ, List, [], ◌∷◌, ◌++◌, length, map}
+use Rattle.std.specs.Prelude.{◌≡◌, ℕ, List, [], ◌∷◌, ◌++◌, map}
 use Rattle.token_forms.specs.Tokens.{Token}
-use Rattle.std.specs.List.{AllByRecursion as Each}
 use Rattle.base_types.specs.declared.span.Span.{Span}
 
 -- a token with this text; or, between two marks, the tokens of an expression that can be replaced: the opening mark, the
@@ -22,6 +21,7 @@ spelled [] = []
 spelled (Fixed w ∷ ps) = w ∷ spelled ps
 spelled (Slot opening place ws closing ∷ ps) = (opening ∷ []) ∷ ws ++ ((closing ∷ []) ∷ spelled ps)
 
+-- the texts of tokens
 abbrev pub token_texts : List Token → List (List ℕ)
 token_texts ts = map (λ t. t.text) ts
 
@@ -30,10 +30,12 @@ abbrev pub last_end : Token → List Token → ℕ
 last_end t [] = t.end
 last_end t (u ∷ us) = last_end u us
 
+-- the place of some tokens, which is empty before the next one where there are none
 abbrev pub IsPlace : Span → List Token → Token → Type 0
 IsPlace place [] next = (place.start ≡ next.start) × (place.end ≡ next.start)
 IsPlace place (t ∷ ts) next = (place.start ≡ t.start) × (place.end ≡ last_end t ts)
 
+-- the tokens begin with this text
 pub record FitsFixed (w : List ℕ) (ts : List Token) (More : List Token → Type 0) : Type 0 where
   pub token : Token
   pub behind : List Token
@@ -41,6 +43,7 @@ pub record FitsFixed (w : List ℕ) (ts : List Token) (More : List Token → Typ
   pub text : token.text ≡ w
   pub more : More behind
 
+-- the tokens begin with what stands between two marks, at this place
 pub record FitsSlot (opening : ℕ) (place : Span) (ws : List (List ℕ)) (closing : ℕ) (ts : List Token) (More : List Token → Type 0) : Type 0 where
   pub mark : Token
   pub run : List Token
@@ -58,14 +61,3 @@ abbrev pub Fits : List Part → List Token → List Token → Type 0
 Fits [] rest ts = ts ≡ rest
 Fits (Fixed w ∷ ps) rest ts = FitsFixed w ts (Fits ps rest)
 Fits (Slot opening place ws closing ∷ ps) rest ts = FitsSlot opening place ws closing ts (Fits ps rest)
-
--- a value is spelled by the tokens that stand before the rest
-pub record Spells {X : Type 0} (parts : X → List Part) (Good : X → Type 0) (x : X) (rest ts : List Token) : Type 0 where
-  pub fits : Fits (parts x) rest ts
-  pub good : Good x
-
--- one or more items with commas between them
-pub record SpellsList {X : Type 0} (parts : X → List Part) (Good : X → Type 0) (closing : ℕ) (xs : List X) (rest ts : List Token) : Type 0 where
-  pub some : 0 < length xs
-  pub fits : Fits (list_parts parts closing xs) rest ts
-  pub good : Each Good xs

@@ -5,6 +5,7 @@ use Rattle.base_types.specs.declared.span.Span.{Span}
 use Rattle.token_forms.specs.declared.piece.Piece.{Piece}
 use Rattle.token_forms.specs.declared.piece.Piece.TheVariants.{Blank, Token}
 
+-- how many bytes a piece has
 abbrev pub piece_len : Piece → ℕ
 piece_len (Blank n) = n
 piece_len (Token n) = n

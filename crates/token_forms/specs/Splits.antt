@@ -8,6 +8,7 @@ abbrev pub BlanksOf : (List ℕ → ℕ → Type 0) → List ℕ → ℕ → Lis
 BlanksOf IsBlank text from [] to = from ≡ to
 BlanksOf IsBlank text from (n ∷ ns) to = IsBlank (drop from text) n × BlanksOf IsBlank text (from + n) ns to
 
+-- from here to there the text is blank
 pub record AreBlanks (IsBlank : List ℕ → ℕ → Type 0) (text : List ℕ) (from to : ℕ) : Type 0 where
   pub lengths : List ℕ
   pub each : BlanksOf IsBlank text from lengths to

@@ -3,6 +3,7 @@ use Rattle.std.specs.Prelude.{ℕ, ◌+◌, Bool, if◌then◌else◌, List, [],
 use Rattle.std.specs.Str.{bytes_eq}
 use Rattle.token_forms.specs.Tokens.{Token}
 
+-- the token ends a statement
 abbrev pub is_semicolon : Token → Bool
 is_semicolon t = bytes_eq t.text (59 ∷ [])
 

@@ -8,9 +8,11 @@ pub record Token : Type 0 where
   pub start : ℕ
   pub end : ℕ
 
+-- the token at a span
 abbrev pub token_of : List ℕ → Span → Token
 token_of text s = record { text = take (s.end - s.start) (drop s.start text); start = s.start; end = s.end }
 
+-- the tokens at some spans
 abbrev pub tokens_of : List ℕ → List Span → List Token
 tokens_of text spans = map (token_of text) spans
 
@@ -19,6 +21,7 @@ pub record IsSpanOf (text : List ℕ) (s : Span) : Type 0 where
   pub ordered : s.start ≤ s.end
   pub within : s.end ≤ length text
 
+-- each of the spans lies in the text
 abbrev pub AreSpansOf : List ℕ → List Span → Type 0
 AreSpansOf text spans = All (IsSpanOf text) spans
 

@@ -1,4 +1,5 @@
 -- The names of bits: a base, an index and the brackets round it.
+use Rattle.std.specs.Option.{IfSome}
 use Rattle.std.proofs.Common.{◌≡◌, ℕ, ◌^◌, ◌<◌, ◌≤◌, Bool, true, false, ◌&&◌, ◌||◌, List, [], ◌∷◌, ◌++◌, length, get_or, decimal, Option, Some, None, MatchOption, ⊎_elim, refl, sym, ap, ◌∙◌, arith, rules}
 use Rattle.std.specs.Prelude.{◌==◌, fold}
 use Rattle.std.specs.List.{list_any, list_all}
@@ -41,7 +42,7 @@ abbrev pub IsPlain : List ℕ → Option ℕ → Type 0
 IsPlain ds r = MatchOption r ((i : ℕ) → i ≤ 65535 → ds ≡ decimal i → ⊥) (λ i. (i ≤ 65535) × (ds ≡ decimal i))
 
 pub plain_value : (ds : List ℕ) (r : Option ℕ) → list_all is_digit ds ≡ true → 0 < length ds → (get_or ds 0 0 ≡ 48 → length ds ≡ 1)
-    → MatchOption r (65535 < decimal_value ds) (λ v. decimal_value ds ≡ v) → MatchOption r (length ds ≡ length ds) (λ v. v ≤ 65535) → IsPlain ds r
+    → MatchOption r (65535 < decimal_value ds) (λ v. decimal_value ds ≡ v) → IfSome r (λ v. v ≤ 65535) → IsPlain ds r
 plain_value ds None all some first value low = λ i h is. not_big ds i value h is
 plain_value ds (Some v) all some first value low = (low, plain_is ds v all some first low value)
 

@@ -13,3 +13,4 @@ pub mod Ports
 pub mod SeenMore
 pub mod Small
 pub mod Undeclared
+pub mod VerilogFaults

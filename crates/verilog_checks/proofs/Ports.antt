@@ -16,7 +16,7 @@ use Rattle.verilog_names.specs.Values.{plain_of}
 use Rattle.verilog_names.specs.Declarations.{Declaration, declaration_of, is_named, is_port_kind, bounds_in, declarations_in, declarations, ports_in, header_ports, has, items_in}
 use Rattle.verilog_checks.specs.Faults.{BoundsAt, is_bad_select, differ_in_width, has_direction, is_badly_listed, bad_select}
 use Rattle.verilog_names.specs.NameTables.{kept_bounds, known_bounds}
-use Rattle.verilog_checks.specs.Steps.{has_key, listed_in, directed_in, AreKnown, is_bad_beside}
+use Rattle.verilog_checks.specs.Steps.{has_key, listed_in, directed_in, IsGathered, is_bad_beside}
 use Rattle.verilog_checks.specs.Seen.{Keeps}
 use Rattle.verilog_checks.proofs.Firsts.{bounds_is, kept_at, declarations_more}
 
@@ -116,7 +116,7 @@ any_map : {X Y : Type 0} (f : Y → Bool) (h : X → Y) (xs : List X) → list_a
 any_map f h [] = refl
 any_map f h (x ∷ xs) = ap (λ (t : Bool). f (h x) || t) (any_map f h xs)
 
-module _ (names : List (List ℕ × First)) (known : Known) (ps : List Placed) (keeps : Keeps names (declarations ps)) (is : AreKnown known ps) where
+module _ (names : List (List ℕ × First)) (known : Known) (ps : List Placed) (keeps : Keeps names (declarations ps)) (is : IsGathered known ps) where
   bounds_known : known_bounds names ≡ bounds_in (declarations ps)
   bounds_known = λ i q. (ap kept_bounds (kept_at names (declarations ps) q keeps) ∙ bounds_is (declarations ps) q) i
 

@@ -16,7 +16,7 @@ use Rattle.verilog_checks.specs.Faults.{has_twice, any_again, instances_named, i
 use Rattle.verilog_names.specs.NameTables.{firsts_of}
 use Rattle.verilog_checks.specs.Steps.{has_bad_number, are_small}
 use Rattle.verilog_names.specs.NameSets.{HasNames}
-use Rattle.verilog_checks.specs.Seen.{is_small, have_small, is_bit, is_closed, IsClean, Adds, IsSeen, Tells}
+use Rattle.verilog_checks.specs.Seen.{is_small, have_small, is_bit, is_bracketed, IsClean, Adds, IsSeen, Tells}
 use Rattle.verilog_checks.proofs.AnyLemmas.{or_true, or_false, or_false_left, or_false_right, and_parts, any_same}
 use Rattle.verilog_checks.proofs.BitLookups.{are_bits_is}
 use Rattle.verilog_checks.proofs.Clean.{scalars_stay}
@@ -53,13 +53,13 @@ in_order false false false false false f = or_false f
 
 -- what the code finds out at a statement
 pub record IsAdded (itself bits stands again : Bool) (all before : List Placed) (names : List (List ℕ)) (s : Statement) (new : Seen) : Type 0 where
-  pub named : names ≡ filter is_closed (scalars_in (declarations all) s)
+  pub named : names ≡ filter is_bracketed (scalars_in (declarations all) s)
   pub twice : itself ≡ (has_twice (ports_in s) || has_twice (pins_in s))
   pub among : bits ≡ are_bits (declarations before) names
   pub adds : Adds stands new.declared (declarations before) (declarations_in s) (scalars (declarations all) before)
   pub named_again : again ≡ list_any (has (instance_names before)) (instances_named s)
   pub instances : HasNames new.instances (instance_names before ++ instances_named s)
-  pub nets : HasNames new.nets (filter is_closed (scalars (declarations all) before) ++ names)
+  pub nets : HasNames new.nets (filter is_bracketed (scalars (declarations all) before) ++ names)
 
 module _ (itself bits stands again : Bool) (all before : List Placed) (names : List (List ℕ)) (new : Seen) (p : Placed) where
   abbrev Added : Statement → Type 0
@@ -88,8 +88,8 @@ module _ (itself bits stands again : Bool) (all before : List Placed) (names : L
   nets_more : so ++ scalars_in (declarations all) p.statement ≡ scalars (declarations all) (before ++ p ∷ [])
   nets_more = flat_last (λ x. scalars_in (declarations all) x.statement) before p
 
-  closed_more : Added p.statement → filter is_closed so ++ names ≡ filter is_closed (scalars (declarations all) (before ++ p ∷ []))
-  closed_more a = ap (λ l. filter is_closed so ++ l) a.named ∙ sym (filter-append is_closed so (scalars_in (declarations all) p.statement)) ∙ ap (filter is_closed) nets_more
+  closed_more : Added p.statement → filter is_bracketed so ++ names ≡ filter is_bracketed (scalars (declarations all) (before ++ p ∷ []))
+  closed_more a = ap (λ l. filter is_bracketed so ++ l) a.named ∙ sym (filter-append is_bracketed so (scalars_in (declarations all) p.statement)) ∙ ap (filter is_bracketed) nets_more
 
   declared_more : declarations before ++ declarations_in p.statement ≡ declarations (before ++ p ∷ [])
   declared_more = flat_last (λ x. declarations_in x.statement) before p

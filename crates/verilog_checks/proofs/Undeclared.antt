@@ -12,25 +12,25 @@ use Rattle.verilog_syntax.specs.declared.statement.Statement.TheVariants as stat
 use Rattle.verilog_names.specs.Values.{plain_of}
 use Rattle.verilog_names.specs.Declarations.{Declaration, declaration_of, is_declared, mentions_of, undeclared_in}
 use Rattle.verilog_checks.specs.Faults.{is_vector, scalars_in}
-use Rattle.verilog_checks.specs.Seen.{is_closed}
+use Rattle.verilog_checks.specs.Seen.{is_bracketed}
 use Rattle.verilog_checks.proofs.NameLists.{now_of}
 
 pub undeclared-append : (ds : List Declaration) (xs ys : List (List ℕ)) → undeclared_in ds (xs ++ ys) ≡ undeclared_in ds xs ++ undeclared_in ds ys
 undeclared-append ds xs ys = filter-append (λ name. not (is_declared ds name)) xs ys
 
 abbrev pub undeclared_items : List Declaration → List Item → List (List ℕ)
-undeclared_items ds items = filter is_closed (undeclared_in ds (flat_map mentions_of items))
+undeclared_items ds items = filter is_bracketed (undeclared_in ds (flat_map mentions_of items))
 
 pub items-append : (ds : List Declaration) (xs ys : List Item) → undeclared_items ds (xs ++ ys) ≡ undeclared_items ds xs ++ undeclared_items ds ys
 items-append ds xs ys =
-    ap (λ l. filter is_closed (undeclared_in ds l)) (flat_map-append mentions_of xs ys) ∙ ap (filter is_closed) (undeclared-append ds (flat_map mentions_of xs) (flat_map mentions_of ys))
-    ∙ filter-append is_closed (undeclared_in ds (flat_map mentions_of xs)) (undeclared_in ds (flat_map mentions_of ys))
+    ap (λ l. filter is_bracketed (undeclared_in ds l)) (flat_map-append mentions_of xs ys) ∙ ap (filter is_bracketed) (undeclared-append ds (flat_map mentions_of xs) (flat_map mentions_of ys))
+    ∙ filter-append is_bracketed (undeclared_in ds (flat_map mentions_of xs)) (undeclared_in ds (flat_map mentions_of ys))
 
 -- one item more
-pub items_more : (ds : List Declaration) (xs : List Item) (i : ℕ) (d : Item) → i < length xs → undeclared_items ds (take (i + 1) xs) ≡ undeclared_items ds (take i xs) ++ filter is_closed (undeclared_in ds (mentions_of (get_or xs i d)))
+pub items_more : (ds : List Declaration) (xs : List Item) (i : ℕ) (d : Item) → i < length xs → undeclared_items ds (take (i + 1) xs) ≡ undeclared_items ds (take i xs) ++ filter is_bracketed (undeclared_in ds (mentions_of (get_or xs i d)))
 items_more ds xs i d lt =
     ap (undeclared_items ds) (take_more xs i d lt) ∙ items-append ds (take i xs) (get_or xs i d ∷ [])
-    ∙ ap (λ l. undeclared_items ds (take i xs) ++ filter is_closed (undeclared_in ds l)) (append-nil (mentions_of (get_or xs i d)))
+    ∙ ap (λ l. undeclared_items ds (take i xs) ++ filter is_bracketed (undeclared_in ds l)) (append-nil (mentions_of (get_or xs i d)))
 
 -- what was pushed behind what
 pub pushed_on : (new mid front back more total : List (List ℕ)) → new ≡ mid ++ more → mid ≡ front ++ back → total ≡ back ++ more → new ≡ front ++ total
@@ -52,27 +52,27 @@ scalar_names kind (Some range) [] = refl
 scalar_names kind (Some range) (name ∷ names) = scalar_names kind (Some range) names
 
 pub scalars_of : (ds : List Declaration) (s : Statement) (kind : Declared) (range : Option Range) (names listed found : List (List ℕ)) → s ≡ statements.Declare kind range names → listed ≡ names
-    → found ≡ [] ++ cond (is_some range) [] (filter is_closed (map plain_of listed)) → found ≡ filter is_closed (scalars_in ds s)
+    → found ≡ [] ++ cond (is_some range) [] (filter is_bracketed (map plain_of listed)) → found ≡ filter is_bracketed (scalars_in ds s)
 scalars_of ds s kind range names listed found is list same =
-    same ∙ ap (λ l. cond (is_some range) [] (filter is_closed (map plain_of l))) list ∙ none_or range (map plain_of names)
-    ∙ ap (filter is_closed)
+    same ∙ ap (λ l. cond (is_some range) [] (filter is_bracketed (map plain_of l))) list ∙ none_or range (map plain_of names)
+    ∙ ap (filter is_bracketed)
     (sym (scalar_names kind range names) ∙ sym (append-nil (map (λ d. d.name) (filter (λ d. not (is_vector d)) (map (declaration_of kind range) names)))) ∙ sym (ap (scalars_in ds) is))
   where
-    none_or : (range : Option Range) (names : List (List ℕ)) → cond (is_some range) [] (filter is_closed names) ≡ filter is_closed (cond (is_some range) [] names)
+    none_or : (range : Option Range) (names : List (List ℕ)) → cond (is_some range) [] (filter is_bracketed names) ≡ filter is_bracketed (cond (is_some range) [] names)
     none_or None names = refl
     none_or (Some range) names = refl
 
 -- one mentioned name
-pub not_closed : (ds : List Declaration) (names : List (List ℕ)) (name : List ℕ) → names ≡ name ∷ [] → is_closed name ≡ false → filter is_closed (undeclared_in ds names) ≡ []
-not_closed ds names name is other = ap (λ l. filter is_closed (undeclared_in ds l)) is ∙ by (is_declared ds name)
+pub not_closed : (ds : List Declaration) (names : List (List ℕ)) (name : List ℕ) → names ≡ name ∷ [] → is_bracketed name ≡ false → filter is_bracketed (undeclared_in ds names) ≡ []
+not_closed ds names name is other = ap (λ l. filter is_bracketed (undeclared_in ds l)) is ∙ by (is_declared ds name)
   where
-    by : (t : Bool) → filter is_closed (cond (not t) (name ∷ []) []) ≡ []
+    by : (t : Bool) → filter is_bracketed (cond (not t) (name ∷ []) []) ≡ []
     by true = refl
     by false = ap (λ t. cond t (name ∷ []) []) other
 
-pub no_undeclared : (ds : List Declaration) (names : List (List ℕ)) (name : List ℕ) → names ≡ name ∷ [] → is_declared ds name ≡ true → filter is_closed (undeclared_in ds names) ≡ []
-no_undeclared ds names name is there = ap (λ l. filter is_closed (undeclared_in ds l)) is ∙ ap (λ t. filter is_closed (cond (not t) (name ∷ []) [])) there
+pub no_undeclared : (ds : List Declaration) (names : List (List ℕ)) (name : List ℕ) → names ≡ name ∷ [] → is_declared ds name ≡ true → filter is_bracketed (undeclared_in ds names) ≡ []
+no_undeclared ds names name is there = ap (λ l. filter is_bracketed (undeclared_in ds l)) is ∙ ap (λ t. filter is_bracketed (cond (not t) (name ∷ []) [])) there
 
-pub one_undeclared : (ds : List Declaration) (names : List (List ℕ)) (name : List ℕ) → names ≡ name ∷ [] → is_closed name ≡ true → is_declared ds name ≡ false → filter is_closed (undeclared_in ds names) ≡ name ∷ []
+pub one_undeclared : (ds : List Declaration) (names : List (List ℕ)) (name : List ℕ) → names ≡ name ∷ [] → is_bracketed name ≡ true → is_declared ds name ≡ false → filter is_bracketed (undeclared_in ds names) ≡ name ∷ []
 one_undeclared ds names name is closed absent =
-    ap (λ l. filter is_closed (undeclared_in ds l)) is ∙ ap (λ t. filter is_closed (cond (not t) (name ∷ []) [])) absent ∙ ap (λ t. cond t (name ∷ []) []) closed
+    ap (λ l. filter is_bracketed (undeclared_in ds l)) is ∙ ap (λ t. filter is_bracketed (cond (not t) (name ∷ []) [])) absent ∙ ap (λ t. cond t (name ∷ []) []) closed

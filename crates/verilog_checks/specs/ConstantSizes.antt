@@ -8,5 +8,6 @@ use Rattle.verilog_names.specs.Values.{decimal_value}
 abbrev pub size_digits : List ℕ → List ℕ
 size_digits text = take (prefix_len is_digit text) text
 
+-- the size of a constant, the decimal in front of its base
 abbrev pub constant_size : List ℕ → ℕ
 constant_size text = decimal_value (size_digits text)

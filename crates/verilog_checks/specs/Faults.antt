@@ -26,6 +26,7 @@ unfoldable pub check_from : (List Placed → Placed → Bool) → Kind → List 
 check_from bad kind before [] = Ok tt
 check_from bad kind before (p ∷ ps) = if bad before p then Err (fault_at kind p.line) else check_from bad kind (before ++ p ∷ []) ps
 
+-- the first of some statements that fails a test
 abbrev pub check : (List Placed → Placed → Bool) → Kind → List Placed → Result (Unit {0}) Fault
 check bad kind ps = check_from bad kind [] ps
 
@@ -38,9 +39,11 @@ pub record IsFirstBad (bad : List Placed → Placed → Bool) (ps : List Placed)
 -- VerilogNumber: an index beyond 65535, a constant's size of 0 or beyond 128, or with this statement the declared vectors
 -- have more than 16777216 bits together
 
+-- the constant has no bit, or more than 128
 abbrev pub is_bad_size : List ℕ → Bool
 is_bad_size text = constant_size text == 0 || nat_lt 128 (constant_size text)
 
+-- an index of the item, or the size of the constant, is too great
 abbrev pub is_bad_number : Item → Bool
 is_bad_number items.Open = false
 is_bad_number items.Comma = false
@@ -50,16 +53,19 @@ is_bad_number (items.Bit name index) = is_big_index index
 is_bad_number (items.Part name left right) = is_big_index left || is_big_index right
 is_bad_number (items.Constant text) = is_bad_size text
 
+-- a bound of the range is too great
 abbrev pub is_bad_range : Option Range → Bool
 is_bad_range None = false
 is_bad_range (Some range) = is_big_index range.left || is_big_index range.right
 
+-- the range of a declaration
 abbrev pub range_in : Statement → Option Range
 range_in (statements.Module name ports) = None
 range_in (statements.Declare kind range names) = range
 range_in (statements.Assign left right) = None
 range_in (statements.Instance cell name connections) = None
 
+-- the name is declared with a range
 abbrev pub is_vector : Declaration → Bool
 is_vector d = is_some d.bounds
 
@@ -68,13 +74,16 @@ abbrev pub added_bits : List Declaration → Declaration → Option Bounds → �
 added_bits before d None = 0
 added_bits before d (Some b) = if list_any (λ e. is_named d.name e && is_vector e) before then 0 else width b
 
+-- the bits of the vectors that these declare, where those before are declared already
 unfoldable pub vector_bits_from : List Declaration → List Declaration → ℕ
 vector_bits_from before [] = 0
 vector_bits_from before (d ∷ ds) = added_bits before d d.bounds + vector_bits_from (before ++ d ∷ []) ds
 
+-- the bits of all declared vectors together
 abbrev pub vector_bits : List Declaration → ℕ
 vector_bits ds = vector_bits_from [] ds
 
+-- the statement is a fault of numbers, behind those before it
 unfoldable pub bad_number : List Placed → Placed → Bool
 bad_number before p =
     is_bad_range (range_in p.statement) || list_any is_bad_number (items_in p.statement)
@@ -83,10 +92,12 @@ bad_number before p =
 -- VerilogTwice: an instance, a pin of one instance, a header port or a declared net has a name that stood before, or a
 -- scalar net and a bit of a declared vector have one name, at the later of the two
 
+-- some name stands twice
 abbrev pub has_twice : List (List ℕ) → Bool
 has_twice [] = false
 has_twice (name ∷ names) = has names name || has_twice names
 
+-- both are without a range, or have the same bounds
 abbrev pub same_bounds : Option Bounds → Option Bounds → Bool
 same_bounds None None = true
 same_bounds None (Some b) = false
@@ -97,23 +108,28 @@ same_bounds (Some a) (Some b) = a.left == b.left && a.right == b.right
 abbrev pub may_stand_again : Declaration → Declaration → Bool
 may_stand_again first d = is_port_kind first.kind && is_wire d.kind && same_bounds first.bounds d.bounds
 
+-- the name was declared before, and may not be declared so again
 abbrev pub stands_again : Option Declaration → Declaration → Bool
 stands_again None d = false
 stands_again (Some first) d = not (may_stand_again first d)
 
+-- one of these declarations is of a name that may not stand again
 unfoldable pub any_again : List Declaration → List Declaration → Bool
 any_again before [] = false
 any_again before (d ∷ ds) = stands_again (first_of d.name before) d || any_again (before ++ d ∷ []) ds
 
+-- the instance that a statement names
 abbrev pub instances_named : Statement → List (List ℕ)
 instances_named (statements.Module name ports) = []
 instances_named (statements.Declare kind range names) = []
 instances_named (statements.Assign left right) = []
 instances_named (statements.Instance cell name connections) = plain_of name ∷ []
 
+-- the plain names of all instances
 abbrev pub instance_names : List Placed → List (List ℕ)
 instance_names ps = flat_map (λ p. instances_named p.statement) ps
 
+-- the pins that an instance connects
 abbrev pub pins_in : Statement → List (List ℕ)
 pins_in (statements.Module name ports) = []
 pins_in (statements.Declare kind range names) = []
@@ -129,6 +145,7 @@ has_bit_in vector (Some b) name = list_any (λ i. bytes_eq (bit_name vector i) n
 abbrev pub scalars_in : List Declaration → Statement → List (List ℕ)
 scalars_in all statement = map (λ d. d.name) (filter (λ d. not (is_vector d)) (declarations_in statement)) ++ undeclared_in all (mentions_in statement)
 
+-- the scalar nets of some statements
 abbrev pub scalars : List Declaration → List Placed → List (List ℕ)
 scalars all ps = flat_map (λ p. scalars_in all p.statement) ps
 
@@ -140,6 +157,7 @@ are_bits ds names = list_any (λ d. list_any (has_bit_in d.name (bounds_in ds d.
 abbrev pub have_bits : List Declaration → List (List ℕ) → Bool
 have_bits ds names = list_any (λ d. list_any (has_bit_in d.name d.bounds) names) ds
 
+-- the statement gives a name a second time, beside all statements and behind those before it
 unfoldable pub bad_twice : List Placed → List Placed → Placed → Bool
 bad_twice all before p =
     has_twice (ports_in p.statement)
@@ -156,6 +174,7 @@ bad_twice all before p =
 abbrev pub BoundsAt : Type 0
 BoundsAt = List ℕ → Option Bounds
 
+-- the item selects outside the declaration of its name, or of a name that is no declared vector
 abbrev pub is_bad_select : BoundsAt → Item → Bool
 is_bad_select bounds items.Open = false
 is_bad_select bounds items.Comma = false
@@ -165,6 +184,7 @@ is_bad_select bounds (items.Bit name index) = not (selects (bounds (plain_of nam
 is_bad_select bounds (items.Part name left right) = not (selects_part (bounds (plain_of name)) (part_of left right))
 is_bad_select bounds (items.Constant text) = false
 
+-- how many bits an item has
 abbrev pub item_width : BoundsAt → Item → ℕ
 item_width bounds items.Open = 0
 item_width bounds items.Comma = 0
@@ -174,21 +194,26 @@ item_width bounds (items.Bit name index) = 1
 item_width bounds (items.Part name left right) = width (part_of left right)
 item_width bounds (items.Constant text) = constant_size text
 
+-- how many bits an expression has
 abbrev pub expression_width : BoundsAt → Expression → ℕ
 expression_width bounds e = sum_by (item_width bounds) e.items
 
+-- the name is declared as a port
 abbrev pub has_direction : List Declaration → List ℕ → Bool
 has_direction ds name = list_any (λ d. is_named name d && is_port_kind d.kind) ds
 
+-- the declaration gives a direction to a name that isn't in the header
 abbrev pub is_badly_listed : List (List ℕ) → Declaration → Bool
 is_badly_listed ports d = is_port_kind d.kind && not (has ports d.name)
 
+-- the statement is an assign whose sides differ in width
 abbrev pub differ_in_width : BoundsAt → Statement → Bool
 differ_in_width bounds (statements.Module name ports) = false
 differ_in_width bounds (statements.Declare kind range names) = false
 differ_in_width bounds (statements.Assign left right) = not (expression_width bounds left == expression_width bounds right)
 differ_in_width bounds (statements.Instance cell name connections) = false
 
+-- the statement is a fault of selects, widths or directions, beside all statements
 unfoldable pub bad_select : List Placed → Placed → Bool
 bad_select all p =
     list_any (is_bad_select (bounds_in (declarations all))) (items_in p.statement)
@@ -196,14 +221,26 @@ bad_select all p =
     || list_any (λ port. not (has_direction (declarations all) port)) (ports_in p.statement)
     || list_any (is_badly_listed (header_ports all)) (declarations_in p.statement)
 
+-- the first fault of the kind VerilogNumber
 abbrev pub check_number : List Placed → Result (Unit {0}) Fault
 check_number ps = check bad_number VerilogNumber ps
 
+-- the first fault of the kind VerilogTwice
 abbrev pub check_twice : List Placed → Result (Unit {0}) Fault
 check_twice ps = check (bad_twice ps) VerilogTwice ps
 
+-- the first fault of the kind BadSelect
 abbrev pub check_select : List Placed → Result (Unit {0}) Fault
 check_select ps = check (λ before p. bad_select ps p) BadSelect ps
+
+-- what may be wrong with a Verilog text
+pub data HoldsInVerilog (text : List ℕ) : Fault → Type 0 where
+  -- VerilogSyntax, SecondModule: it isn't the statements of one module
+  Form : (f : Fault) → read_statements text ≡ Err f → HoldsInVerilog text f
+  -- of its statements one is the first that fails the test of the kind
+  Number : (ps : List Placed) (i : ℕ) (p : Placed) → read_statements text ≡ Ok ps → IsFirstBad bad_number ps i p → HoldsInVerilog text (fault_at VerilogNumber p.line)
+  Twice : (ps : List Placed) (i : ℕ) (p : Placed) → read_statements text ≡ Ok ps → IsFirstBad (bad_twice ps) ps i p → HoldsInVerilog text (fault_at VerilogTwice p.line)
+  Select : (ps : List Placed) (i : ℕ) (p : Placed) → read_statements text ≡ Ok ps → IsFirstBad (λ before q. bad_select ps q) ps i p → HoldsInVerilog text (fault_at BadSelect p.line)
 
 -- the statements of a text without a fault, or its first fault
 unfoldable pub read_faultless : List ℕ → Result (List Placed) Fault

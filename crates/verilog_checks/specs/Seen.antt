@@ -19,6 +19,7 @@ use Rattle.verilog_names.specs.NameTables.{firsts_of}
 abbrev pub Keeps : List (List ℕ × First) → List Declaration → Type 0
 Keeps names ds = names ≡ firsts_of ds
 
+-- both bounds are at most 65535
 abbrev pub is_small : Option Bounds → Bool
 is_small None = true
 is_small (Some b) = not (nat_lt 65535 b.left || nat_lt 65535 b.right)
@@ -36,12 +37,12 @@ abbrev pub is_bit : List Declaration → List ℕ → Bool
 is_bit ds name = list_any (λ d. has_bit_in d.name (bounds_in ds d.name) name) ds
 
 -- a name ends with a closing bracket, as those of bits do
-abbrev pub is_closed : List ℕ → Bool
-is_closed name = bytes_eq (93 ∷ []) (drop (length name - 1) name)
+abbrev pub is_bracketed : List ℕ → Bool
+is_bracketed name = bytes_eq (93 ∷ []) (drop (length name - 1) name)
 
 -- the set has the closed names that are declared
 abbrev pub AreClosed : {S : Type 0} → HashSet (Bor (List ℕ)) S → List Declaration → Type 0
-AreClosed closed ds = HasNames closed (filter is_closed (map (λ d. d.name) ds))
+AreClosed closed ds = HasNames closed (filter is_bracketed (map (λ d. d.name) ds))
 
 -- none of the names is that of a bit of a declared vector
 abbrev pub IsClean : List Declaration → List (List ℕ) → Type 0
@@ -49,7 +50,7 @@ IsClean ds names = list_any (is_bit ds) names ≡ false
 
 -- the set has those of the scalar nets that are closed
 abbrev pub AreNets : {S : Type 0} → HashSet (Bor (List ℕ)) S → List (List ℕ) → Type 0
-AreNets nets all = HasNames nets (filter is_closed all)
+AreNets nets all = HasNames nets (filter is_bracketed all)
 
 -- declarations and scalar nets of which none is a bit
 pub record AreKnown {S : Type 0} (names : List (List ℕ × First)) (nets : HashSet (Bor (List ℕ)) S) (before : List Declaration) (all : List (List ℕ)) : Type 0 where
@@ -61,6 +62,7 @@ pub record AreKnown {S : Type 0} (names : List (List ℕ × First)) (nets : Hash
 abbrev pub declared_at : First → List ℕ → Declaration
 declared_at first name = record { name = name; kind = first.kind; bounds = first.bounds }
 
+-- what a name is declared as
 abbrev pub declared_as : First → List ℕ → Declaration
 declared_as first name = declared_at first (plain_of name)
 

@@ -52,7 +52,7 @@ directed_in (statements.Assign left right) = []
 directed_in (statements.Instance cell name connections) = []
 
 -- what the code keeps of the ports is so
-pub record AreKnown (known : Known) (ps : List Placed) : Type 0 where
+pub record IsGathered (known : Known) (ps : List Placed) : Type 0 where
   pub ports : (name : List ℕ) → has_key known.ports name ≡ has (header_ports ps) name
   pub directed : (name : List ℕ) → has_key known.directed name ≡ has_direction (declarations ps) name
 

@@ -3,7 +3,7 @@ ghost use Rattle.std.specs.Prelude.{◌≡◌, ◌==◌, ◌<◌, ◌≤◌, ◌
 ghost use Rattle.std.specs.List.{list_any, list_all};
 ghost use Rattle.verilog_syntax.specs.VerilogTokens.{is_digit};
 ghost use Rattle.verilog_names.specs.Values.{bit_name};
-ghost use Rattle.verilog_checks.specs.Seen.{is_closed};
+ghost use Rattle.verilog_checks.specs.Seen.{is_bracketed};
 
 use verilog_names::index_value;
 
@@ -27,8 +27,8 @@ fn plain_index(digits: &[u8]) -> Option<u32>
 }
 
 /// Whether a name ends as those of bits do.
-pub(crate) fn is_closed(name: &[u8]) -> bool
-    ensures value { result ≡ is_closed name.now }
+pub(crate) fn is_bracketed(name: &[u8]) -> bool
+    ensures value { result ≡ is_bracketed name.now }
 {
     matches!(name, [.., b']'])
 }

@@ -5,9 +5,9 @@ ghost use Rattle.verilog_names.specs.Values.{plain_of};
 ghost use Rattle.verilog_names.specs.Declarations.{Declaration, connection_items, declarations, declarations_in, mentions_of, undeclared_in};
 ghost use Rattle.verilog_checks.specs.Faults.{scalars_in};
 ghost use Rattle.verilog_names.specs.NameSets.{HasNames};
-ghost use Rattle.verilog_checks.specs.Seen.{AreClosed, is_closed};
+ghost use Rattle.verilog_checks.specs.Seen.{AreClosed, is_bracketed};
 
-use crate::bit_names::is_closed;
+use crate::bit_names::is_bracketed;
 use base_types::NoMemory;
 use std::alloc::Global;
 use token_forms::TokenText;
@@ -16,11 +16,11 @@ use verilog_syntax::{Connection, Item, Placed, Range, Statement};
 
 /// Adds the closed names of a list.
 fn add_closed<'a>(set: &mut NameSet<'a>, declared: &[TokenText<'a>]) -> Result<(), NoMemory>
-    ensures value { OnOk result ((before : List (List ℕ)) → HasNames set.old before → HasNames set.new (before ++ filter is_closed (map plain_of declared.now))) }
+    ensures value { OnOk result ((before : List (List ℕ)) → HasNames set.old before → HasNames set.new (before ++ filter is_bracketed (map plain_of declared.now))) }
 {
     for written in declared {
         let name = plain_of(written);
-        if is_closed(name) {
+        if is_bracketed(name) {
             set.insert(name)?;
         }
     }
@@ -63,10 +63,10 @@ fn mention_of<'a>(item: &Item<'a>) -> Option<&'a [u8]>
 
 /// The name that an operand mentions, where it is closed and isn't declared.
 fn undeclared_of<'a>(closed: &NameSet<'a>, item: &Item<'a>) -> Option<&'a [u8]>
-    ensures value { (ds : List Declaration) → AreClosed closed.now ds → MatchOption result (filter is_closed (undeclared_in ds (mentions_of item.now)) ≡ []) (λ name. filter is_closed (undeclared_in ds (mentions_of item.now)) ≡ name.now ∷ []) }
+    ensures value { (ds : List Declaration) → AreClosed closed.now ds → MatchOption result (filter is_bracketed (undeclared_in ds (mentions_of item.now)) ≡ []) (λ name. filter is_bracketed (undeclared_in ds (mentions_of item.now)) ≡ name.now ∷ []) }
 {
     let name = mention_of(item)?;
-    if is_closed(name) && !closed.contains(&name) {
+    if is_bracketed(name) && !closed.contains(&name) {
         Some(name)
     } else {
         None
@@ -79,7 +79,7 @@ fn push_undeclared<'a>(
     closed: &NameSet<'a>,
     items: &[Item<'a>],
 ) -> Result<(), NoMemory>
-    ensures value { OnOk result ((ds : List Declaration) → AreClosed closed.now ds → map (λ name. name.now) names.new.items ≡ map (λ name. name.now) names.old.items ++ filter is_closed (undeclared_in ds (flat_map mentions_of items.now))) }
+    ensures value { OnOk result ((ds : List Declaration) → AreClosed closed.now ds → map (λ name. name.now) names.new.items ≡ map (λ name. name.now) names.old.items ++ filter is_bracketed (undeclared_in ds (flat_map mentions_of items.now))) }
 {
     for item in items {
         if let Some(name) = undeclared_of(closed, item) {
@@ -94,7 +94,7 @@ fn push_connected<'a>(
     closed: &NameSet<'a>,
     connections: &[Connection<'a>],
 ) -> Result<(), NoMemory>
-    ensures value { OnOk result ((ds : List Declaration) → AreClosed closed.now ds → map (λ name. name.now) names.new.items ≡ map (λ name. name.now) names.old.items ++ filter is_closed (undeclared_in ds (flat_map mentions_of (connection_items connections.now)))) }
+    ensures value { OnOk result ((ds : List Declaration) → AreClosed closed.now ds → map (λ name. name.now) names.new.items ≡ map (λ name. name.now) names.old.items ++ filter is_bracketed (undeclared_in ds (flat_map mentions_of (connection_items connections.now)))) }
 {
     for connection in connections {
         push_undeclared(names, closed, connection.expression.items.as_slice())?;
@@ -104,11 +104,11 @@ fn push_connected<'a>(
 
 /// Puts the closed names of a list behind the last name.
 fn push_closed<'a>(names: &mut Vec<&'a [u8]>, declared: &[TokenText<'a>]) -> Result<(), NoMemory>
-    ensures value { OnOk result (map (λ name. name.now) names.new.items ≡ map (λ name. name.now) names.old.items ++ filter is_closed (map plain_of declared.now)) }
+    ensures value { OnOk result (map (λ name. name.now) names.new.items ≡ map (λ name. name.now) names.old.items ++ filter is_bracketed (map plain_of declared.now)) }
 {
     for written in declared {
         let name = plain_of(written);
-        if is_closed(name) {
+        if is_bracketed(name) {
             names.push(name)?;
         }
     }
@@ -121,7 +121,7 @@ fn push_scalars<'a>(
     range: &Option<Range<'a>>,
     declared: &[TokenText<'a>],
 ) -> Result<(), NoMemory>
-    ensures value { OnOk result (map (λ name. name.now) names.new.items ≡ map (λ name. name.now) names.old.items ++ (if is_some range.now then [] else filter is_closed (map plain_of declared.now))) }
+    ensures value { OnOk result (map (λ name. name.now) names.new.items ≡ map (λ name. name.now) names.old.items ++ (if is_some range.now then [] else filter is_bracketed (map plain_of declared.now))) }
 {
     match range {
         Some(_) => Ok(()),
@@ -135,7 +135,7 @@ pub(crate) fn closed_scalars_in<'a>(
     closed: &NameSet<'a>,
     statement: &Statement<'a>,
 ) -> Result<Vec<&'a [u8]>, NoMemory>
-    ensures value { IfOk result (λ names. (ds : List Declaration) → AreClosed closed.now ds → map (λ name. name.now) names.items ≡ filter is_closed (scalars_in ds statement.now)) }
+    ensures value { IfOk result (λ names. (ds : List Declaration) → AreClosed closed.now ds → map (λ name. name.now) names.items ≡ filter is_bracketed (scalars_in ds statement.now)) }
 {
     let mut scalars = Vec::new(alloc);
     match statement {

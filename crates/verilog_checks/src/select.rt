@@ -6,7 +6,7 @@ ghost use Rattle.verilog_names.specs.Values.{is_big_index, plain_of};
 ghost use Rattle.verilog_names.specs.Declarations.{declarations, is_port_kind, header_ports, has, connection_items, items_in, selects, selects_part, part_of};
 ghost use Rattle.verilog_checks.specs.Faults.{is_bad_number, is_bad_select, item_width, expression_width, differ_in_width, has_direction, check_select};
 ghost use Rattle.verilog_names.specs.NameTables.{firsts_of, known_bounds};
-ghost use Rattle.verilog_checks.specs.Steps.{has_bad_number, are_small, has_key, listed_in, directed_in, AreKnown, is_bad_beside};
+ghost use Rattle.verilog_checks.specs.Steps.{has_bad_number, are_small, has_key, listed_in, directed_in, IsGathered, is_bad_beside};
 
 use crate::faults::fault_at;
 use crate::number::constant_size;
@@ -225,7 +225,7 @@ struct Known<'a> {
 }
 
 fn gathered<'a>(alloc: Global, statements: &[Placed<'a>]) -> Result<Known<'a>, NoMemory>
-    ensures value { IfOk result (λ known. AreKnown known statements.now) }
+    ensures value { IfOk result (λ known. IsGathered known statements.now) }
 {
     let ports = header_ports(alloc, statements)?;
     let directed = directed_names(alloc, statements)?;

@@ -12,7 +12,7 @@ ghost use Rattle.verilog_checks.specs.Faults.{are_bits, check_twice, has_bit_in,
 ghost use Rattle.verilog_names.specs.NameTables.{firsts_of};
 ghost use Rattle.verilog_checks.specs.Steps.{are_small};
 ghost use Rattle.verilog_names.specs.NameSets.{HasNames};
-ghost use Rattle.verilog_checks.specs.Seen.{AreClosed, AreNets, AreKnown, AddsOne, Adds, IsSeen, Tells, Keeps, declared_at, declared_as, have_small, may_stand_beside, is_bit, is_closed};
+ghost use Rattle.verilog_checks.specs.Seen.{AreClosed, AreNets, AreKnown, AddsOne, Adds, IsSeen, Tells, Keeps, declared_at, declared_as, have_small, may_stand_beside, is_bit, is_bracketed};
 
 use crate::bit_names::split_bit;
 use crate::faults::fault_at;

@@ -14,6 +14,7 @@ use Rattle.verilog_syntax.specs.declared.reading.Placed.{Placed}
 use Rattle.verilog_names.specs.declared.bounds.Bounds.{Bounds}
 use Rattle.verilog_names.specs.Values.{plain_of, decimal_value}
 
+-- the bounds that a range writes
 abbrev pub bounds_of : Range → Bounds
 bounds_of range = record { left = decimal_value range.left; right = decimal_value range.right }
 
@@ -21,6 +22,7 @@ bounds_of range = record { left = decimal_value range.left; right = decimal_valu
 abbrev pub width : Bounds → ℕ
 width b = (max b.left b.right - min b.left b.right) + 1
 
+-- the vector has a bit of this index
 abbrev pub has_index : Bounds → ℕ → Bool
 has_index b i = nat_le (min b.left b.right) i && nat_le i (max b.left b.right)
 
@@ -32,6 +34,7 @@ offset b i = if nat_le b.right b.left then b.left - i else i - b.left
 abbrev pub index_at : Bounds → ℕ → ℕ
 index_at b k = if nat_le b.right b.left then b.left - k else b.left + k
 
+-- the indexes of so many bits from the k-th on
 abbrev pub indexes_from : Bounds → ℕ → ℕ → List ℕ
 indexes_from b k zero = []
 indexes_from b k (suc n) = index_at b k ∷ indexes_from b (k + 1) n
@@ -54,10 +57,12 @@ abbrev pub selects : Option Bounds → ℕ → Bool
 selects None index = false
 selects (Some b) index = has_index b index
 
+-- the part lies in the vector, in its direction
 abbrev pub selects_part : Option Bounds → Bounds → Bool
 selects_part None part = false
 selects_part (Some b) part = has_part b part
 
+-- the bounds that a part select writes
 abbrev pub part_of : List ℕ → List ℕ → Bounds
 part_of left right = record { left = decimal_value left; right = decimal_value right }
 
@@ -67,6 +72,7 @@ pub record Declaration : Type 0 where
   pub kind : Declared
   pub bounds : Option Bounds
 
+-- the declaration of one name
 abbrev pub declaration_of : Declared → Option Range → List ℕ → Declaration
 declaration_of kind range name = record { name = plain_of name; kind = kind; bounds = option_map bounds_of range }
 
@@ -81,6 +87,7 @@ declarations_in (statements.Instance cell name connections) = []
 abbrev pub declarations : List Placed → List Declaration
 declarations ps = flat_map (λ p. declarations_in p.statement) ps
 
+-- the declaration is of this name
 abbrev pub is_named : List ℕ → Declaration → Bool
 is_named name d = bytes_eq d.name name
 
@@ -88,6 +95,7 @@ is_named name d = bytes_eq d.name name
 abbrev pub first_of : List ℕ → List Declaration → Option Declaration
 first_of name ds = find (is_named name) ds
 
+-- the name is declared
 abbrev pub is_declared : List Declaration → List ℕ → Bool
 is_declared ds name = list_any (is_named name) ds
 
@@ -96,9 +104,11 @@ abbrev pub bounds_or_none : Option Declaration → Option Bounds
 bounds_or_none None = None
 bounds_or_none (Some d) = d.bounds
 
+-- the bounds of a name by its first declaration
 abbrev pub bounds_in : List Declaration → List ℕ → Option Bounds
 bounds_in ds name = bounds_or_none (first_of name ds)
 
+-- a direction, with which a port is declared
 abbrev pub is_port_kind : Declared → Bool
 is_port_kind Input = true
 is_port_kind Output = true
@@ -108,6 +118,7 @@ is_port_kind Tri = false
 is_port_kind Supply0 = false
 is_port_kind Supply1 = false
 
+-- the kind `wire`
 abbrev pub is_wire : Declared → Bool
 is_wire Input = false
 is_wire Output = false
@@ -124,9 +135,11 @@ ports_in (statements.Declare kind range names) = []
 ports_in (statements.Assign left right) = []
 ports_in (statements.Instance cell name connections) = []
 
+-- the plain names of the header's ports
 abbrev pub header_ports : List Placed → List (List ℕ)
 header_ports ps = flat_map (λ p. ports_in p.statement) ps
 
+-- the name is one of these
 abbrev pub has : List (List ℕ) → List ℕ → Bool
 has names name = list_any (λ other. bytes_eq other name) names
 
@@ -144,6 +157,7 @@ mentions_of (items.Constant text) = []
 abbrev pub connection_items : List Connection → List Item
 connection_items connections = flat_map (λ c. c.expression.items) connections
 
+-- the items of a statement's expressions
 abbrev pub items_in : Statement → List Item
 items_in (statements.Module name ports) = []
 items_in (statements.Declare kind range names) = []
@@ -154,6 +168,7 @@ items_in (statements.Instance cell name connections) = connection_items connecti
 abbrev pub mentions_in : Statement → List (List ℕ)
 mentions_in statement = flat_map mentions_of (items_in statement)
 
+-- the names that all statements mention
 abbrev pub mentions : List Placed → List (List ℕ)
 mentions ps = flat_map (λ p. mentions_in p.statement) ps
 

@@ -3,6 +3,7 @@ use Rattle.std.specs.Prelude.{ℕ, ◌+◌, ◌*◌, ◌/◌, ◌%◌, ◌^◌, 
 use Rattle.verilog_syntax.specs.VerilogTokens.{is_digit}
 use Rattle.verilog_names.specs.declared.name_hash.NameHasher.{NameHasher}
 
+-- nothing hashed yet
 abbrev pub initial : NameHasher
 initial = record { state = 0 }
 

@@ -26,6 +26,7 @@ first_in (e ∷ es) name = if bytes_eq name e.0 then Some e.1 else first_in es n
 abbrev pub with_first : List (List ℕ × First) → List ℕ → First → List (List ℕ × First)
 with_first es name first = if is_some (first_in es name) then es else es ++ (name, first) ∷ []
 
+-- a table after some more declarations
 abbrev pub with_firsts : List (List ℕ × First) → List Declaration → List (List ℕ × First)
 with_firsts es [] = es
 with_firsts es (d ∷ ds) = with_firsts (with_first es d.name (kept_of d)) ds
@@ -58,6 +59,7 @@ place_from at [] name = None
 place_from at (e ∷ es) name =
     if bytes_eq name e.0 then Some (record { first = at; bounds = e.1 }) else place_from (at + width_or_one e.1) es name
 
+-- the nets of a name
 abbrev pub place : List (List ℕ × Option Bounds) → List ℕ → Option Entry
 place es name = place_from 0 es name
 
@@ -65,10 +67,12 @@ place es name = place_from 0 es name
 abbrev pub with_entry : List (List ℕ × Option Bounds) → List ℕ → Option Bounds → List (List ℕ × Option Bounds)
 with_entry es name bounds = if is_some (place es name) then es else es ++ (name, bounds) ∷ []
 
+-- a table after some more names
 abbrev pub with_entries : List (List ℕ × Option Bounds) → List (List ℕ × Option Bounds) → List (List ℕ × Option Bounds)
 with_entries es [] = es
 with_entries es (x ∷ xs) = with_entries (with_entry es x.0 x.1) xs
 
+-- a table after the names of some declarations
 abbrev pub with_declared : List (List ℕ × Option Bounds) → List Declaration → List (List ℕ × Option Bounds)
 with_declared es ds = with_entries es (map (λ d. (d.name, d.bounds)) ds)
 

@@ -3,7 +3,7 @@
 //! A check that goes over the statements in turn begins with `DeclaredNames::with_room` and calls `add` for each declaration:
 //! the names are then `firsts_of` the declarations so far. The netlist goes on with the same table, and adds the names that
 //! are mentioned alone.
-ghost use Rattle.std.specs.Prelude.{◌≡◌, ◌<◌, ◌^◌, List, ℕ, [], None, Some, OnOk, IfOk};
+ghost use Rattle.std.specs.Prelude.{◌≡◌, ◌<◌, ◌^◌, List, ℕ, [], None, Some, OnOk, OnErr, IfOk};
 ghost use Rattle.std.specs.Borrow.{Bor};
 ghost use Rattle.std.specs.Map.Iter.{ShowsInOrder, deref_pair};
 ghost use Rattle.verilog_names.specs.declared.declared.Slot.{Slot as ghost_slot};
@@ -122,10 +122,11 @@ impl<'a> DeclaredNames<'a> {
         self.count
     }
 
-    /// Adds a declaration of a name, unless the name has one, which it then answers.
+    /// Adds a declaration of a name, unless the name has one, which it then answers; want of memory adds nothing.
     pub fn add(&mut self, name: &'a [u8], first: First) -> Result<Option<First>, NoMemory>
         ensures before { IfOk result (λ known. known ≡ first_in self.old name.now) }
         ensures ok { OnOk result (self.new ≡ with_first self.old name.now first) }
+        ensures unchanged { OnErr result (self.new ≡ self.old) }
     {
         if let Some(known) = self.first_of(name) {
             return Ok(Some(known));
@@ -134,12 +135,13 @@ impl<'a> DeclaredNames<'a> {
         Ok(None)
     }
 
-    /// Gives a new name its nets. Their numbers have 32 bits: more would not fit in memory.
+    /// Gives a new name its nets. Their numbers have 32 bits: more would not fit in memory. Want of memory adds nothing.
     pub fn append(&mut self, name: &'a [u8], first: First) -> Result<Entry, NoMemory>
         requires { first_in self.old name.now ≡ None }
         ensures ok { OnOk result (self.new ≡ with_first self.old name.now first) }
         ensures found { IfOk result (λ entry. place (bounded self.new) name.now ≡ Some entry) }
         ensures few { OnOk result (total (bounded self.new) < 2 ^ 32) }
+        ensures unchanged { OnErr result (self.new ≡ self.old) }
     {
         let entry = Entry {
             first: self.count,

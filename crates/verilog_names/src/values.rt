@@ -1,5 +1,5 @@
 //! Names and numbers as values.
-ghost use Rattle.std.specs.Prelude.{◌≡◌, ◌<◌, ◌≤◌, ◌++◌, length, not, MatchOption, OnOk};
+ghost use Rattle.std.specs.Prelude.{◌≡◌, ◌<◌, ◌≤◌, ◌++◌, ◌∷◌, [], length, take, not, MatchOption, IfSome, OnOk, OnErr};
 ghost use Rattle.std.specs.List.{prefix_len};
 ghost use Rattle.verilog_syntax.specs.VerilogTokens.{is_blank};
 ghost use Rattle.verilog_names.specs.Values.{plain_of, decimal_value, bit_name};
@@ -36,7 +36,7 @@ pub fn plain_of<'a>(name: &TokenText<'a>) -> &'a [u8]
 fn value_within(limit: u32, digits: &[u8]) -> Option<u32>
     requires limit { limit ≤ 65535 }
     ensures value { MatchOption result (limit < decimal_value digits.now) (λ v. decimal_value digits.now ≡ v) }
-    ensures small { MatchOption result (length digits.now ≡ length digits.now) (λ v. v ≤ limit) }
+    ensures small { IfSome result (λ v. v ≤ limit) }
 {
     let mut value = 0u32;
     for digit in digits {
@@ -51,12 +51,24 @@ fn value_within(limit: u32, digits: &[u8]) -> Option<u32>
 /// The value of a decimal that is an index, None where it exceeds 65535.
 pub fn index_value(digits: &[u8]) -> Option<u32>
     ensures value { MatchOption result (65535 < decimal_value digits.now) (λ v. decimal_value digits.now ≡ v) }
-    ensures small { MatchOption result (length digits.now ≡ length digits.now) (λ v. v ≤ 65535) }
+    ensures small { IfSome result (λ v. v ≤ 65535) }
 {
     value_within(65535, digits)
 }
 
-/// Appends the plain name of a bit of a vector.
+/// Appends a name, an opening bracket, a number and a closing one; what stood before stays.
+fn push_bracketed(out: &mut Vec<u8>, name: &[u8], number: &[u8]) -> Result<(), NoMemory>
+    ensures value { OnOk result (out.new.items ≡ out.old.items ++ (name.now ++ (91 ∷ (number.now ++ (93 ∷ []))))) }
+    ensures front { take (length out.old.items) out.new.items ≡ out.old.items }
+{
+    out.extend_from_slice(name)?;
+    out.push(b'[')?;
+    out.extend_from_slice(number)?;
+    out.push(b']')?;
+    Ok(())
+}
+
+/// Appends the plain name of a bit of a vector; want of memory leaves what stood there.
 pub fn push_bit_name(
     alloc: Global,
     out: &mut Vec<u8>,
@@ -64,11 +76,15 @@ pub fn push_bit_name(
     index: u32,
 ) -> Result<(), NoMemory>
     ensures value { OnOk result (out.new.items ≡ out.old.items ++ bit_name name.now index) }
+    ensures unchanged { OnErr result (out.new.items ≡ out.old.items) }
 {
     let number = format!(in alloc; "{index}")?;
-    out.extend_from_slice(name)?;
-    out.extend_from_slice(b"[")?;
-    out.extend_from_slice(number.as_bytes())?;
-    out.extend_from_slice(b"]")?;
-    Ok(())
+    let len = out.len();
+    match push_bracketed(out, name, number.as_bytes()) {
+        Ok(()) => Ok(()),
+        Err(NoMemory) => {
+            out.truncate(len);
+            Err(NoMemory)
+        }
+    }
 }

@@ -1,4 +1,5 @@
--- A text denotes at most one netlist: the names of its nets are given and distinct, so the name of a bit tells its number.
+-- A text denotes at most one netlist: the names of its nets are given and distinct, so the name of a bit tells its number. What
+-- it declares is one list at most.
 use Rattle.std.proofs.Common.{◌≡◌, ℕ, ◌<◌, List, [], ◌∷◌, length, map, Result, Ok, Err, refl, sym, ap, ap₂, ◌∙◌, subst, arith}
 use Rattle.std.specs.Prelude.{All, slice_index_or}
 use Rattle.std.proofs.lemmas.List.{length-map, get_or-map}
@@ -17,7 +18,8 @@ use Rattle.netlist_core.specs.declared.netlist.Instance.{Instance}
 use Rattle.netlist_core.specs.declared.netlist.Netlist.{Netlist}
 use Rattle.netlist_core.specs.Netlists.{NamedBit, Named, Low, High, Undefined, named_bit, plain_of, AreDistinct, IsBitWithin, IsAssign, IsInstance, IsNetlist}
 use Rattle.verilog_syntax.specs.declared.reading.Placed.{Placed}
-use Rattle.verilog_reader.specs.Denoted.{SeenExpression, SeenPort, SeenAssign, SeenConnection, SeenInstance, seen_expression, seen_port, seen_assign, seen_connection, seen_instance, IsNetlistOf, DenotesNetlist}
+use Rattle.verilog_names.specs.Declarations.{declarations}
+use Rattle.verilog_reader.specs.Denoted.{SeenExpression, SeenPort, SeenAssign, SeenConnection, SeenInstance, seen_expression, seen_port, seen_assign, seen_connection, seen_instance, IsNetlistOf, DenotesNetlist, OneDeclaredLaw}
 
 -- two lists are one, where what is seen of them is and tells each member
 same_lists : {X Y : Type 0} (seen : X → Y) (Good : X → Type 0) → ((x y : X) → Good x → Good y → seen x ≡ seen y → x ≡ y)
@@ -135,3 +137,8 @@ pub one_netlist : (text : List ℕ) (n m : Netlist) → DenotesNetlist text n �
 one_netlist text n m a b =
     let same : a.statements ≡ b.statements = ap (value_or []) (sym a.reads ∙ b.reads) in
     same_netlists a.statements n m a.is (subst (λ (ps : List Placed). IsNetlistOf ps m) (sym same) b.is) a.sound b.sound
+
+pub one_declared : OneDeclaredLaw
+one_declared text ds es a b =
+    let same : a.statements ≡ b.statements = ap (value_or []) (sym a.reads ∙ b.reads) in
+    sym a.is ∙ ap declarations same ∙ b.is

@@ -12,6 +12,7 @@ abbrev pub letter_of : List ℕ → ℕ
 letter_of [] = 0
 letter_of (letter ∷ digits) = letter
 
+-- the letter of a constant's base
 abbrev pub constant_base : List ℕ → ℕ
 constant_base text = letter_of (drop (prefix_len is_digit text + 1) text)
 
@@ -19,6 +20,7 @@ constant_base text = letter_of (drop (prefix_len is_digit text + 1) text)
 abbrev pub constant_digits : List ℕ → List ℕ
 constant_digits text = filter (λ c. not (c == 95)) (drop (prefix_len is_digit text + 2) text)
 
+-- a number as a bit
 abbrev pub bit_of : ℕ → Bit
 bit_of v = if v == 0 then Zero else One
 
@@ -31,6 +33,7 @@ value_bits (suc n) v = value_bits n (v / 2) ++ bit_of (v % 2) ∷ []
 abbrev pub digit_width : ℕ → ℕ
 digit_width base = if base == 98 || base == 66 then 1 else (if base == 111 || base == 79 then 3 else 4)
 
+-- the base is decimal
 abbrev pub is_decimal_base : ℕ → Bool
 is_decimal_base base = base == 100 || base == 68
 

@@ -1,5 +1,5 @@
--- What a Verilog text denotes: the netlist of its statements (IEEE 1364-2005, 12). A net bit is named by its plain name; net
--- numbers are free.
+-- What a Verilog text denotes: the netlist of its statements and what they declare (IEEE 1364-2005, 12). A net bit is named by
+-- its plain name; net numbers are the places of the names, in their order.
 use Rattle.std.specs.Prelude.{length, ◌≡◌, ℕ, if◌then◌else◌, List, [], ◌∷◌, ◌++◌, map, decimal, Option, Some, None, Ok}
 use Rattle.std.specs.List.{flat_map}
 use Rattle.base_types.specs.declared.span.Span.{Span}
@@ -33,6 +33,7 @@ abbrev pub name_bits : List ℕ → Option Bounds → List (List ℕ)
 name_bits name None = name ∷ []
 name_bits name (Some b) = map (bit_name name) (indexes b)
 
+-- names as bits
 abbrev pub named_of : List (List ℕ) → List NamedBit
 named_of names = map Named names
 
@@ -51,20 +52,24 @@ pub record SeenExpression : Type 0 where
   pub bits : List NamedBit
   pub span : Span
 
+-- a port bit by its name
 pub record SeenPort : Type 0 where
   pub name : List ℕ
   pub direction : Direction
   pub line : ℕ
 
+-- an assign by names
 pub record SeenAssign : Type 0 where
   pub left : SeenExpression
   pub right : SeenExpression
   pub line : ℕ
 
+-- a connection by names
 pub record SeenConnection : Type 0 where
   pub pin : List ℕ
   pub expression : SeenExpression
 
+-- an instance by names
 pub record SeenInstance : Type 0 where
   pub name : List ℕ
   pub cell : List ℕ
@@ -73,9 +78,11 @@ pub record SeenInstance : Type 0 where
 
 -- what the statements say
 
+-- what an expression says, where these are declared
 abbrev pub said_expression : List Declaration → Expression → SeenExpression
 said_expression ds e = record { bits = flat_map (item_bits ds) e.items; span = e.span }
 
+-- the direction that a kind of declaration gives, if any
 abbrev pub directions_of : Declared → List Direction
 directions_of Input = directions.Input ∷ []
 directions_of Output = directions.Output ∷ []
@@ -85,24 +92,30 @@ directions_of Tri = []
 directions_of Supply0 = []
 directions_of Supply1 = []
 
+-- a port bit with its line
 abbrev pub said_port : ℕ → Direction → List ℕ → SeenPort
 said_port line direction name = record { name = name; direction = direction; line = line }
 
+-- the port bits that a declaration gives
 abbrev pub said_ports_of : ℕ → Declaration → List SeenPort
 said_ports_of line d = flat_map (λ direction. map (said_port line direction) (name_bits d.name d.bounds)) (directions_of d.kind)
 
+-- the port bits that the statements give, in order
 abbrev pub said_ports : List Placed → List SeenPort
 said_ports ps = flat_map (λ p. flat_map (said_ports_of p.line) (declarations_in p.statement)) ps
 
+-- the assign that a statement is
 abbrev pub said_assigns_in : List Declaration → ℕ → Statement → List SeenAssign
 said_assigns_in ds line (statements.Module name ports) = []
 said_assigns_in ds line (statements.Declare kind range names) = []
 said_assigns_in ds line (statements.Assign left right) = record { left = said_expression ds left; right = said_expression ds right; line = line } ∷ []
 said_assigns_in ds line (statements.Instance cell name connections) = []
 
+-- what a connection says
 abbrev pub said_connection : List Declaration → Connection → SeenConnection
 said_connection ds c = record { pin = plain_of c.pin; expression = said_expression ds c.expression }
 
+-- the instance that a statement is
 abbrev pub said_instances_in : List Declaration → ℕ → Statement → List SeenInstance
 said_instances_in ds line (statements.Module name ports) = []
 said_instances_in ds line (statements.Declare kind range names) = []
@@ -110,16 +123,19 @@ said_instances_in ds line (statements.Assign left right) = []
 said_instances_in ds line (statements.Instance cell name connections) =
     record { name = plain_of name; cell = plain_of cell; connections = map (said_connection ds) connections; line = line } ∷ []
 
+-- the name that a header gives
 abbrev pub module_name : Statement → List ℕ
 module_name (statements.Module name ports) = plain_of name
 module_name (statements.Declare kind range names) = []
 module_name (statements.Assign left right) = []
 module_name (statements.Instance cell name connections) = []
 
+-- the module's name
 abbrev pub header_name : List Placed → List ℕ
 header_name [] = []
 header_name (p ∷ ps) = module_name p.statement
 
+-- the line of the header
 abbrev pub header_line : List Placed → ℕ
 header_line [] = 0
 header_line (p ∷ ps) = p.line
@@ -136,9 +152,11 @@ first_mentioned before [] = []
 first_mentioned before (name ∷ names) =
     if has before name then first_mentioned (before ++ name ∷ []) names else (name, None) ∷ first_mentioned (before ++ name ∷ []) names
 
+-- the names of nets, the declared ones before those that are mentioned alone, each with its range
 abbrev pub net_entries : List Placed → List (List ℕ × Option Bounds)
 net_entries ps = first_declared [] (declarations ps) ++ first_mentioned [] (undeclared_in (declarations ps) (mentions ps))
 
+-- the text of a bit of a vector
 abbrev pub bit_text : List ℕ → ℕ → List ℕ
 bit_text name index = name_text name ++ (91 ∷ (decimal index ++ 93 ∷ []))
 
@@ -147,26 +165,33 @@ abbrev pub entry_nets : List ℕ → Option Bounds → List NetName
 entry_nets name None = record { plain = name; text = name_text name } ∷ []
 entry_nets name (Some b) = map (λ i. record { plain = bit_name name i; text = bit_text name i }) (indexes b)
 
+-- the net bits that are declared
 abbrev pub declared_nets : List Placed → List NetName
 declared_nets ps = flat_map (λ e. entry_nets e.0 e.1) (first_declared [] (declarations ps))
 
+-- all net bits, in order
 abbrev pub said_nets : List Placed → List NetName
 said_nets ps = flat_map (λ e. entry_nets e.0 e.1) (net_entries ps)
 
 -- what a netlist shows
 
+-- an expression of a netlist by names
 abbrev pub seen_expression : List NetName → Expr → SeenExpression
 seen_expression nets e = record { bits = map (named_bit nets) e.bits; span = e.span }
 
+-- a port of a netlist by its name
 abbrev pub seen_port : List NetName → Port → SeenPort
 seen_port nets port = record { name = net_plain nets port.net; direction = port.direction; line = port.line }
 
+-- an assign of a netlist by names
 abbrev pub seen_assign : List NetName → Assign → SeenAssign
 seen_assign nets a = record { left = seen_expression nets a.left; right = seen_expression nets a.right; line = a.line }
 
+-- a connection of a netlist by names
 abbrev pub seen_connection : List NetName → NetConnection → SeenConnection
 seen_connection nets c = record { pin = c.pin; expression = seen_expression nets c.expr }
 
+-- an instance of a netlist by names
 abbrev pub seen_instance : List NetName → Instance → SeenInstance
 seen_instance nets i = record { name = i.name; cell = i.cell; connections = map (seen_connection nets) i.connections; line = i.line }
 
@@ -188,6 +213,22 @@ pub record DenotesNetlist (text : List ℕ) (n : Netlist) : Type 0 where
   pub is : IsNetlistOf statements n
   pub sound : IsNetlist n
 
--- and only one
+-- and declares names: each with its kind, and its bounds where it is a vector, in order, repeats too
+pub record Declares (text : List ℕ) (declared : List Declaration) : Type 0 where
+  pub statements : List Placed
+  pub reads : read_faultless text ≡ Ok statements
+  pub is : declarations statements ≡ declared
+
+-- two texts declare the same
+pub record DeclareAlike (text other : List ℕ) : Type 0 where
+  pub declared : List Declaration
+  pub here : Declares text declared
+  pub there : Declares other declared
+
+-- a text denotes one netlist only, and what it declares is one list only
 abbrev pub OneNetlistLaw : Type 0
 OneNetlistLaw = (text : List ℕ) (n m : Netlist) → DenotesNetlist text n → DenotesNetlist text m → n ≡ m
+
+-- a text declares one list of names at most
+abbrev pub OneDeclaredLaw : Type 0
+OneDeclaredLaw = (text : List ℕ) (ds es : List Declaration) → Declares text ds → Declares text es → ds ≡ es

@@ -5,9 +5,11 @@ use Rattle.netlist_core.specs.declared.netlist.Bit.TheVariants.{Unknown}
 use Rattle.verilog_reader.specs.declared.constant.LastBits.{LastBits}
 use Rattle.verilog_reader.specs.Constants.{bit_of, fitted}
 
+-- the digits of a constant alone
 abbrev pub without_underscores : List ℕ → List ℕ
 without_underscores digits = filter (λ c. not (c == 95)) digits
 
+-- a bit, undefined where the mask says so
 abbrev pub masked_bit : ℕ → ℕ → Bit
 masked_bit one unknown = if unknown == 0 then bit_of one else Unknown
 

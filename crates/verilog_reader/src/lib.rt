@@ -16,10 +16,3 @@ mod parts;
 
 pub use laws::netlist_law;
 pub use netlist::read_netlist;
-
-#[cfg(test)]
-mod constant_tests;
-#[cfg(test)]
-mod netlist_tests;
-#[cfg(test)]
-mod tests;

@@ -1,6 +1,8 @@
 //! The netlist of a text.
-ghost use Rattle.std.specs.Prelude.{◌≡◌, ◌<◌, ◌^◌, length, IfOk};
-ghost use Rattle.verilog_checks.specs.Faults.{IsRefused, read_faultless};
+ghost use Rattle.std.specs.Prelude.{◌<◌, ◌^◌, length, IfOk, OnOk};
+ghost use Rattle.base_types.specs.declared.fault.Fault.{Fault};
+ghost use Rattle.base_types.specs.FirstFault.{IfFault, IsFirstFault};
+ghost use Rattle.verilog_checks.specs.Faults.{HoldsInVerilog};
 ghost use Rattle.verilog_reader.specs.Denoted.{DenotesNetlist};
 
 use crate::fold::netlist_of;
@@ -17,7 +19,8 @@ use verilog_syntax::read_statements;
 pub fn read_netlist(alloc: Global, bytes: &[u8]) -> Result<Netlist, ReadFault>
     requires size { length bytes.now < 2 ^ 32 }
     ensures value { IfOk result (DenotesNetlist bytes.now) }
-    ensures refused { IsRefused result (read_faultless bytes.now) }
+    ensures fault { IfFault result (IsFirstFault (HoldsInVerilog bytes.now)) }
+    ensures no_fault { OnOk result ((fault : Fault) → HoldsInVerilog bytes.now fault → ⊥) }
 {
     let statements = read_statements(alloc, bytes)?;
     check_number(alloc, statements.as_slice())?;

@@ -3,7 +3,7 @@ use Rattle.std.proofs.Common.{◌≡◌, ℕ, ◌<◌, Bool, true, false, List, 
 use Rattle.std.specs.List.{flat_map}
 use Rattle.std.specs.List.{AllByRecursion as Each}
 use Rattle.token_forms.specs.Parts.{Part, Fixed, Slot, list_parts, spelled}
-use Rattle.token_forms.proofs.Unspelled.{spelled_append}
+use Rattle.token_forms.proofs.Spelled.{spelled_append}
 use Rattle.verilog_syntax.specs.declared.statement.Declared.{Declared}
 use Rattle.verilog_syntax.specs.declared.statement.Declared.TheVariants as declared
 use Rattle.verilog_syntax.specs.declared.statement.Range.{Range}
@@ -12,12 +12,9 @@ use Rattle.verilog_syntax.specs.declared.statement.Item.TheVariants as items
 use Rattle.verilog_syntax.specs.declared.statement.Connection.{Connection}
 use Rattle.verilog_syntax.specs.declared.statement.Statement.{Statement}
 use Rattle.verilog_syntax.specs.declared.statement.Statement.TheVariants as statements
-use Rattle.verilog_syntax.specs.Grammar.{IsName, item_texts, expression_texts, IsExpression, IsAnyExpression, texts_parts, name_parts, declared_text, range_parts, connection_parts, header_parts, statement_parts, IsGoodRange, IsGoodConnection, IsGoodHeader, IsGoodStatement}
-use Rattle.verilog_syntax.specs.Reading.{depth_behind, ends_one}
+use Rattle.verilog_syntax.specs.StatementParts.{IsName, item_texts, expression_texts, IsExpression, IsAnyExpression, texts_parts, name_parts, declared_text, range_parts, connection_parts, header_parts, statement_parts, IsGoodRange, IsGoodConnection, IsGoodHeader, IsGoodStatement}
 use Rattle.verilog_syntax.proofs.Apart.{IsInner, name_inner, decimal_inner, constant_inner}
-use Rattle.verilog_syntax.proofs.ItemsTaken.{Going, Allowed}
-use Rattle.verilog_syntax.proofs.Trees.{expression_begins}
-use Rattle.verilog_syntax.proofs.ReadItems.{step}
+use Rattle.verilog_syntax.proofs.Nesting.{IsItem, expression_nests}
 use Rattle.verilog_syntax.proofs.ReadForms.{spelled_texts}
 
 abbrev AllInner : List (List ℕ) → Type 0
@@ -27,30 +24,21 @@ all_join : (us ws : List (List ℕ)) → AllInner us → AllInner ws → AllInne
 all_join [] ws a b = b
 all_join (u ∷ us) ws a b = (a.0, all_join us ws a.1 b)
 
-item_inner : (ended : Bool) (i : Item) → Allowed ended i → AllInner (item_texts i)
-item_inner true items.Open good = absurd good
-item_inner true items.Comma good = ((refl, refl), tt)
-item_inner true items.Close good = ((refl, refl), tt)
-item_inner true (items.Name name) good = absurd good
-item_inner true (items.Bit name index) good = absurd good
-item_inner true (items.Part name left right) good = absurd good
-item_inner true (items.Constant text) good = absurd good
-item_inner false items.Open good = ((refl, refl), tt)
-item_inner false items.Comma good = absurd good
-item_inner false items.Close good = absurd good
-item_inner false (items.Name name) good = (name_inner name good, tt)
-item_inner false (items.Bit name index) good = (name_inner name good.0, ((refl, refl), (decimal_inner index good.1, ((refl, refl), tt))))
-item_inner false (items.Part name left right) good = (name_inner name good.0, ((refl, refl), (decimal_inner left good.1, ((refl, refl), (decimal_inner right good.2, ((refl, refl), tt))))))
-item_inner false (items.Constant text) good = (constant_inner text good, tt)
+item_inner : (i : Item) → IsItem i → AllInner (item_texts i)
+item_inner items.Open good = ((refl, refl), tt)
+item_inner items.Comma good = ((refl, refl), tt)
+item_inner items.Close good = ((refl, refl), tt)
+item_inner (items.Name name) good = (name_inner name good, tt)
+item_inner (items.Bit name index) good = (name_inner name good.0, ((refl, refl), (decimal_inner index good.1, ((refl, refl), tt))))
+item_inner (items.Part name left right) good = (name_inner name good.0, ((refl, refl), (decimal_inner left good.1, ((refl, refl), (decimal_inner right good.2, ((refl, refl), tt))))))
+item_inner (items.Constant text) good = (constant_inner text good, tt)
 
-items_inner : (ended : Bool) (all : List Item) (depth : ℕ) → Going ended all depth → AllInner (flat_map item_texts all)
-items_inner ended [] depth going = tt
-items_inner ended (i ∷ others) depth going =
-    let s = step ended i others depth going in
-    all_join (item_texts i) (flat_map item_texts others) (item_inner ended i s.good) (items_inner (ends_one i) others (depth_behind depth i) s.going)
+items_inner : (all : List Item) → Each IsItem all → AllInner (flat_map item_texts all)
+items_inner [] good = tt
+items_inner (i ∷ others) good = all_join (item_texts i) (flat_map item_texts others) (item_inner i good.0) (items_inner others good.1)
 
 expression_inner : (all : List Item) → IsExpression all → AllInner (flat_map item_texts all)
-expression_inner all good = items_inner false all 0 (expression_begins all good)
+expression_inner all good = items_inner all (expression_nests all good).1
 
 any_inner : (all : List Item) → IsAnyExpression all → AllInner (flat_map item_texts all)
 any_inner [] good = tt

@@ -6,16 +6,14 @@ pub mod ChunkReads
 pub mod Closing
 pub mod Digits
 pub mod Forms
-pub mod ItemLoops
-pub mod ItemsTaken
+pub mod ItemTexts
+pub mod Lawful
+pub mod Modules
 pub mod NameTokens
-pub mod Places
+pub mod Nesting
 pub mod ReadForms
-pub mod ReadItems
 pub mod ReadLaw
-pub mod ReadParts
 pub mod SpelledLaw
-pub mod Taken
 pub mod Trees
 pub mod VerilogBlanks
 pub mod VerilogLaws
@@ -26,3 +24,4 @@ pub mod VerilogPieces
 pub mod VerilogSeams
 pub mod VerilogSplitLaw
 pub mod VerilogUnique
+pub mod WordKinds

@@ -9,31 +9,16 @@ use Rattle.token_forms.specs.Statements.{begin_with, statements_of}
 use Rattle.token_forms.specs.Tokens.{Token}
 use Rattle.token_forms.specs.Parts.{spelled, token_texts}
 use Rattle.base_types.specs.declared.fault.Fault.{Fault}
-use Rattle.token_forms.proofs.Unspelled.{spelled_append, same_text}
+use Rattle.token_forms.proofs.Spelled.{spelled_append, same_text}
+use Rattle.token_forms.proofs.Joined.{CutTexts, cut_texts}
 use Rattle.verilog_syntax.specs.declared.statement.Statement.{Statement}
 use Rattle.verilog_syntax.specs.declared.reading.Placed.{Placed}
-use Rattle.verilog_syntax.specs.Grammar.{statement_parts, IsGoodStatement, is_header}
+use Rattle.verilog_syntax.specs.StatementParts.{statement_parts, IsGoodStatement, is_header}
 use Rattle.verilog_syntax.specs.Reading.{statement_of, header_of, line_of_tokens, read_statement, read_header, read_others, read_body, body_len, read_end, read_module}
 use Rattle.verilog_syntax.specs.Laws.{module_parts, AreInOrder, AreGood, bare, ReadLaw, NoStatementLaw, NoHeaderLaw, tokens_in}
 use Rattle.verilog_syntax.proofs.Apart.{IsInner}
 use Rattle.verilog_syntax.proofs.Closing.{Shape, statement_shape}
 use Rattle.verilog_syntax.proofs.ReadForms.{statement-read, header-read}
-
--- where the texts of tokens are cut, so are the tokens
-record CutTexts (us ws : List (List ℕ)) (ts : List Token) : Type 0 where
-  pub front : List Token
-  pub behind : List Token
-  pub is : ts ≡ front ++ behind
-  pub first : token_texts front ≡ us
-  pub second : token_texts behind ≡ ws
-
-cut_texts : (us ws : List (List ℕ)) (ts : List Token) → token_texts ts ≡ us ++ ws → CutTexts us ws ts
-cut_texts [] ws ts e = record { front = []; behind = ts; is = refl; first = refl; second = e }
-cut_texts (u ∷ us) ws [] e = absurd cc
-cut_texts (u ∷ us) ws (t ∷ ts) e =
-    let text : t.text ≡ u = cc in
-    let c = cut_texts us ws ts cc in
-    record { front = t ∷ c.front; behind = c.behind; is = ap (λ (l : List Token). t ∷ l) {y = c.front ++ c.behind} c.is; first = rw (text, c.first) refl; second = c.second }
 
 -- tokens without a semicolon, and one behind them, are a statement
 statement_cut : (front : List Token) (t : Token) (behind : List Token) → Each IsInner (token_texts front) → t.text ≡ 59 ∷ []

@@ -11,7 +11,7 @@ use Rattle.base_types.specs.declared.kind.Kind.TheVariants.{VerilogSyntax, Secon
 use Rattle.token_forms.proofs.Spelled.{choose, fits-append}
 use Rattle.verilog_syntax.specs.declared.statement.Statement.{Statement}
 use Rattle.verilog_syntax.specs.declared.reading.Placed.{Placed}
-use Rattle.verilog_syntax.specs.Grammar.{statement_parts, IsGoodStatement, is_header}
+use Rattle.verilog_syntax.specs.StatementParts.{statement_parts, IsGoodStatement, is_header}
 use Rattle.verilog_syntax.specs.Reading.{statement_of, header_of, result_and_then, fault_at, line_of_tokens, placed_or, read_statement, read_header, read_others, read_body, body_len, read_end, read_module}
 use Rattle.verilog_syntax.specs.Laws.{module_parts, AreGood, SpelledLaw, tokens_in}
 use Rattle.verilog_syntax.proofs.Forms.{statement_of-spells, header_of-spells}

@@ -2,7 +2,7 @@
 use Rattle.std.proofs.Common.{◌≡◌, ℕ, zero, suc, ◌+◌, ◌<◌, ◌≤◌, List, [], ◌∷◌, ◌++◌, length, refl, sym, ap, ◌∙◌, subst, arith, append_assoc, append-nil, length-append, true}
 use Rattle.verilog_syntax.specs.declared.statement.Item.{Item}
 use Rattle.verilog_syntax.specs.declared.statement.Item.TheVariants as items
-use Rattle.verilog_syntax.specs.Grammar.{IsName, IsDecimal, IsOperand, Tree, Operand, Braces, Trees, Last, More, items_of, items_of_all, HasOperands, HaveOperands, IsExpression}
+use Rattle.verilog_syntax.specs.StatementParts.{IsName, IsDecimal, IsOperand, Tree, Operand, Braces, Trees, Last, More, items_of, items_of_all, HasOperands, HaveOperands, IsExpression}
 use Rattle.verilog_syntax.specs.Words.{is_constant}
 
 -- with so many braces open, the items begin with an expression or go on behind one, and end with the outermost expression

@@ -18,12 +18,14 @@ use Rattle.verilog_syntax.specs.Reading.{result_and_then, ends_module, body_len,
 abbrev pub step_at : List ℕ → Step
 step_at text = if bytes_eq text (codes "endmodule") then Stops else (if bytes_eq text (59 ∷ []) then Closes else GoesOn)
 
+-- the tokens of the next statement, and what ended them
 abbrev pub chunk_of : List Token → Chunk
 chunk_of [] = record { ended = Text; taken = []; left = [] }
 chunk_of (t ∷ ts) =
     if ends_module t then record { ended = Stopped; taken = []; left = ts }
     else (if is_semicolon t then record { ended = Closed; taken = t ∷ []; left = ts } else put_before t (chunk_of ts))
 
+-- an `endmodule` is still to come
 abbrev pub is_closed : List Token → Bool
 is_closed ts = list_any ends_module ts
 

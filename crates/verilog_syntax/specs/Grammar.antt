@@ -1,11 +1,12 @@
 -- How the statements of a module are spelled in tokens (IEEE 1364-2005, annex A, in this profile).
--- Steps: Reading. The grammar law: what is read is spelled so, and what is spelled so is read.
-use Rattle.std.specs.Prelude.{◌≡◌, ◌<◌, ℕ, Bool, true, false, List, [], ◌∷◌, ◌++◌, length, map, codes, Option, Some, None}
-use Rattle.std.specs.List.{flat_map}
-use Rattle.std.specs.List.{AllByRecursion as Each}
-use Rattle.token_forms.specs.Parts.{Part, Fixed, Slot, list_parts}
+use Rattle.std.specs.Prelude.{ℕ, List, [], Option, Some, None, if◌then◌else◌}
+use Rattle.std.specs.Str.{bytes_eq}
+use Rattle.std.specs.Prelude.{codes}
+use Rattle.base_types.specs.declared.span.Span.{Span}
+use Rattle.token_forms.specs.Classes.{Only, But}
+use Rattle.token_forms.specs.Forms.{Form, text, key, ◌&◌, made, made_if, ◌▸◌, ◌◂◌, ◌only_if◌, ◌or◌, maybe, many, listed, at, between}
 use Rattle.verilog_syntax.specs.declared.statement.Declared.{Declared}
-use Rattle.verilog_syntax.specs.declared.statement.Declared.TheVariants.{Input, Output, Inout, Wire, Tri, Supply0, Supply1}
+use Rattle.verilog_syntax.specs.declared.statement.Declared.TheVariants as declared
 use Rattle.verilog_syntax.specs.declared.statement.Range.{Range}
 use Rattle.verilog_syntax.specs.declared.statement.Item.{Item}
 use Rattle.verilog_syntax.specs.declared.statement.Item.TheVariants as items
@@ -13,147 +14,97 @@ use Rattle.verilog_syntax.specs.declared.statement.Expression.{Expression}
 use Rattle.verilog_syntax.specs.declared.statement.Connection.{Connection}
 use Rattle.verilog_syntax.specs.declared.statement.Statement.{Statement}
 use Rattle.verilog_syntax.specs.declared.statement.Statement.TheVariants as statements
-use Rattle.verilog_syntax.specs.Words.{is_name, is_decimal, is_constant}
+use Rattle.verilog_syntax.specs.declared.expression.Select.{Select}
+use Rattle.verilog_syntax.specs.Words.{kinds, no_operands, marks, any, is_name, is_decimal, is_operand}
+use Rattle.verilog_syntax.specs.Items.{operand_of, is_expression, is_any_expression, is_target}
 
-abbrev pub IsName : List ℕ → Type 0
-IsName text = is_name text ≡ true
+-- identifier    \identifier
+abbrev pub name : Form (List ℕ)
+name = text (But no_operands) is_name
 
-abbrev pub IsDecimal : List ℕ → Type 0
-IsDecimal text = is_decimal text ≡ true
+-- digits
+abbrev pub decimal : Form (List ℕ)
+decimal = text (But marks) is_decimal
 
--- {    ,    }    name    name [ index ]    name [ left : right ]    constant
-abbrev pub item_texts : Item → List (List ℕ)
-item_texts items.Open = (123 ∷ []) ∷ []
-item_texts items.Comma = (44 ∷ []) ∷ []
-item_texts items.Close = (125 ∷ []) ∷ []
-item_texts (items.Name name) = name ∷ []
-item_texts (items.Bit name index) = name ∷ (91 ∷ []) ∷ index ∷ (93 ∷ []) ∷ []
-item_texts (items.Part name left right) = name ∷ (91 ∷ []) ∷ left ∷ (58 ∷ []) ∷ right ∷ (93 ∷ []) ∷ []
-item_texts (items.Constant text) = text ∷ []
+-- name    constant
+abbrev pub operand_word : Form (List ℕ)
+operand_word = text (But no_operands) is_operand
 
-abbrev pub expression_texts : Expression → List (List ℕ)
-expression_texts e = flat_map item_texts e.items
+-- [ index ]    [ left : right ]
+unfoldable pub select : Form Select
+select = made (λ p. record { left = p.0; right = p.1 }) ("[" ▸ (decimal & maybe (":" ▸ decimal) ◂ "]"))
 
--- the item is an operand, made of a name and decimals, or a constant
-abbrev pub IsOperand : Item → Type 0
-IsOperand items.Open = ⊥
-IsOperand items.Comma = ⊥
-IsOperand items.Close = ⊥
-IsOperand (items.Name name) = IsName name
-IsOperand (items.Bit name index) = IsName name × IsDecimal index
-IsOperand (items.Part name left right) = IsName name × IsDecimal left × IsDecimal right
-IsOperand (items.Constant text) = is_constant text ≡ true
+-- name    name [ index ]    name [ left : right ]    constant
+unfoldable pub operand : Form Item
+operand = made_if (λ p. operand_of p.0 p.1) (operand_word & maybe select)
 
--- an expression is an operand, or one or more expressions in braces
-mutual
-  pub data Tree : Type 0 where
-    Operand : (item : Item) → Tree
-    Braces : (inner : Trees) → Tree
+-- {    ,    }    operand
+unfoldable pub item : Form Item
+item =
+    made (λ nothing. items.Open) (key "{")
+    or made (λ nothing. items.Comma) (key ",")
+    or made (λ nothing. items.Close) (key "}")
+    or operand
 
-  pub data Trees : Type 0 where
-    Last : (tree : Tree) → Trees
-    More : (tree : Tree) → (others : Trees) → Trees
+-- an expression of its items and its place
+abbrev pub expression_of : List Item × Span → Expression
+expression_of p = record { items = p.0; span = p.1 }
 
--- its items in the order of the text, with commas between expressions
-abbrev mutual
-  pub items_of : Tree → List Item
-  items_of (Operand item) = item ∷ []
-  items_of (Braces inner) = items.Open ∷ (items_of_all inner ++ items.Close ∷ [])
+-- . pin ( expression )    . pin ( )
+unfoldable pub connection : Form Connection
+connection = made (λ p. record { pin = p.0; expression = expression_of p.1 }) ("." ▸ (name & between "(" (many item only_if is_any_expression) ")"))
 
-  pub items_of_all : Trees → List Item
-  items_of_all (Last tree) = items_of tree
-  items_of_all (More tree others) = items_of tree ++ items.Comma ∷ items_of_all others
+-- a list, or none
+abbrev pub listed_or_none : {X : Type 0} → Option (List X) → List X
+listed_or_none None = []
+listed_or_none (Some xs) = xs
 
-abbrev mutual
-  pub HasOperands : Tree → Type 0
-  HasOperands (Operand item) = IsOperand item
-  HasOperands (Braces inner) = HaveOperands inner
+-- connection , ..    or none
+unfoldable pub connections : Form (List Connection)
+connections = made listed_or_none (maybe (listed connection ","))
 
-  pub HaveOperands : Trees → Type 0
-  HaveOperands (Last tree) = HasOperands tree
-  HaveOperands (More tree others) = HasOperands tree × HaveOperands others
+-- cell name ( connection , .. ) ;
+unfoldable pub instance : Form Statement
+instance = made (λ p. statements.Instance p.0 p.1.0 p.1.1) (name & name & ("(" ▸ (connections ◂ ")")) ◂ ";")
 
-pub record IsExpression (all : List Item) : Type 0 where
-  pub tree : Tree
-  pub is : all ≡ items_of tree
-  pub operands : HasOperands tree
+-- assign expression = expression ;    with no constant on the left
+unfoldable pub assign : Form Statement
+assign =
+    made (λ p. statements.Assign (expression_of p.0) (expression_of p.1))
+    ("assign" ▸ (at (many item only_if is_target) & between "=" (many item only_if is_expression) ";"))
 
--- the items have no constant
-abbrev pub IsVariable : Item → Type 0
-IsVariable items.Open = Unit {0}
-IsVariable items.Comma = Unit {0}
-IsVariable items.Close = Unit {0}
-IsVariable (items.Name name) = Unit {0}
-IsVariable (items.Bit name index) = Unit {0}
-IsVariable (items.Part name left right) = Unit {0}
-IsVariable (items.Constant text) = ⊥
+-- what a declaration's first word makes of its names
+unfoldable pub kind_of : List ℕ → Option Declared
+kind_of text =
+    if bytes_eq text (codes "input") then Some declared.Input
+    else (if bytes_eq text (codes "output") then Some declared.Output
+    else (if bytes_eq text (codes "inout") then Some declared.Inout
+    else (if bytes_eq text (codes "wire") then Some declared.Wire
+    else (if bytes_eq text (codes "tri") then Some declared.Tri
+    else (if bytes_eq text (codes "supply0") then Some declared.Supply0
+    else (if bytes_eq text (codes "supply1") then Some declared.Supply1
+    else None))))))
 
--- in .pin() an expression has no items
-abbrev pub IsAnyExpression : List Item → Type 0
-IsAnyExpression [] = Unit {0}
-IsAnyExpression (item ∷ others) = IsExpression (item ∷ others)
-
-abbrev pub texts_parts : List (List ℕ) → List Part
-texts_parts texts = map Fixed texts
-
-abbrev pub name_parts : List ℕ → List Part
-name_parts name = Fixed name ∷ []
-
-abbrev pub declared_text : Declared → List ℕ
-declared_text Input = codes "input"
-declared_text Output = codes "output"
-declared_text Inout = codes "inout"
-declared_text Wire = codes "wire"
-declared_text Tri = codes "tri"
-declared_text Supply0 = codes "supply0"
-declared_text Supply1 = codes "supply1"
+-- input    output    inout    wire    tri    supply0    supply1
+unfoldable pub kind : Form Declared
+kind = made_if kind_of (text (Only kinds) any)
 
 -- [ left : right ]
-abbrev pub range_parts : Option Range → List Part
-range_parts None = []
-range_parts (Some range) = Fixed (91 ∷ []) ∷ Fixed range.left ∷ Fixed (58 ∷ []) ∷ Fixed range.right ∷ Fixed (93 ∷ []) ∷ []
+unfoldable pub range : Form Range
+range = made (λ p. record { left = p.0; right = p.1 }) ("[" ▸ (decimal & (":" ▸ decimal) ◂ "]"))
 
--- . pin ( expression )
-abbrev pub connection_parts : Connection → List Part
-connection_parts c = Fixed (46 ∷ []) ∷ Fixed c.pin ∷ Slot 40 c.expression.span (expression_texts c.expression) 41 ∷ []
+-- kind [ left : right ] name , .. ;
+unfoldable pub declaration : Form Statement
+declaration = made (λ p. statements.Declare p.0 p.1.0 p.1.1) (kind & maybe range & listed name "," ◂ ";")
 
--- ( port , .. ) ;    where there are no ports, the parentheses may be left out
-abbrev pub header_parts : Bool → List (List ℕ) → List Part
-header_parts false ports = Fixed (59 ∷ []) ∷ []
-header_parts true ports = Fixed (40 ∷ []) ∷ (list_parts name_parts 41 ports ++ Fixed (59 ∷ []) ∷ [])
+-- a statement behind the header
+unfoldable pub statement : Form Statement
+statement = assign or declaration or instance
 
--- module name header    kind range name , .. ;    assign left = right ;    cell name ( connection , .. ) ;
-abbrev pub statement_parts : Bool → Statement → List Part
-statement_parts listed (statements.Module name ports) = Fixed (codes "module") ∷ Fixed name ∷ header_parts listed ports
-statement_parts listed (statements.Declare kind range names) = Fixed (declared_text kind) ∷ (range_parts range ++ list_parts name_parts 59 names)
-statement_parts listed (statements.Assign left right) = Fixed (codes "assign") ∷ (texts_parts (expression_texts left) ++ Slot 61 right.span (expression_texts right) 59 ∷ [])
-statement_parts listed (statements.Instance cell name connections) =
-    Fixed cell ∷ Fixed name ∷ Fixed (40 ∷ []) ∷ (list_parts connection_parts 41 connections ++ Fixed (59 ∷ []) ∷ [])
+-- ( name , .. )    ( )
+unfoldable pub ports : Form (List (List ℕ))
+ports = made listed_or_none ("(" ▸ (maybe (listed name ",") ◂ ")"))
 
-abbrev pub IsGoodRange : Option Range → Type 0
-IsGoodRange None = Unit {0}
-IsGoodRange (Some range) = IsDecimal range.left × IsDecimal range.right
-
-pub record IsGoodConnection (c : Connection) : Type 0 where
-  pub pin : IsName c.pin
-  pub expression : IsAnyExpression c.expression.items
-
--- the parentheses of a header are left out only where there are no ports
-abbrev pub IsGoodHeader : Bool → List (List ℕ) → Type 0
-IsGoodHeader false ports = ports ≡ []
-IsGoodHeader true ports = Each IsName ports
-
--- the names are names, the numbers decimals, the expressions expressions; a declaration has a name at least, and the left
--- side of an assign no constant
-abbrev pub IsGoodStatement : Bool → Statement → Type 0
-IsGoodStatement listed (statements.Module name ports) = IsName name × IsGoodHeader listed ports
-IsGoodStatement listed (statements.Declare kind range names) = IsGoodRange range × (0 < length names) × Each IsName names
-IsGoodStatement listed (statements.Assign left right) = IsExpression left.items × Each IsVariable left.items × IsExpression right.items
-IsGoodStatement listed (statements.Instance cell name connections) = IsName cell × IsName name × Each IsGoodConnection connections
-
--- the statement is the header
-abbrev pub is_header : Statement → Bool
-is_header (statements.Module name ports) = true
-is_header (statements.Declare kind range names) = false
-is_header (statements.Assign left right) = false
-is_header (statements.Instance cell name connections) = false
+-- module name ( name , .. ) ;    the list may be left out
+unfoldable pub header : Form Statement
+header = made (λ p. statements.Module p.0 (listed_or_none p.1)) ("module" ▸ (name & maybe ports) ◂ ";")

@@ -10,9 +10,10 @@ use Rattle.verilog_syntax.specs.declared.statement.Connection.{Connection}
 use Rattle.verilog_syntax.specs.declared.statement.Statement.{Statement}
 use Rattle.verilog_syntax.specs.declared.statement.Statement.TheVariants as statements
 use Rattle.verilog_syntax.specs.declared.reading.Placed.{Placed}
-use Rattle.verilog_syntax.specs.Grammar.{statement_parts, IsGoodStatement, is_header}
+use Rattle.verilog_syntax.specs.StatementParts.{statement_parts, IsGoodStatement, is_header}
 use Rattle.verilog_syntax.specs.Reading.{statement_of, header_of, read_statements}
 
+-- the tokens of a text
 abbrev pub tokens_in : List ℕ → List Token
 tokens_in text = tokens_of text (verilog_tokens text)
 
@@ -41,12 +42,15 @@ pub record AreSpelled (text : List ℕ) (ps : List Placed) : Type 0 where
 abbrev pub SpelledLaw : Type 0
 SpelledLaw = (text : List ℕ) (ps : List Placed) → read_statements text ≡ Ok ps → AreSpelled text ps
 
+-- no place
 abbrev pub nowhere : Span
 nowhere = record { start = 0; end = 0 }
 
+-- an expression without its place
 abbrev pub bare_expression : Expression → Expression
 bare_expression e = record { items = e.items; span = nowhere }
 
+-- a connection without places
 abbrev pub bare_connection : Connection → Connection
 bare_connection c = record { pin = c.pin; expression = bare_expression c.expression }
 
@@ -76,6 +80,7 @@ abbrev pub NoStatementLaw : Type 0
 NoStatementLaw = (ts : List Token) (listed : Bool) (s : Statement) → statement_of ts ≡ None → is_header s ≡ false → IsGoodStatement listed s
     → token_texts ts ≢ spelled (statement_parts listed s)
 
+-- tokens that are read as no header are spelled by none
 abbrev pub NoHeaderLaw : Type 0
 NoHeaderLaw = (ts : List Token) (listed : Bool) (s : Statement) → header_of ts ≡ None → is_header s ≡ true → IsGoodStatement listed s
     → token_texts ts ≢ spelled (statement_parts listed s)

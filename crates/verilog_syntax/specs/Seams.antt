@@ -47,6 +47,7 @@ is_identifier (b ∷ bs) = is_word_start b && list_all is_word bs
 abbrev pub is_escapable : List ℕ → Bool
 is_escapable w = nat_lt 0 (length w) && list_all (λ c. not (is_blank c)) w
 
+-- one digit or more, and nothing else
 abbrev pub is_decimal : List ℕ → Bool
 is_decimal w = nat_lt 0 (length w) && list_all is_digit w
 
@@ -59,6 +60,7 @@ pub record HasTexts (new : List ℕ) (ws : List (List ℕ)) : Type 0 where
 abbrev pub PlainLaw : Type 0
 PlainLaw = (w : List ℕ) → is_identifier w ≡ true → HasTexts w (w ∷ [])
 
+-- the text of a bit of a vector with a plain name has these tokens
 abbrev pub PlainBitLaw : Type 0
 PlainBitLaw = (w d : List ℕ) → is_identifier w ≡ true → is_decimal d ≡ true → HasTexts (w ++ 91 ∷ (d ++ 93 ∷ [])) (w ∷ (91 ∷ []) ∷ d ∷ (93 ∷ []) ∷ [])
 
@@ -66,6 +68,7 @@ PlainBitLaw = (w d : List ℕ) → is_identifier w ≡ true → is_decimal d ≡
 abbrev pub EscapedLaw : Type 0
 EscapedLaw = (w : List ℕ) → is_escapable w ≡ true → HasTexts (92 ∷ (w ++ 32 ∷ [])) ((92 ∷ (w ++ 32 ∷ [])) ∷ [])
 
+-- the text of a bit of a vector with an escaped name has these tokens
 abbrev pub EscapedBitLaw : Type 0
 EscapedBitLaw = (w d : List ℕ) → is_escapable w ≡ true → is_decimal d ≡ true
     → HasTexts (92 ∷ (w ++ 32 ∷ (91 ∷ (d ++ 93 ∷ [])))) ((92 ∷ (w ++ 32 ∷ [])) ∷ (91 ∷ []) ∷ d ∷ (93 ∷ []) ∷ [])

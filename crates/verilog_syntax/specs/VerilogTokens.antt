@@ -12,6 +12,7 @@ use Rattle.token_forms.specs.Pieces.{tokens_from, texts_from}
 abbrev pub is_blank : ℕ → Bool
 is_blank b = b == 32 || b == 9 || b == 10 || b == 13
 
+-- a decimal digit
 abbrev pub is_digit : ℕ → Bool
 is_digit b = nat_le 48 b && nat_le b 57
 
@@ -23,6 +24,7 @@ is_word_start b = nat_le 97 b && nat_le b 122 || nat_le 65 b && nat_le b 90 || b
 abbrev pub is_word : ℕ → Bool
 is_word b = is_word_start b || is_digit b || b == 36
 
+-- a line feed
 abbrev pub is_line_feed : ℕ → Bool
 is_line_feed b = b == 10
 
@@ -30,6 +32,7 @@ is_line_feed b = b == 10
 abbrev pub is_unknown : ℕ → Bool
 is_unknown c = c == 120 || c == 122 || c == 88 || c == 90 || c == 63
 
+-- a hexadecimal digit
 abbrev pub is_hex_digit : ℕ → Bool
 is_hex_digit c = is_digit c || nat_le 97 c && nat_le c 102 || nat_le 65 c && nat_le c 70
 

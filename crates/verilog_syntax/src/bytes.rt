@@ -2,7 +2,7 @@
 ghost use Rattle.std.specs.Prelude.{◌≡◌};
 ghost use Rattle.verilog_syntax.specs.VerilogTokens.{is_blank, is_digit, is_word_start, is_word};
 
-// 1 at a blank, 2 at a letter or `_`, 3 at a digit, 4 at `$`
+/// 1 at a blank, 2 at a letter or `_`, 3 at a digit, 4 at `$`
 #[rattlefmt::skip]
 static KINDS: [u8; 256] = [
     0, 0, 0, 0, 0, 0, 0, 0, 0, 1, 1, 0, 0, 1, 0, 0,

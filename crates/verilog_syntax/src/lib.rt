@@ -2,8 +2,8 @@
 //! they are read.
 //!
 //! Floor: readers, on base_types and token_forms.
-//! Contract: `read_statements` gives the statements that `specs/Reading.antt` says the text has, which are those that
-//! its tokens spell by `specs/Grammar.antt`, or the first that matches no form. Begin with `statement.rt`.
+//! Contract: `read_statements` answers exactly the statements that the tokens of the text spell by `specs/Grammar.antt`,
+//! or its first fault of form, as `specs/Module.antt` says. Begin with `statement.rt`.
 //!
 //! What is read: `module name ( name, .. ) ;`, also with an empty list or with none; `kind [m:n] name, .. ;` with the kinds
 //! `input`, `output`, `inout`, `wire`, `tri`, `supply0` and `supply1`; `assign expression = expression ;`;
@@ -13,7 +13,9 @@
 #![tactic(auto)]
 
 mod bytes;
+mod expression;
 mod item_list;
+mod kinds;
 mod laws;
 mod lexer;
 mod number;
@@ -35,6 +37,3 @@ pub use reading::{Placed, read_statements};
 pub use statement::{Connection, Declared, Expression, Item, Range, Statement};
 pub use token_laws::{name_law, seam_law, split_law};
 pub use words::{is_identifier, is_reserved};
-
-#[cfg(test)]
-mod tests;

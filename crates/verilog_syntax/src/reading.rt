@@ -6,6 +6,7 @@ ghost use Rattle.base_types.specs.declared.fault.ReadFault.TheVariants.{Fault as
 ghost use Rattle.base_types.specs.declared.kind.Kind.TheVariants.{VerilogSyntax};
 ghost use Rattle.verilog_syntax.specs.declared.statement.Statement.{Statement};
 ghost use Rattle.verilog_syntax.specs.Chunks.{is_closed, is_closed_behind, IsLast, one_of, with_front, read_behind};
+ghost use Rattle.verilog_syntax.specs.Module.{IsExactModule};
 ghost use Rattle.verilog_syntax.specs.Reading.{Answers, fault_at, line_of_tokens, placed_or, read_statement, read_header, read_others, read_end, read_module, read_statements};
 
 use crate::parser::{header_of, statement_of};
@@ -198,17 +199,27 @@ fn fault_of(text: &[u8], line: u64, found: Fault) -> ReadFault
     }
 }
 
-/// The statements of a text, the header first, each with its line; or the first fault of its form: VerilogSyntax at the
-/// first statement that matches no form, or SecondModule. A module that isn't closed is VerilogSyntax at its first token,
-/// whatever its statements are.
-pub fn read_statements<'a>(alloc: Global, text: &'a [u8]) -> Result<Rows<Placed<'a>>, ReadFault>
+/// What a text is read as, whose first token stands on a line.
+fn read_text<'a>(alloc: Global, line: u64, text: &'a [u8]) -> Result<Rows<Placed<'a>>, ReadFault>
     requires size { length text.now < 2 ^ 32 }
+    requires first { line ≡ line_of_tokens text.now (tokens_of text.now (verilog_tokens text.now)) }
     ensures value { Answers result (read_statements text.now) }
 {
-    let line = first_line(text);
     match read_module(alloc, line, &mut Source::of(text)) {
         Ok(statements) => Ok(statements),
         Err(ReadFault::Fault(found)) => Err(fault_of(text, line, found)),
         Err(ReadFault::NoMemory) => Err(ReadFault::NoMemory),
     }
+}
+
+/// The statements of a text, the header first, each with its line; or the first fault of its form: VerilogSyntax at the
+/// first statement that matches no form, or SecondModule. A module that isn't closed is VerilogSyntax at its first token,
+/// whatever its statements are.
+pub fn read_statements<'a>(alloc: Global, text: &'a [u8]) -> Result<Rows<Placed<'a>>, ReadFault>
+    requires size { length text.now < 2 ^ 32 }
+    // Each statement is spelled so by its tokens, and by no others; a fault is at the first that no statement spells.
+    ensures exactly { IsExactModule text.now result }
+    ensures value { Answers result (read_statements text.now) }
+{
+    read_text(alloc, first_line(text), text)
 }

@@ -4,7 +4,8 @@ ghost use Rattle.std.specs.List.{list_all, prefix_len};
 ghost use Rattle.verilog_syntax.specs.VerilogTokens.{is_blank, is_digit, is_digit_of, is_word_start, is_word};
 ghost use Rattle.verilog_syntax.specs.VerilogSplit.{are_digits_of, is_based, is_escaped};
 ghost use Rattle.verilog_syntax.specs.Seams.{is_identifier};
-ghost use Rattle.verilog_syntax.specs.Words.{is_reserved, is_name, is_decimal, is_constant};
+ghost use Rattle.token_forms.specs.Classes.{is_among};
+ghost use Rattle.verilog_syntax.specs.Words.{kinds, no_operands, marks, is_reserved, is_name, is_decimal, is_constant, is_operand, begins_number};
 
 use crate::{is_blank, is_digit, is_digit_of, is_word, is_word_start};
 
@@ -127,4 +128,64 @@ pub(crate) fn is_constant(text: &[u8]) -> bool
         [first, rest @ ..] => is_digit(*first) && is_based(&rest[digit_len(rest)..]),
         [] => false,
     }
+}
+
+#[inline(always)]
+#[tactic(auto, unfolding(crate::specs::Words::is_operand))]
+pub(crate) fn is_operand(text: &[u8]) -> bool
+    ensures value { result ≡ is_operand text.now }
+{
+    is_name(text) || is_constant(text)
+}
+
+#[inline(always)]
+pub(crate) fn begins_number(text: &[u8]) -> bool
+    ensures value { result ≡ begins_number text.now }
+{
+    match text {
+        [first, ..] => is_digit(*first),
+        [] => false,
+    }
+}
+
+/// A word that begins a declaration.
+pub(crate) fn is_kind(text: &[u8]) -> bool
+    ensures value { result ≡ is_among kinds text.now }
+{
+    match text {
+        [b'i', ..] => text == b"input".as_slice() || text == b"inout".as_slice(),
+        [b'o', ..] => text == b"output".as_slice(),
+        [b's', ..] => text == b"supply0".as_slice() || text == b"supply1".as_slice(),
+        [b't', ..] => text == b"tri".as_slice(),
+        [b'w', ..] => text == b"wire".as_slice(),
+        _ => false,
+    }
+}
+
+#[inline(always)]
+pub(crate) fn is_mark(text: &[u8]) -> bool
+    ensures value { result ≡ is_among marks text.now }
+{
+    match text {
+        [b'(']
+        | [b')']
+        | [b'[']
+        | [b']']
+        | [b'{']
+        | [b'}']
+        | [b',']
+        | [b';']
+        | [b':']
+        | [b'.']
+        | [b'='] => true,
+        _ => false,
+    }
+}
+
+/// A mark or a word of the language, which is no name and no number.
+#[inline(always)]
+pub(crate) fn is_no_operand(text: &[u8]) -> bool
+    ensures value { result ≡ is_among no_operands text.now }
+{
+    is_mark(text) || is_reserved(text)
 }

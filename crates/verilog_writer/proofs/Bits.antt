@@ -11,7 +11,7 @@ use Rattle.verilog_syntax.specs.Seams.{is_identifier, is_escapable, is_decimal, 
 use Rattle.verilog_syntax.proofs.NameTokens.{plain_law, plain_bit_law, escaped_law, escaped_bit_law}
 use Rattle.verilog_syntax.specs.Words.{is_name, is_reserved}
 use Rattle.verilog_syntax.specs.Words as words
-use Rattle.verilog_syntax.specs.Grammar.{IsName, IsDecimal, item_texts, IsOperand}
+use Rattle.verilog_syntax.specs.StatementParts.{IsName, IsDecimal, item_texts, IsOperand}
 use Rattle.verilog_names.specs.Values.{decimal_value}
 use Rattle.verilog_names.proofs.Indexes.{with_digit}
 use Rattle.verilog_writer.specs.VerilogText.{NetBit, indexed_text, indexed_item, net_text, net_item, IsIndex, IsNetBit}

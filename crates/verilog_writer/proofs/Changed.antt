@@ -11,7 +11,7 @@ use Rattle.verilog_syntax.specs.declared.statement.Connection.{Connection}
 use Rattle.verilog_syntax.specs.declared.statement.Statement.{Statement}
 use Rattle.verilog_syntax.specs.declared.statement.Statement.TheVariants as statements
 use Rattle.verilog_syntax.specs.declared.reading.Placed.{Placed}
-use Rattle.verilog_syntax.specs.Grammar.{item_texts, expression_texts, texts_parts, name_parts, declared_text, range_parts, connection_parts, header_parts, statement_parts}
+use Rattle.verilog_syntax.specs.StatementParts.{item_texts, expression_texts, texts_parts, name_parts, declared_text, range_parts, connection_parts, header_parts, statement_parts}
 use Rattle.verilog_syntax.specs.Laws.{module_parts}
 use Rattle.verilog_writer.specs.VerilogText.{BitEdit, net_item, is_at, changed_items, changed_connection, changed_statement, changed_statements}
 

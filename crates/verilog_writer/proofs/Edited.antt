@@ -14,7 +14,7 @@ use Rattle.splice.proofs.Edited.{AreEdits}
 use Rattle.splice.proofs.Joined.{edits_join}
 use Rattle.splice.proofs.Law.{are_rising}
 use Rattle.verilog_syntax.specs.Laws.{tokens_in}
-use Rattle.verilog_syntax.specs.Grammar.{item_texts}
+use Rattle.verilog_syntax.specs.StatementParts.{item_texts}
 use Rattle.verilog_writer.specs.VerilogText.{BitEdit, net_item, text_edits, is_at, IsNetBit}
 use Rattle.verilog_writer.proofs.Bits.{bit_item}
 use Rattle.verilog_writer.proofs.Changed.{new_texts, changed_parts, changed_none}

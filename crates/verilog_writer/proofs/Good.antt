@@ -7,7 +7,7 @@ use Rattle.verilog_syntax.specs.declared.statement.Connection.{Connection}
 use Rattle.verilog_syntax.specs.declared.statement.Statement.{Statement}
 use Rattle.verilog_syntax.specs.declared.statement.Statement.TheVariants as statements
 use Rattle.verilog_syntax.specs.declared.reading.Placed.{Placed}
-use Rattle.verilog_syntax.specs.Grammar.{Operand, IsExpression, IsAnyExpression, IsGoodConnection, IsGoodStatement, is_header}
+use Rattle.verilog_syntax.specs.StatementParts.{Operand, IsExpression, IsAnyExpression, IsGoodConnection, IsGoodStatement, is_header}
 use Rattle.verilog_syntax.specs.Laws.{AreInOrder, AreGood}
 use Rattle.verilog_writer.specs.VerilogText.{NetBit, BitEdit, net_item, is_at, changed_items, changed_connection, changed_statement, changed_statements, IsNetBit}
 use Rattle.verilog_writer.proofs.Bits.{bit_item}

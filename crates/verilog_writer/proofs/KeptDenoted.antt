@@ -1,4 +1,4 @@
--- The written text denotes a netlist that is by names the one with edits.
+-- The written text denotes a netlist that is by names the one with edits, and declares what the read one declares.
 use Rattle.std.proofs.Common.{◌≡◌, ℕ, suc, ◌+◌, ◌<◌, ◌^◌, true, false, List, [], ◌∷◌, ◌++◌, length, map, take, Option, Some, Ok, refl, sym, ap, ap₂, ◌∙◌, subst, arith}
 use Rattle.std.specs.Prelude.{IsPermutation}
 use Rattle.std.specs.List.{flat_map, slice_get}
@@ -12,7 +12,7 @@ use Rattle.netlist_core.specs.declared.netlist.Direction.{Direction}
 use Rattle.netlist_core.specs.declared.netlist.NetName.{NetName}
 use Rattle.netlist_core.specs.declared.netlist.Port.{Port}
 use Rattle.netlist_core.specs.declared.netlist.Netlist.{Netlist}
-use Rattle.netlist_core.specs.Netlists.{NamedBit, NamedPort, NamedInstance, NamedNetlist, named_port, named_instance, named_assign, named}
+use Rattle.netlist_core.specs.Netlists.{NamedPort, NamedInstance, named_port, named_instance, named_assign}
 use Rattle.cell_table.specs.Cells.{Cells}
 use Rattle.net_edit.specs.declared.edits.Edits.{Edits}
 use Rattle.net_edit.specs.Edited.{map_from, edited_instance, edited_assign, edited, AreEdits}
@@ -22,7 +22,7 @@ use Rattle.verilog_syntax.specs.Laws.{bare}
 use Rattle.verilog_syntax.specs.Reading.{read_statements}
 use Rattle.verilog_names.specs.declared.bounds.Bounds.{Bounds}
 use Rattle.verilog_names.specs.Declarations.{Declaration, declarations_in, declarations, bounds_in, mentions, undeclared_in}
-use Rattle.verilog_reader.specs.Denoted.{SeenPort, name_bits, directions_of, said_port, said_ports_of, said_ports, seen_port, first_declared, first_mentioned, entry_nets, declared_nets, said_nets, IsNetlistOf, DenotesNetlist}
+use Rattle.verilog_reader.specs.Denoted.{SeenPort, name_bits, directions_of, said_port, said_ports_of, said_ports, seen_port, first_declared, first_mentioned, entry_nets, declared_nets, said_nets, IsNetlistOf, DenotesNetlist, DeclareAlike}
 use Rattle.verilog_checks.specs.Faults.{check_number, check_twice, check_select, differ_in_width}
 use Rattle.verilog_names.specs.NameTables.{total}
 use Rattle.verilog_reader.specs.Numbering.{entries, numbered}
@@ -33,7 +33,7 @@ use Rattle.verilog_reader.proofs.NumberedLists.{length-nets}
 use Rattle.verilog_reader.proofs.Places.{named as has_entry, entries_are}
 use Rattle.verilog_reader.proofs.Distinct.{each_weaker}
 use Rattle.verilog_writer.specs.VerilogText.{BitEdit, text_edits, changed_statement, changed_statements, IsPlaceIn, IsNetBit, AreVerilogEdits}
-use Rattle.verilog_writer.specs.Written.{edit_texts, DenotesAlike}
+use Rattle.verilog_writer.specs.Written.{edit_texts, IsWrittenFrom, DenotesAlike}
 use Rattle.verilog_writer.proofs.WrittenLaw.{written_law}
 use Rattle.verilog_writer.proofs.Nets.{passed}
 use Rattle.verilog_writer.proofs.KeptLists.{Has, each_permuted}
@@ -218,14 +218,12 @@ module _ (text : List ℕ) (n : Netlist) (d : DenotesNetlist text n) (cells : Ce
         ∙ flat_changed (instances_named (declarations ps)) bits ps
         ∙ pins
 
-    same_named : named m ≡ named (edited n cells edits)
-    same_named =
-        ap₂ (λ (name : List ℕ) (nets : List (List ℕ)). let x : NamedNetlist = record { module_name = name; nets = nets; ports = map (named_port m.nets) m.ports; assigns = map (named_assign m.nets) m.assigns; instances = map (named_instance m.nets) m.instances } in x)
-        (is_of.module_name ∙ same_header ps qs are_alike ∙ sym d.is.module_name) same_nets
-        ∙ ap₂ (λ (ports : List NamedPort) (assigns : List (List (NamedBit × NamedBit))). let x : NamedNetlist = record { module_name = n.«module»; nets = take n.declared (plains n.nets); ports = ports; assigns = assigns; instances = map (named_instance m.nets) m.instances } in x)
-        same_ports_named same_assigns
-        ∙ ap (λ (instances : List NamedInstance). let x : NamedNetlist = record { module_name = n.«module»; nets = take n.declared (plains n.nets); ports = map (named_port n.nets) n.ports; assigns = map (named_assign n.nets) (map_from (edited_assign edits.ports) 0 n.assigns); instances = instances } in x)
-        same_instances_named
+    same_named : IsWrittenFrom m (edited n cells edits) []
+    same_named = record {
+      module_name = is_of.module_name ∙ same_header ps qs are_alike ∙ sym d.is.module_name;
+      nets = same_nets;
+      wired = record { ports = same_ports_named; assigns = same_assigns; instances = same_instances_named };
+    }
 
     -- and as few
     few_nets : length m.nets < 2 ^ 32
@@ -245,15 +243,29 @@ module _ (text : List ℕ) (n : Netlist) (d : DenotesNetlist text n) (cells : Ce
         let few = d.sound.few_instances in
         omega (arith, new, old, mapped, same_length, few)
 
-    read_denotes : DenotesAlike (spliced text all) (edited n cells edits)
+    read_denotes : DenotesAlike (spliced text all) (edited n cells edits) []
     read_denotes = record {
       netlist = m;
       is = record { statements = qs; reads = faultless (spliced text all) qs read number twice select; is = is_of; sound = is_netlist qs number twice select few_nets few_instances };
       same = same_named;
     }
 
-  pub written_denotes : DenotesAlike (spliced text all) (edited n cells edits)
+    -- the declarations stand as they were
+    read_declares : DeclareAlike text (spliced text all)
+    read_declares = record {
+      declared = declarations ps;
+      here = record { statements = ps; reads = d.reads; is = refl };
+      there = record { statements = qs; reads = faultless (spliced text all) qs read number twice select; is = declared_same };
+    }
+
+  pub written_denotes : DenotesAlike (spliced text all) (edited n cells edits) []
   written_denotes =
       let r = written_law text ps bits (passed text ps d.reads).read are_edits in
       let read : read_statements (spliced text all) ≡ Ok r.values = ap (λ (es : List Edit). read_statements (spliced text es)) (sym texts_are) ∙ r.is in
       read_denotes r.values read r.same
+
+  pub written_declares : DeclareAlike text (spliced text all)
+  written_declares =
+      let r = written_law text ps bits (passed text ps d.reads).read are_edits in
+      let read : read_statements (spliced text all) ≡ Ok r.values = ap (λ (es : List Edit). read_statements (spliced text es)) (sym texts_are) ∙ r.is in
+      read_declares r.values read r.same

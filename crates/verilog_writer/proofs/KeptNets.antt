@@ -15,7 +15,7 @@ use Rattle.netlist_core.specs.declared.netlist.NetName.{NetName}
 use Rattle.netlist_core.specs.declared.netlist.Netlist.{Netlist}
 use Rattle.netlist_core.specs.Netlists.{plain_of as net_plain}
 use Rattle.verilog_syntax.specs.declared.reading.Placed.{Placed}
-use Rattle.verilog_syntax.specs.Grammar.{item_texts}
+use Rattle.verilog_syntax.specs.StatementParts.{item_texts}
 use Rattle.verilog_names.specs.declared.bounds.Bounds.{Bounds}
 use Rattle.verilog_names.specs.Values.{plain_of, name_text, bit_name, decimal_value}
 use Rattle.verilog_names.specs.Declarations.{width, indexes, Declaration, declarations, is_named, first_of, is_declared, bounds_or_none, bounds_in, has, mentions, undeclared_in, selects}

@@ -11,7 +11,7 @@ use Rattle.verilog_syntax.specs.declared.statement.Connection.{Connection}
 use Rattle.verilog_syntax.specs.declared.statement.Statement.{Statement}
 use Rattle.verilog_syntax.specs.declared.statement.Statement.TheVariants as statements
 use Rattle.verilog_syntax.specs.declared.reading.Placed.{Placed}
-use Rattle.verilog_syntax.specs.Grammar.{expression_texts, texts_parts, name_parts, range_parts, connection_parts, header_parts, statement_parts}
+use Rattle.verilog_syntax.specs.StatementParts.{expression_texts, texts_parts, name_parts, range_parts, connection_parts, header_parts, statement_parts}
 use Rattle.verilog_syntax.specs.Laws.{module_parts}
 use Rattle.netlist_core.specs.declared.netlist.NetName.{NetName}
 use Rattle.netlist_core.specs.declared.netlist.Assign.{Assign}

@@ -10,7 +10,7 @@ use Rattle.verilog_syntax.specs.Seams.{is_identifier, is_escapable}
 use Rattle.verilog_syntax.proofs.NameTokens.{no_blank_start}
 use Rattle.netlist_core.specs.Netlists.{Named}
 use Rattle.verilog_syntax.specs.Words.{is_name}
-use Rattle.verilog_syntax.specs.Grammar.{IsName}
+use Rattle.verilog_syntax.specs.StatementParts.{IsName}
 use Rattle.verilog_names.specs.Values.{plain_of, name_text}
 use Rattle.verilog_names.specs.Declarations.{Declaration}
 use Rattle.verilog_reader.specs.Denoted.{item_bits}

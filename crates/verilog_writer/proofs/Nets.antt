@@ -15,7 +15,7 @@ use Rattle.verilog_syntax.specs.declared.statement.Connection.{Connection}
 use Rattle.verilog_syntax.specs.declared.statement.Statement.{Statement}
 use Rattle.verilog_syntax.specs.declared.statement.Statement.TheVariants as statements
 use Rattle.verilog_syntax.specs.declared.reading.Placed.{Placed}
-use Rattle.verilog_syntax.specs.Grammar.{IsName, IsExpression, IsAnyExpression, IsGoodConnection, IsGoodStatement}
+use Rattle.verilog_syntax.specs.StatementParts.{IsName, IsExpression, IsAnyExpression, IsGoodConnection, IsGoodStatement}
 use Rattle.verilog_syntax.specs.Reading.{result_and_then, read_statements}
 use Rattle.verilog_syntax.proofs.SpelledLaw.{spelled_law}
 use Rattle.verilog_syntax.proofs.Trees.{Begins, Behind, expression_begins}

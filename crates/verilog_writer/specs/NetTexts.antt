@@ -8,6 +8,7 @@ use Rattle.verilog_names.specs.Declarations.{Declaration, bounds_in}
 use Rattle.verilog_reader.specs.Denoted.{item_bits, DenotesNetlist}
 use Rattle.verilog_writer.specs.VerilogText.{NetBit, net_text, net_item, IsNetBit}
 
+-- the plain name of a net or of a bit of a vector
 abbrev pub indexed_name : List ℕ → Option ℕ → List ℕ
 indexed_name name None = name
 indexed_name name (Some index) = bit_name name index
@@ -27,6 +28,7 @@ pub record IsNetText (plain text : List ℕ) : Type 0 where
 abbrev pub NetsLaw : Type 0
 NetsLaw = (text : List ℕ) (n : Netlist) → DenotesNetlist text n → Each (λ net. IsNetText net.plain net.text) n.nets
 
+-- where there is no index, the name is no vector
 abbrev pub IsScalarWithout : List Declaration → List ℕ → Option ℕ → Type 0
 IsScalarWithout ds name None = bounds_in ds name ≡ None
 IsScalarWithout ds name (Some index) = Unit {0}

@@ -27,10 +27,12 @@ pub record BitEdit : Type 0 where
   pub span : Span
   pub bit : NetBit
 
+-- the text of a net or of a bit of a vector
 abbrev pub indexed_text : List ℕ → Option ℕ → List ℕ
 indexed_text name None = name_text name
 indexed_text name (Some index) = bit_text name index
 
+-- the item of a net or of a bit of a vector
 abbrev pub indexed_item : List ℕ → Option ℕ → Item
 indexed_item name None = items.Name (name_text name)
 indexed_item name (Some index) = items.Bit (name_text name) (decimal index)
@@ -43,9 +45,11 @@ net_text bit = indexed_text bit.name bit.index
 abbrev pub net_item : NetBit → Item
 net_item bit = indexed_item bit.name bit.index
 
+-- an edit by a net bit, as one by a text
 abbrev pub text_edit : BitEdit → Edit
 text_edit e = record { span = e.span; text = net_text e.bit }
 
+-- edits by net bits, as edits by texts
 abbrev pub text_edits : List BitEdit → List Edit
 text_edits edits = map text_edit edits
 
@@ -53,6 +57,7 @@ text_edits edits = map text_edit edits
 abbrev pub written_verilog : List ℕ → List BitEdit → List ℕ
 written_verilog text edits = spliced text (text_edits edits)
 
+-- the same place
 abbrev pub is_at : Span → Span → Bool
 is_at place other = place.start == other.start && place.end == other.end
 
@@ -61,9 +66,11 @@ abbrev pub changed_items : List BitEdit → Span → List Item → List Item
 changed_items [] place old = old
 changed_items (e ∷ edits) place old = if is_at e.span place then net_item e.bit ∷ [] else changed_items edits place old
 
+-- an expression with the edit at its place
 abbrev pub changed_expression : List BitEdit → Expression → Expression
 changed_expression edits x = record { items = changed_items edits x.span x.items; span = x.span }
 
+-- a connection with the edit at its expression
 abbrev pub changed_connection : List BitEdit → Connection → Connection
 changed_connection edits c = record { pin = c.pin; expression = changed_expression edits c.expression }
 
@@ -74,9 +81,11 @@ changed_statement edits (statements.Declare kind range names) = statements.Decla
 changed_statement edits (statements.Assign left right) = statements.Assign left (changed_expression edits right)
 changed_statement edits (statements.Instance cell name connections) = statements.Instance cell name (map (changed_connection edits) connections)
 
+-- a statement with the edits at its places, on its line
 abbrev pub changed_placed : List BitEdit → Placed → Placed
 changed_placed edits p = record { statement = changed_statement edits p.statement; line = p.line }
 
+-- statements with the edits at their places
 abbrev pub changed_statements : List BitEdit → List Placed → List Placed
 changed_statements edits ps = map (changed_placed edits) ps
 
@@ -87,6 +96,7 @@ places_in (statements.Declare kind range names) = []
 places_in (statements.Assign left right) = right.span ∷ []
 places_in (statements.Instance cell name connections) = map (λ (c : Connection). c.expression.span) connections
 
+-- the place is one of these
 abbrev pub IsOneOf : Span → List Span → Type 0
 IsOneOf place [] = ⊥
 IsOneOf place (s ∷ ss) = (place ≡ s) ⊎ IsOneOf place ss
@@ -96,6 +106,7 @@ abbrev pub IsPlaceIn : Span → List Placed → Type 0
 IsPlaceIn place [] = ⊥
 IsPlaceIn place (p ∷ ps) = IsOneOf place (places_in p.statement) ⊎ IsPlaceIn place ps
 
+-- the index fits 32 bits
 abbrev pub IsIndex : Option ℕ → Type 0
 IsIndex None = Unit {0}
 IsIndex (Some index) = index < 2 ^ 32

@@ -10,7 +10,4 @@ mod laws;
 mod netlist_text;
 
 pub use laws::{net_text_law, written_law};
-pub use netlist_text::verilog_text;
-
-#[cfg(test)]
-mod tests;
+pub use netlist_text::{assign_of, in_connection, verilog_text};

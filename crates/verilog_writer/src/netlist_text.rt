@@ -1,8 +1,8 @@
 //! The text of a netlist with edits.
-ghost use Rattle.std.specs.Prelude.{◌≡◌, ◌++◌, option_map, slice_get, IfOk, OnOk};
+ghost use Rattle.std.specs.Prelude.{◌≡◌, [], ◌++◌, option_map, slice_get, IfOk, OnOk};
 ghost use Rattle.netlist_core.specs.Netlists.{connection_at};
 ghost use Rattle.net_edit.specs.Edited.{in_connection, edited, AreEdits};
-ghost use Rattle.verilog_reader.specs.Denoted.{DenotesNetlist};
+ghost use Rattle.verilog_reader.specs.Denoted.{DenotesNetlist, DeclareAlike};
 ghost use Rattle.verilog_writer.specs.Written.{text_of, pin_text, port_text, edit_texts, IsWritten, DenotesAlike};
 
 use base_types::{Name, NoMemory, Text};
@@ -21,8 +21,8 @@ fn connection_at<'a>(pin: &Name, connections: &'a [Connection]) -> Option<&'a Co
         .find(|connection| connection.pin.bytes() == pin.bytes())
 }
 
-// The connection at the in pin of a scan path.
-pub(crate) fn in_connection<'a>(
+/// The connection at the in pin of a scan path.
+pub fn in_connection<'a>(
     netlist: &'a Netlist,
     table: &CellTable,
     instance: u32,
@@ -44,7 +44,8 @@ fn text_of(netlist: &Netlist, net: NetId) -> &[u8]
     }
 }
 
-pub(crate) fn assign_of(netlist: &Netlist, assign: u32) -> Option<&Assign>
+/// The assign of a number.
+pub fn assign_of(netlist: &Netlist, assign: u32) -> Option<&Assign>
     ensures value { option_map (λ assign. assign.now) result ≡ slice_get netlist.now.assigns assign }
 {
     netlist.assigns.as_slice().get(assign as usize)
@@ -85,7 +86,7 @@ fn put_port(
     Ok(())
 }
 
-// The edits of the text, in the order of those of the netlist.
+/// The edits of the text, in the order of those of the netlist.
 fn edit_texts(
     alloc: Global,
     netlist: &Netlist,
@@ -116,8 +117,9 @@ pub fn verilog_text(
     requires read { DenotesNetlist text.now netlist.now }
     requires edits { AreEdits netlist.now table.now edits.now }
     ensures value { IfOk result (IsWritten text.now netlist.now table.now edits.now) }
-    // It denotes the netlist with the edits.
-    ensures denoted { IfOk result (λ written. DenotesAlike written (edited netlist.now table.now edits.now)) }
+    // It denotes the netlist with the edits, and declares what the read text declares.
+    ensures denoted { IfOk result (λ written. DenotesAlike written (edited netlist.now table.now edits.now) []) }
+    ensures declared { IfOk result (DeclareAlike text.now) }
 {
     let mut all = edit_texts(alloc, netlist, table, edits)?;
     all.sort_unstable_by_key(|edit| edit.span.start);

@@ -1,5 +1,5 @@
 -- The links of a chain by their places, and their sums.
-use Rattle.std.proofs.Common.{◌≡◌, ℕ, ◌+◌, ◌-◌, ◌<◌, ◌≤◌, List, [], ◌∷◌, length, take, drop, get_or, Option, Some, slice_get, refl, sym, ap, ◌∙◌, arith, suc, zero, sum, set, inl, inr, subst, ℤ, pos, to_z, w64, ◌^◌}
+use Rattle.std.proofs.Common.{◌≡◌, ℕ, ◌+◌, ◌-◌, ◌<◌, ◌≤◌, List, [], ◌∷◌, length, take, drop, get_or, Option, Some, slice_get, refl, sym, ap, ◌∙◌, arith, suc, zero, sum, set, inl, inr, subst, ℤ, pos, to_z, w64, ◌^◌, ◌*◌}
 use Rattle.std.proofs.lemmas.List.Sums.{sum_by_more}
 use Rattle.std.proofs.lemmas.List.{take_all, drop_more, drop_all, get_or-set_same, get_or-set_other}
 use Rattle.std.proofs.lemmas.Option.{slice_get-get_or}
@@ -37,6 +37,13 @@ stored xs f i n l s e h k m = elim (cases_lt k (i + 1)) [
   | inl a ↦ get_or-set_other xs (i + 1) k (to_z w64 n) (pos 0) (λ q. omega arith) ∙ h k (omega arith)
   | inr b ↦ (let q : i + 1 ≡ k = omega arith in
       subst (λ (j : ℕ). get_or (set xs (i + 1) (to_z w64 n)) j (pos 0) ≡ pos (f j)) q (get_or-set_same xs (i + 1) (to_z w64 n) (pos 0) l ∙ to_z_pos w64 n s ∙ ap pos e))
+]
+
+-- one sum more is small
+pub smalls_more : (w : ChainEnds) (us : List ℕ) (i : ℕ) → forward_sum w us (i + 1) ≤ 2 ^ 43 * (i + 1) → ((k : ℕ) → k ≤ i → forward_sum w us k ≤ 2 ^ 43 * k) → (k : ℕ) → k ≤ i + 1 → forward_sum w us k ≤ 2 ^ 43 * k
+smalls_more w us i p h k m = elim (cases_lt k (i + 1)) [
+  | inl a ↦ h k (omega arith)
+  | inr b ↦ (let q : i + 1 ≡ k = omega arith in subst (λ (j : ℕ). forward_sum w us j ≤ 2 ^ 43 * j) q p)
 ]
 
 -- where one comes from after the unit at place i, and where one goes to at it

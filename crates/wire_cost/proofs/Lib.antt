@@ -1,3 +1,4 @@
 pub mod Walks
 pub mod FirstLinks
 pub mod Plans
+pub mod Places

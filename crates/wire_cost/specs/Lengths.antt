@@ -23,6 +23,7 @@ pub record ChainEnds : Type 0 where
   pub start : Option Point
   pub stop : Option Point
 
+-- what the length of the chain with this number hangs on
 abbrev pub chain_ends : Ends → ℕ → ChainEnds
 chain_ends e c = record {
   entry = e.entry;
@@ -36,6 +37,7 @@ abbrev pub links_from : ChainEnds → Option Point → List ℕ → List ℕ
 links_from w p [] = link_of p w.stop ∷ []
 links_from w p (u ∷ us) = link_of p (slice_get w.entry u) ∷ links_from w (slice_get w.exit u) us
 
+-- the links of a chain, from its start on
 abbrev pub links_of : ChainEnds → List ℕ → List ℕ
 links_of w us = links_from w w.start us
 
@@ -43,6 +45,7 @@ links_of w us = links_from w w.start us
 abbrev pub length_of : ChainEnds → List ℕ → ℕ
 length_of w us = sum (links_of w us)
 
+-- the length of the chain with this number over these units
 abbrev pub chain_length_of : Ends → ℕ → List ℕ → ℕ
 chain_length_of e c us = length_of (chain_ends e c) us
 
@@ -63,6 +66,7 @@ forward_sum w us k = sum (take k (links_of w us))
 abbrev pub exchanged : ChainEnds → ChainEnds
 exchanged w = record w { entry = w.exit; exit = w.entry }
 
+-- the sum of the first k links where each unit is run through from its exit to its entry
 abbrev pub backward_sum : ChainEnds → List ℕ → ℕ → ℕ
 backward_sum w us k = forward_sum (exchanged w) us k
 
@@ -81,10 +85,12 @@ pub record IsNear (p : Point) : Type 0 where
   pub x : unsigned_abs p.x ≤ 2 ^ 41
   pub y : unsigned_abs p.y ≤ 2 ^ 41
 
+-- the point is near, or there is none
 abbrev pub IsNearOrNowhere : Option Point → Type 0
 IsNearOrNowhere None = Unit {0}
 IsNearOrNowhere (Some p) = IsNear p
 
+-- each of the points is near
 abbrev pub AreNear : List Point → Type 0
 AreNear ps = (k : ℕ) (d : Point) → k < length ps → IsNear (slice_index_or ps k d)
 

@@ -8,13 +8,12 @@ mod ends;
 mod lengths;
 mod links;
 mod ranges;
+mod rows;
 mod sums;
 
 pub use ends::Ends;
 pub use lengths::{chain_length, plan_length, wire_of};
 pub use links::{entry_of, exit_of, link, point_after, point_before, wire};
 pub use ranges::{are_placed, are_within, is_chain_at};
+pub use rows::Rows;
 pub use sums::Sums;
-
-#[cfg(test)]
-mod tests;

@@ -1,19 +1,27 @@
-//! The sums of a chain's first links, as it is read and as it is turned round.
+//! The sums of a chain's first links, as it is read and as it is turned round, and the rows that lanes read.
 ghost use Rattle.std.specs.Prelude.{◌≡◌, ℕ, ℤ, pos, ◌+◌, ◌*◌, ◌^◌, ◌<◌, ◌≤◌, [], ◌∷◌, length, take, drop, slice_get, slice_index_or, IfOk};
 ghost use Rattle.wire_cost.specs.Lengths.{ArePlaced, AreNear, AreWithin, ChainEnds, IsChainAt, IsNearOrNowhere, backward_sum, chain_ends, forward_sum};
+ghost use Rattle.wire_cost.specs.Rows.{AreRowsOf};
 
 use crate::ends::Ends;
 use crate::links::wire;
+use crate::rows::{Rows, fill_gaps, fill_places, fill_turned, set_place};
 use base_types::{NoMemory, Point};
 use std::alloc::Global;
 use std::marker::Model;
 
-/// The sums of the first links of the chain last filled in, with room for further chains. Contracts see the room, as a
-/// number of units, and both lists of sums.
+/// The sums of the first links of the chain last filled in, and its rows, with room for further chains. Contracts see the
+/// room, as a number of units, both lists of sums and the rows.
 #[derive(Debug, Drop)]
 pub struct Sums {
     forward: Vec<i64>,
     backward: Vec<i64>,
+    entry_x: Vec<i64>,
+    entry_y: Vec<i64>,
+    exit_x: Vec<i64>,
+    exit_y: Vec<i64>,
+    turned: Vec<i64>,
+    gaps: Vec<i64>,
     links: usize,
 }
 
@@ -23,9 +31,26 @@ impl Model for Sums {
 
     ghost Value = { Filled };
 
-    ghost view = { λ s. record { room = length s.forward.items - 2; forward = take (s.links + 1) s.forward.items; backward = take (s.links + 1) s.backward.items } };
+    ghost view = { λ s. record {
+      room = length s.forward.items - 2;
+      forward = take (s.links + 1) s.forward.items;
+      backward = take (s.links + 1) s.backward.items;
+      rows = record {
+        entry_x = take s.links s.entry_x.items;
+        entry_y = take s.links s.entry_y.items;
+        exit_x = take s.links s.exit_x.items;
+        exit_y = take s.links s.exit_y.items;
+        turned = take (s.links - 1) s.turned.items;
+        gaps = take s.links s.gaps.items;
+      };
+    } };
 
-    ghost invariant = { λ s. (length s.backward.items ≡ length s.forward.items) × (s.links < length s.forward.items) × (2 ≤ length s.forward.items) };
+    ghost invariant = { λ s.
+        (length s.backward.items ≡ length s.forward.items)
+        × (length s.entry_x.items ≡ length s.forward.items) × (length s.entry_y.items ≡ length s.forward.items)
+        × (length s.exit_x.items ≡ length s.forward.items) × (length s.exit_y.items ≡ length s.forward.items)
+        × (length s.turned.items ≡ length s.forward.items) × (length s.gaps.items ≡ length s.forward.items)
+        × (s.links < length s.forward.items) × (2 ≤ length s.forward.items) };
 }
 
 impl Sums {
@@ -40,11 +65,17 @@ impl Sums {
         Ok(Sums {
             forward: vec![in alloc; 0; places]?,
             backward: vec![in alloc; 0; places]?,
+            entry_x: vec![in alloc; 0; places]?,
+            entry_y: vec![in alloc; 0; places]?,
+            exit_x: vec![in alloc; 0; places]?,
+            exit_y: vec![in alloc; 0; places]?,
+            turned: vec![in alloc; 0; places]?,
+            gaps: vec![in alloc; 0; places]?,
             links: 0,
         })
     }
 
-    /// Fills in the sums of a chain with these units; takes no memory.
+    /// Fills in the sums and the rows of a chain with these units; takes no memory.
     pub fn fill(&mut self, ends: &Ends, chain: u32, units: &[u32])
         requires placed { ArePlaced ends.now }
         requires chain { IsChainAt ends.now chain units.now }
@@ -53,6 +84,7 @@ impl Sums {
         ensures forward { (k : ℕ) → k ≤ length units.now + 1 → slice_index_or self.new.forward k (pos 0) ≡ pos (forward_sum (chain_ends ends.now chain) units.now k) }
         ensures backward_count { length self.new.backward ≡ length units.now + 2 }
         ensures backward { (k : ℕ) → k ≤ length units.now + 1 → slice_index_or self.new.backward k (pos 0) ≡ pos (backward_sum (chain_ends ends.now chain) units.now k) }
+        ensures rows { AreRowsOf (chain_ends ends.now chain) units.now self.new.rows }
         ensures room { self.new.room ≡ self.old.room }
     {
         let start = ends.start.as_slice()[chain as usize];
@@ -63,7 +95,20 @@ impl Sums {
         fill_row(row, entries, exits, start, stop, units);
         let row = self.backward.as_mut_slice();
         fill_row(row, exits, entries, start, stop, units);
-        self.links = units.len() + 1;
+        let n = units.len();
+        let xs = self.entry_x.as_mut_slice();
+        let ys = self.entry_y.as_mut_slice();
+        fill_places(xs, ys, entries, units, 0);
+        set_place(xs, ys, stop, n);
+        let xs = self.exit_x.as_mut_slice();
+        let ys = self.exit_y.as_mut_slice();
+        set_place(xs, ys, start, 0);
+        fill_places(xs, ys, exits, units, 1);
+        let forward = self.forward.as_slice();
+        fill_gaps(self.gaps.as_mut_slice(), forward, n);
+        let backward = self.backward.as_slice();
+        fill_turned(self.turned.as_mut_slice(), forward, backward, n);
+        self.links = n + 1;
     }
 
     /// The sum of the first k links of the chain last filled in.
@@ -81,9 +126,29 @@ impl Sums {
     {
         self.backward[k]
     }
+
+    /// The rows of the chain last filled in, which lanes read; takes no memory.
+    pub fn rows(&self) -> Rows<'_>
+        ensures entry_x { result.entry_x.now ≡ self.now.rows.entry_x }
+        ensures entry_y { result.entry_y.now ≡ self.now.rows.entry_y }
+        ensures exit_x { result.exit_x.now ≡ self.now.rows.exit_x }
+        ensures exit_y { result.exit_y.now ≡ self.now.rows.exit_y }
+        ensures turned { result.turned.now ≡ self.now.rows.turned }
+        ensures gaps { result.gaps.now ≡ self.now.rows.gaps }
+    {
+        let links = self.links;
+        Rows {
+            entry_x: &self.entry_x[..links],
+            entry_y: &self.entry_y[..links],
+            exit_x: &self.exit_x[..links],
+            exit_y: &self.exit_y[..links],
+            turned: &self.turned[..links.saturating_sub(1)],
+            gaps: &self.gaps[..links],
+        }
+    }
 }
 
-// Writes the sums of the first links of the chain from `start` over the units to `stop`.
+/// Writes the sums of the first links of the chain from `start` over the units to `stop`.
 fn fill_row(
     row: &mut [i64],
     entries: &[Point],
@@ -100,6 +165,8 @@ fn fill_row(
     requires leave { AreWithin units.now (length exits.now) }
     requires few { length units.now ≤ 65536 }
     requires room { length units.now + 2 ≤ length row.old }
+    ensures count { length row.new ≡ length row.old }
+    ensures small { let w : ChainEnds = record { entry = entries.now; exit = exits.now; start = start; stop = stop } in (k : ℕ) → k ≤ length units.now + 1 → forward_sum w units.now k ≤ 2 ^ 43 * k }
     ensures sums { let w : ChainEnds = record { entry = entries.now; exit = exits.now; start = start; stop = stop } in (k : ℕ) → k ≤ length units.now + 1 → slice_index_or row.new k (pos 0) ≡ pos (forward_sum w units.now k) }
 {
     row[0] = 0;

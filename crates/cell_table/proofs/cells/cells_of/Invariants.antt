@@ -1,5 +1,6 @@
 use Rattle.std.proofs.Common.{◌≡◌, ◌++◌}
 use Rattle.toml.specs.View.{members_view, table_view}
+use Rattle.cell_table.specs.Ascending.{HaveOutsInOrder}
 use Rattle.cell_table.specs.Cells.{cells_of}
 use Rattle.cell_table.proofs.CellLoop.{with_cells, Ascend, cell_names, entry_names}
 use Rattle.cell_table.proofs.Views.{cells_view}
@@ -11,4 +12,5 @@ invariant-loop-name l =
     × record {
       same : with_cells (cells_view l.cells.entries) (cells_of (members_view l.name-iterator)) ≡ cells_of (table_view l.table);
       ascend : Ascend (cell_names l.cells.entries ++ entry_names l.name-iterator);
+      order : HaveOutsInOrder (cells_view l.cells.entries);
     }

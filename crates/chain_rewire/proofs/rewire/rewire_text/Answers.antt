@@ -1,11 +1,12 @@
 use Rattle.std.proofs.Common.{refl, Err}
 use Rattle.std.proofs.lemmas.Result.{err_from_is_err_and}
+use Rattle.netlist_core.specs.declared.netlist.Netlist.{Netlist}
 use Rattle.verilog_reader.specs.Denoted.{DenotesNetlist}
 use Rattle.chain_trace.specs.declared.path.Path.{Path}
 use Rattle.chain_rewire.specs.Rewiring.{IsTraced}
 use Rattle.chain_rewire.specs.Faults.{IsRewireFault}
 use Rattle.chain_rewire.proofs.Reorderings.{is_reordered, ordered_names}
-use Rattle.chain_trace.proofs.FirstFaults.{fault_weaker}
+use Rattle.base_types.proofs.FirstFaults.{fault_weaker}
 use Rattle.chain_rewire.proofs.Firsts.{first_verilog, excluded}
 use Rattle.chain_rewire.specs.declared.rewire.Rewired.{Rewired}
 use Rattle.chain_rewire.proofs.NewPaths.{erased, has_path}
@@ -47,7 +48,7 @@ returns-clause-erased c =
     c.in_ok-table.ensures.value c.in_ok-new.ensures.value
     in
     erased c.args.text.now c.args.rewire.now c.in_ok-netlist.netlist c.in_ok-path.path traced c.in_ok-table.table c.in_ok-table.ensures.value c.in_ok-edits.edits c.in_ok-verilog.verilog c.in_ok-verilog.ensures.denoted
-    (c.in_ok-edits.ensures.erased c.in_ok-path.path c.in_ok-new.new refl refl reordered)
+    c.in_ok-verilog.ensures.declared (c.in_ok-edits.ensures.erased c.in_ok-path.path c.in_ok-new.new refl refl reordered)
 
 pub returns-clause-path : goal.returns-clause-path
 returns-clause-path c =
@@ -70,4 +71,4 @@ returns-clause-no_fault c =
 pub returns-in_err-netlist-clause-fault : goal.returns-in_err-netlist-clause-fault
 returns-in_err-netlist-clause-fault c =
     let p = err_from_is_err_and c.from_residual.result c.from_residual.ensures.1 in
-    rw (p.1, p.2) (first_verilog c.args.text.now c.args.rewire.now {X = Rewired} (Err c.in_err-netlist.field-0.0) c.in_err-netlist.ensures.refused)
+    rw (p.1, p.2) (first_verilog c.args.text.now c.args.rewire.now Rewired Netlist c.in_err-netlist.field-0.0 c.in_err-netlist.ensures.fault)

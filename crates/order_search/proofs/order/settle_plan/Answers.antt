@@ -9,7 +9,7 @@ use Rattle.chain_rules.specs.declared.plan.Plan.{Plan}
 use Rattle.wire_cost.specs.Lengths.{AreWithin, chain_length_of}
 use Rattle.order_search.specs.Steps.{IsPinnedLast}
 use Rattle.order_search.proofs.Legal.{AreTurned, chain_apart, chain_within, legal_turned, pinned_last_in}
-use Rattle.order_search.proofs.Settling.{in_chain, order_settled, plan_le, turned_more}
+use Rattle.order_search.proofs.Settling.{order_settled, plan_le, turned_more}
 use Rattle.order_search.proofs.order.settle_plan.Goals as goal
 
 pub settle_chain_counted-more-requires-clause-units : goal.settle_chain_counted-more-requires-clause-units

@@ -1,4 +1,4 @@
-use Rattle.std.proofs.Common.{◌≡◌, ℕ, ◌<◌, ◌≤◌, [], length}
+use Rattle.std.proofs.Common.{◌≡◌, ℕ, ◌<◌, ◌≤◌, length}
 use Rattle.chain_rules.specs.Legality.{chain_at}
 use Rattle.order_search.proofs.Settling.{IsTurnedUpTo}
 use Rattle.order_search.proofs.order.settle_plan.Given as goal

@@ -1,12 +1,15 @@
 use Rattle.std.proofs.Common.{◌≡◌, ℕ, ◌+◌, ◌<◌, ◌≤◌, drop, cond, false}
 use Rattle.std.specs.List.Sorted.{IsPermutation}
-use Rattle.wire_cost.specs.Lengths.{IsChainAt, chain_length_of}
+use Rattle.wire_cost.specs.Lengths.{IsChainAt, chain_ends, chain_length_of}
 use Rattle.order_search.specs.Runs.{IsRunSettled, IsSettledAt}
+use Rattle.order_search.specs.Sums.{IsFilledWith}
 use Rattle.order_search.proofs.reversals.settle_run.Given as goal
 
 abbrev pub invariant-passes : goal.invariant-passes
 invariant-passes l = record {
   chain : IsChainAt l.ends l.chain l.units;
+  filled : IsFilledWith (chain_ends l.ends l.chain) l.units l.sums;
+  room : l.sums.room ≡ l.fn.sums.room;
   permutation : IsPermutation l.fn.units l.units;
   tail : drop l.limit l.units ≡ drop l.limit l.fn.units;
   no_longer : chain_length_of l.ends l.chain l.units ≤ chain_length_of l.ends l.chain l.fn.units;
@@ -22,6 +25,8 @@ decreases-passes l = chain_length_of l.ends l.chain l.units + cond l.again 1 0
 abbrev pub invariant-places : goal.invariant-places
 invariant-places l = record {
   chain : IsChainAt l.ends l.chain l.units;
+  filled : IsFilledWith (chain_ends l.ends l.chain) l.units l.sums;
+  room : l.sums.room ≡ l.fn.sums.room;
   permutation : IsPermutation l.fn.units l.units;
   tail : drop l.limit l.units ≡ drop l.limit l.fn.units;
   progress : chain_length_of l.ends l.chain l.units + cond l.again 1 0 ≤ chain_length_of l.ends l.chain l.initial.units;
@@ -33,6 +38,8 @@ invariant-places l = record {
 abbrev pub invariant-gains : goal.invariant-gains
 invariant-gains l = record {
   chain : IsChainAt l.ends l.chain l.units;
+  filled : IsFilledWith (chain_ends l.ends l.chain) l.units l.sums;
+  room : l.sums.room ≡ l.fn.sums.room;
   permutation : IsPermutation l.fn.units l.units;
   tail : drop l.limit l.units ≡ drop l.limit l.fn.units;
   progress : chain_length_of l.ends l.chain l.units + cond l.again 1 0 ≤ chain_length_of l.ends l.chain l.initial.units + cond l.initial.again 1 0;

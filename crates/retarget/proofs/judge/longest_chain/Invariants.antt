@@ -1,6 +1,8 @@
-use Rattle.std.proofs.Common.{◌≡◌, max, drop}
-use Rattle.retarget.specs.Places.{longest_of}
+use Rattle.std.proofs.Common.{◌≡◌, List, max, drop, length, map}
+use Rattle.stil_reader.specs.Calls.{most_bits}
+use Rattle.stil_tester.specs.declared.chains.ChainBits.{ChainBits}
+use Rattle.retarget.specs.Places.{longest}
 use Rattle.retarget.proofs.judge.longest_chain.Given as goal
 
 abbrev pub invariant-loop-chain : goal.invariant-loop-chain
-invariant-loop-chain l = max l.most (longest_of (drop l.chain-index l.chains.chains)) ≡ longest_of l.chains.chains
+invariant-loop-chain l = max l.most (most_bits (map (λ (chain : ChainBits). length chain.cells) (drop l.chain-index l.chains.chains))) ≡ longest l.chains

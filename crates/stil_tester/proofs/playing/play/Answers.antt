@@ -1,8 +1,8 @@
-use Rattle.std.proofs.Common.{◌≤◌, [], ◌∷◌, length, sym, subst, ◌∙◌, arith}
+use Rattle.std.proofs.Common.{[], ◌∷◌, sym, subst, ◌∙◌}
 use Rattle.std.specs.Prelude.{All}
 use Rattle.stil_reader.specs.declared.statement.PatternStatement.{PatternStatement}
 use Rattle.stil_tester.specs.Runs.{IsEventFor, all_events}
-use Rattle.stil_tester.proofs.Plays.{events_at, on_err_of, shows_more}
+use Rattle.stil_tester.proofs.Plays.{after_some, events_at, on_err_of, shows_more}
 use Rattle.stil_tester.proofs.playing.play.Goals as goal
 
 pub play_statement-requires-clause-statement : goal.play_statement-requires-clause-statement
@@ -13,9 +13,9 @@ play_statement-requires-clause-statement g c =
 
 pub returns-in_err-play_statement-clause-prefix : goal.returns-in_err-play_statement-clause-prefix
 returns-in_err-play_statement-clause-prefix g c =
-    let within : c.loop-statement.statement-index ≤ length c.args.statements.now = omega (arith, c.loop-statement-test.true) in
     on_err_of c.from_residual-in_err-play_statement.result _
-    (c.loop-statement.statement-index, within, c.in_err-play_statement.ensures.unchanged_device ∙ c.loop-statement.invariant.device, c.in_err-play_statement.ensures.unchanged_cells ∙ c.loop-statement.invariant.cells)
+    (after_some g.D.Device.behaviour c.args.chains.now c.args.statements.now c.loop-statement.statement-index c.args.device.now c.args.cells.now _ _
+    (c.in_err-play_statement.ensures.unchanged_device ∙ c.loop-statement.invariant.device) (c.in_err-play_statement.ensures.unchanged_cells ∙ c.loop-statement.invariant.cells))
 
 pub loop-statement-preserved : goal.loop-statement-preserved
 loop-statement-preserved g c =

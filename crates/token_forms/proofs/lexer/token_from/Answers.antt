@@ -1,6 +1,5 @@
-use Rattle.std.proofs.Common.{◌∙◌, sym, refl, [], arith}
+use Rattle.std.proofs.Common.{◌∙◌, sym, refl, []}
 use Rattle.token_forms.specs.declared.piece.Piece.TheVariants.{Blank, Token}
-use Rattle.token_forms.specs.Tokens.{IsSpanOf}
 use Rattle.token_forms.proofs.Cuts.{steps_over, ends}
 use Rattle.token_forms.proofs.lexer.token_from.Goals as goal
 

@@ -1,8 +1,6 @@
-use Rattle.std.proofs.Common.{◌≡◌, sym, ◌∙◌, ap, List, ℕ}
+use Rattle.std.proofs.Common.{◌∙◌}
 use Rattle.std.proofs.lemmas.List.Elements.{All-push}
-use Rattle.token_forms.specs.Tokens.{IsSpanOf, token_of, tokens_of}
-use Rattle.token_forms.specs.declared.source.Step.{Step}
-use Rattle.token_forms.specs.declared.source.Step.TheVariants.{GoesOn}
+use Rattle.token_forms.specs.Tokens.{IsSpanOf, tokens_of}
 use Rattle.token_forms.proofs.ChunkTakes.{goes_on}
 use Rattle.token_forms.proofs.source.take_statement.Goals as goal
 

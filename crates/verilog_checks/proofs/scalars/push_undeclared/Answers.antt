@@ -2,7 +2,7 @@ use Rattle.std.proofs.Common.{◌+◌, List, ℕ, Bor, Vec, Global, take, get_or
 use Rattle.std.specs.List.{filter}
 use Rattle.verilog_syntax.specs.declared.statement.Item.{Item}
 use Rattle.verilog_names.specs.Declarations.{mentions_of, undeclared_in}
-use Rattle.verilog_checks.specs.Seen.{is_closed}
+use Rattle.verilog_checks.specs.Seen.{is_bracketed}
 use Rattle.verilog_checks.proofs.NameLists.{now_of}
 use Rattle.verilog_checks.proofs.Undeclared.{undeclared_items, items_more, put_one, put_none}
 use Rattle.verilog_checks.proofs.scalars.push_undeclared.Goals.{in-Some+in_ok-push, in_default}
@@ -13,8 +13,8 @@ loop-item-preserved c = λ ds keeps.
     let xs = c.args.items.now in
     let i = c.loop-item.item-index in
     let d = c.item-item.result in
-    let here = filter is_closed (undeclared_in ds (mentions_of (get_or xs i d))) in
-    let same = sym (ap (λ (x : Item). filter is_closed (undeclared_in ds (mentions_of x))) c.item-item.is) in
+    let here = filter is_bracketed (undeclared_in ds (mentions_of (get_or xs i d))) in
+    let same = sym (ap (λ (x : Item). filter is_bracketed (undeclared_in ds (mentions_of x))) c.item-item.is) in
     let more = items_more ds xs i d c.loop-item-test.true in
     let front = now_of c.args.names.now.items in
     let so = undeclared_items ds (take i xs) in

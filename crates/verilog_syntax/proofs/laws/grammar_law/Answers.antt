@@ -1,6 +1,13 @@
 use Rattle.verilog_syntax.proofs.SpelledLaw.{spelled_law}
 use Rattle.verilog_syntax.proofs.ReadLaw.{read_law, no_statement_law, no_header_law}
+use Rattle.verilog_syntax.proofs.Modules.{module_law, form_fault_law}
 use Rattle.verilog_syntax.proofs.laws.grammar_law.Goals as goal
+
+pub returns-clause-module : goal.returns-clause-module
+returns-clause-module c = module_law
+
+pub returns-clause-form_fault : goal.returns-clause-form_fault
+returns-clause-form_fault c = form_fault_law
 
 pub returns-clause-spelled : goal.returns-clause-spelled
 returns-clause-spelled c = spelled_law

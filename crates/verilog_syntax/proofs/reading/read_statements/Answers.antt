@@ -1,9 +1,5 @@
-use Rattle.token_forms.specs.Tokens.{tokens_of}
-use Rattle.verilog_syntax.specs.VerilogTokens.{verilog_tokens}
-use Rattle.verilog_syntax.proofs.ChunkReads.{fault_found}
+use Rattle.verilog_syntax.proofs.Modules.{exact_module}
 use Rattle.verilog_syntax.proofs.reading.read_statements.Goals as goal
 
-pub returns-in-Err-Fault : goal.returns-in-Err-Fault
-returns-in-Err-Fault c =
-    let text = c.args.text.now in
-    record { value = rw c.fault_of.ensures.value (fault_found text c.first_line-line.result (tokens_of text (verilog_tokens text)) c.in-Err-Fault.found c.first_line-line.ensures.value (rw (c.in-Err-Fault.field-0-is, c.of.ensures.value) at c.in-Err-Fault.ensures.value)) }
+pub returns-clause-exactly : goal.returns-clause-exactly
+returns-clause-exactly c = exact_module c.args.text.now c.read_text.result c.read_text.ensures.value

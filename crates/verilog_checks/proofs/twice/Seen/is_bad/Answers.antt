@@ -2,7 +2,7 @@ use Rattle.std.proofs.Common.{◌++◌, Bor, List, ℕ, ap, ◌∙◌}
 use Rattle.std.specs.List.{filter}
 use Rattle.verilog_names.specs.Declarations.{declarations, has}
 use Rattle.verilog_checks.specs.Faults.{are_bits, instance_names, scalars}
-use Rattle.verilog_checks.specs.Seen.{is_closed}
+use Rattle.verilog_checks.specs.Seen.{is_bracketed}
 use Rattle.verilog_checks.proofs.NameLists.{now_of}
 use Rattle.verilog_checks.proofs.SeenMore.{tells}
 use Rattle.verilog_checks.proofs.twice.Seen.is_bad.Goals as goal
@@ -20,6 +20,6 @@ returns c = record {
         adds = c.in_ok-stands.ensures.value (declarations before) so seen.known;
         named_again = again.0;
         instances = again.1;
-        nets = λ q. c.in_ok-add_names.ensures.value (filter is_closed so) seen.known.are_nets q ∙ ap (λ (l : List (Bor (List ℕ))). has (filter is_closed so ++ now_of l) q.now) c.as_slice-2.ensures.value;
+        nets = λ q. c.in_ok-add_names.ensures.value (filter is_bracketed so) seen.known.are_nets q ∙ ap (λ (l : List (Bor (List ℕ))). has (filter is_bracketed so ++ now_of l) q.now) c.as_slice-2.ensures.value;
       });
 }

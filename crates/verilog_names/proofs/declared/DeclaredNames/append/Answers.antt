@@ -25,4 +25,5 @@ returns c =
       ok = rw (← c.self.view_is) (absent c.self.inside.slots.entries c.insert.new.self.entries c.args.name s new none);
       found = appended c.self.inside.slots.entries c.insert.new.self.entries c.args.name s new (no_place (firsts_in c.self.inside.slots.entries) c.args.name.now none) c.self.invariant.1;
       few = omega (arith, all.1, all.2);
+      unchanged = tt;
     }

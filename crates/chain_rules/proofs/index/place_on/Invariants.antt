@@ -1,6 +1,0 @@
-use Rattle.std.proofs.Common.{ℕ, ◌<◌}
-use Rattle.chain_rules.specs.Stretches.{step_at, IsOf}
-use Rattle.chain_rules.proofs.index.place_on.Given as goal
-
-abbrev pub invariant-loop-place : goal.invariant-loop-place
-invariant-loop-place l = (k : ℕ) → k < l.place → ¬ IsOf (step_at l.path k) l.instance l.scan

@@ -1,0 +1,7 @@
+use Rattle.design_maker.specs.MadeStil.{later_call}
+use Rattle.design_maker.proofs.PieceLaws.{three_parts}
+use Rattle.design_maker.proofs.stil.LaterCallsPiece.push.Goals as goal
+
+pub returns : goal.returns
+unfolding later_call
+returns c = record { value = three_parts _ _ _ _ _ _ _ c.in_ok-push_text.ensures.value c.in_ok-push_pieces.ensures.value c.in_ok-push_text-2.ensures.value }

@@ -1,0 +1,328 @@
+//! The search itself: steps while they gain, then small perturbations that are repaired and kept or undone.
+//!
+//! All of it counts down one number, the work: eight for each link that is tried and each perturbation, one for each pair of
+//! runs. So it ends, and takes the same steps on every machine.
+use crate::near::{KEPT, NONE, Side, near_units};
+use crate::queue::Queue;
+use crate::random::Random;
+use base_types::NoMemory;
+use chain_tours::{Change, Link, Reach, Run, Step, Tours, at, count, item, put};
+use std::alloc::Global;
+
+// The work for a link.
+const LINK: u64 = 8;
+
+// The most steps that one perturbation and its repair take.
+const STEPS: u32 = 1024;
+
+// The longest run that a perturbation exchanges with the next.
+const SHAKEN: u32 = 25;
+
+/// A search over some chains.
+#[derive(Drop)]
+pub(crate) struct Climb {
+    pub tours: Tours,
+    near_out: Vec<u32>,
+    near_into: Vec<u32>,
+    queue: Queue,
+    // The steps since the last perturbation, and how many there are.
+    log: Vec<Step>,
+    logged: u32,
+    work: u64,
+    random: Random,
+}
+
+impl Climb {
+    /// A search over chains, with all the room that it needs.
+    pub fn new(alloc: Global, tours: Tours) -> Result<Climb, NoMemory> {
+        let nodes = count(tours.nodes.as_slice());
+        let near_out = near_units(alloc, &tours, Side::Out)?;
+        let near_into = near_units(alloc, &tours, Side::Into)?;
+        let queue = Queue::new(alloc, nodes)?;
+        let log = vec![in alloc; Step::Stay; STEPS as usize]?;
+        Ok(Climb {
+            tours,
+            near_out,
+            near_into,
+            queue,
+            log,
+            logged: 0,
+            work: 0,
+            random: Random::new(),
+        })
+    }
+
+    fn spend(&mut self, work: u64) {
+        self.work = self.work.saturating_sub(work);
+    }
+
+    // Finds the best step that makes a link.
+    fn try_link(&mut self, link: &Link, reach: Reach, best: &mut Change) {
+        self.spend(LINK);
+        if link.stands() {
+            return;
+        }
+        let tours = &self.tours;
+        let within = link.is_within_chain();
+        if within {
+            tours.try_reversals(link, reach, best);
+        }
+        tours.try_runs_from_q(link, best);
+        tours.try_turned_runs_to_q(link, best);
+        tours.try_runs_to_p(link, best);
+        tours.try_turned_runs_from_p(link, best);
+        if !within {
+            tours.try_rests(link, best);
+            let behind = tours.try_runs_behind(link, reach, best);
+            let before = tours.try_runs_before(link, reach, best);
+            self.spend(behind.wrapping_add(before));
+        }
+    }
+
+    // The first gain among the links from a node.
+    fn gain_out(&mut self, node: u32, reach: Reach) -> Change {
+        let mut best = Change::NONE;
+        if self.tours.is_stop(node) {
+            return best;
+        }
+        let now = self.tours.way(node, self.tours.next(node));
+        for k in 0..KEPT {
+            let other = item(
+                self.near_out.as_slice(),
+                node.wrapping_mul(KEPT).wrapping_add(k),
+                NONE,
+            );
+            let made = self.tours.way(node, other);
+            if other == NONE || made >= now {
+                return best;
+            }
+            let link = Link::of(&self.tours, node, other, made);
+            self.try_link(&link, reach, &mut best);
+            if best.longer < 0 {
+                return best;
+            }
+        }
+        best
+    }
+
+    // The first gain among the links to a node.
+    fn gain_into(&mut self, node: u32, reach: Reach) -> Change {
+        let mut best = Change::NONE;
+        if self.tours.is_start(node) {
+            return best;
+        }
+        let now = self.tours.way(self.tours.previous(node), node);
+        for k in 0..KEPT {
+            let other = item(
+                self.near_into.as_slice(),
+                node.wrapping_mul(KEPT).wrapping_add(k),
+                NONE,
+            );
+            let made = self.tours.way(other, node);
+            if other == NONE || made >= now {
+                return best;
+            }
+            let link = Link::of(&self.tours, other, node, made);
+            self.try_link(&link, reach, &mut best);
+            if best.longer < 0 {
+                return best;
+            }
+        }
+        best
+    }
+
+    // Puts the nodes on both sides of a run's two ends into the queue.
+    fn wake(&mut self, chain: u32, from: u32, nodes: u32) {
+        let first = self.tours.first(chain).wrapping_add(from);
+        let end = first.wrapping_add(nodes);
+        let beside = [first.wrapping_sub(1), first, end.wrapping_sub(1), end];
+        for place in beside {
+            let node = self.tours.node(place);
+            self.queue.push(node);
+        }
+    }
+
+    fn wake_all(&mut self, step: Step) {
+        match step {
+            Step::Stay => {}
+            Step::Reverse(run) => self.wake(run.chain, run.from, run.nodes),
+            Step::Rotate(run, first) => {
+                self.wake(run.chain, run.from, run.nodes);
+                self.wake(run.chain, run.from, run.nodes.wrapping_sub(first));
+            }
+            Step::Exchange(one, other) => {
+                self.wake(one.chain, one.from, other.nodes);
+                self.wake(other.chain, other.from, one.nodes);
+            }
+        }
+    }
+
+    // Takes a step and writes it down.
+    fn take(&mut self, step: Step) {
+        self.tours.take(step);
+        put(self.log.as_mut_slice(), self.logged, step);
+        self.logged = self.logged.wrapping_add(1);
+    }
+
+    // Takes back the steps written down.
+    fn take_back(&mut self) {
+        for k in 0..self.logged {
+            let place = self.logged.wrapping_sub(1).wrapping_sub(k);
+            let step = item(self.log.as_slice(), place, Step::Stay);
+            self.tours.take(step.undone());
+        }
+    }
+
+    // Takes the steps of a change and wakes the nodes at changed links.
+    fn change(&mut self, node: u32, change: Change) {
+        self.take(change.first);
+        self.wake_all(change.first);
+        if let Step::Reverse(run) = change.second {
+            self.take(Step::Reverse(run));
+            self.wake_all(change.second);
+        }
+        self.queue.push(node);
+    }
+
+    // Takes steps that gain until no node waits, and answers how much longer the chains became.
+    fn repair(&mut self, reach: Reach, is_logged: bool) -> i64 {
+        let mut longer = 0i64;
+        let steps = self.work;
+        for _ in 0..steps {
+            if self.work == 0 {
+                break;
+            }
+            let Some(node) = self.queue.pop() else {
+                break;
+            };
+            self.spend(1);
+            let mut change = self.gain_out(node, reach);
+            if change.longer >= 0 {
+                change = self.gain_into(node, reach);
+            }
+            if change.longer < 0 {
+                longer = longer.wrapping_add(change.longer);
+                self.change(node, change);
+                if !is_logged {
+                    self.logged = 0;
+                } else if self.logged.wrapping_add(2) > STEPS {
+                    break;
+                }
+            }
+        }
+        longer
+    }
+
+    // Exchanges two neighbouring runs at a random place; answers how much longer the chain became, if there was one.
+    fn shake(&mut self) -> Option<i64> {
+        let unit = self.random.below(self.tours.units);
+        let chain = self.tours.chain(unit);
+        let tour = self.tours.tour(chain);
+        let units = tour.nodes.wrapping_sub(2);
+        if units < 3 {
+            return None;
+        }
+        let most = SHAKEN.min(units / 2);
+        let one = self.random.below(most).wrapping_add(1);
+        let other = self.random.below(most).wrapping_add(1);
+        let both = one.wrapping_add(other);
+        let last = units.wrapping_add(1).wrapping_sub(both);
+        let from = self.tours.place(unit).wrapping_sub(tour.first).min(last);
+        let place = tour.first.wrapping_add(from);
+        let tours = &self.tours;
+        let x = tours.node(place.wrapping_sub(1));
+        let y = tours.node(place);
+        let z = tours.node(place.wrapping_add(one).wrapping_sub(1));
+        let v = tours.node(place.wrapping_add(one));
+        let w = tours.node(place.wrapping_add(both).wrapping_sub(1));
+        let s = tours.node(place.wrapping_add(both));
+        let made = tours
+            .way(x, v)
+            .wrapping_add(tours.way(w, y))
+            .wrapping_add(tours.way(z, s));
+        let lost = tours
+            .way(x, y)
+            .wrapping_add(tours.way(z, v))
+            .wrapping_add(tours.way(w, s));
+        let run = Run {
+            chain,
+            from,
+            nodes: both,
+        };
+        self.take(Step::Rotate(run, one));
+        self.wake_all(Step::Rotate(run, one));
+        Some(made.wrapping_sub(lost))
+    }
+
+    /// Takes steps that gain, from all nodes on.
+    pub fn settle(&mut self, reach: Reach, work: u64) {
+        self.work = work;
+        for node in 0..count(self.tours.nodes.as_slice()) {
+            self.queue.push(node);
+        }
+        self.repair(reach, false);
+        self.empty_queue();
+    }
+
+    fn empty_queue(&mut self) {
+        for _ in 0..count(self.tours.nodes.as_slice()) {
+            if self.queue.pop().is_none() {
+                break;
+            }
+        }
+    }
+
+    // How much longer a perturbation may leave the chains: less and less, and at random.
+    fn leave(&mut self, spacing: i64, work: u64) -> i64 {
+        let left = (self.work.wrapping_mul(1000) / work.max(1) & 0x3ff) as i64;
+        let most = spacing.wrapping_mul(left) / 1000;
+        let drawn = self.random.up_to(most);
+        drawn.wrapping_mul(self.random.up_to(1023)) / 1024
+    }
+
+    /// Perturbs, repairs and keeps or undoes until the work is used up. At first the chains may become longer by as much as
+    /// is said.
+    pub fn perturb(&mut self, reach: Reach, most: i64, work: u64) {
+        self.work = work;
+        for _ in 0..work {
+            if self.work == 0 {
+                break;
+            }
+            self.spend(LINK);
+            self.logged = 0;
+            let Some(more) = self.shake() else {
+                continue;
+            };
+            let longer = more.wrapping_add(self.repair(reach, true));
+            if longer > self.leave(most, work) {
+                self.take_back();
+                self.empty_queue();
+            }
+        }
+        self.empty_queue();
+    }
+
+    /// The mean way of a unit to its fourth nearest unit, or the mean link where that is less.
+    pub fn spacing(&self) -> i64 {
+        let nodes = i64::from(count(self.tours.nodes.as_slice())).max(1);
+        let link = self.tours.length() / nodes;
+        let mut ways = 0i64;
+        let mut found = 0i64;
+        for unit in 0..self.tours.units {
+            let other = item(
+                self.near_out.as_slice(),
+                unit.wrapping_mul(KEPT).wrapping_add(3),
+                NONE,
+            );
+            if other != NONE {
+                ways = ways.wrapping_add(self.tours.way(unit, other));
+                found = found.wrapping_add(1);
+            }
+        }
+        if found > 0 {
+            link.min(ways / found)
+        } else {
+            link
+        }
+    }
+}

@@ -1,0 +1,18 @@
+//! Tests of the Verilog crates: tokens, statements, netlists, faults, and a text that is written.
+//!
+//! Floor: tests, on verilog_syntax, verilog_reader, verilog_writer, text_scan, cell_table, netlist_core, chain_trace,
+//! net_edit, token_forms and base_types.
+#![tactic(auto)]
+
+#[cfg(test)]
+mod constants;
+#[cfg(test)]
+mod faults;
+#[cfg(test)]
+mod netlists;
+#[cfg(test)]
+mod statements;
+#[cfg(test)]
+mod tokens;
+#[cfg(test)]
+mod writing;
