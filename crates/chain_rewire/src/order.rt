@@ -14,7 +14,6 @@ use crate::names::Names;
 use crate::rewire::Rewire;
 use base_types::{Fault, Kind, Name, NoMemory, ReadFault, Rows};
 use chain_trace::{Path, Step};
-use net_edit::is_free;
 use netlist_core::Netlist;
 use std::alloc::Global;
 use std::collections::HashMap;
@@ -93,13 +92,15 @@ fn ordered_steps<'a>(
     Ok(Rows::of(ordered))
 }
 
-/// Refuses names other than those of the path's instances, and another last one where the path's output isn't free.
+/// Refuses names other than those of the path's instances, and another last one where the path's output isn't free, as it is said.
 fn check_names(
     alloc: Global,
     netlist: &Netlist,
     path: &Path,
+    output_free: bool,
     rewire: &Rewire,
 ) -> Result<(), ReadFault>
+    requires free { output_free ≡ is_free netlist.now path.now.output }
     ensures instances { IfOk result (λ _. AreInstances rewire.now.units (instance_names netlist.now path.now)) }
     ensures last { IfOk result (λ _. is_free netlist.now path.now.output ≡ false → last_name rewire.now.units ≡ last_name (instance_names netlist.now path.now)) }
     ensures fault { IfFault result (λ fault. (text : List ℕ) → IsTraced text rewire.now netlist.now path.now → IsRewireFault text rewire.now fault) }
@@ -109,25 +110,27 @@ fn check_names(
     if !units.are_instances(alloc, &names)? {
         return Err(ReadFault::Fault(Fault::of_words(Kind::NotPermutation)));
     }
-    if units.last() != names.last() && !is_free(netlist, path.output) {
+    if units.last() != names.last() && !output_free {
         return Err(ReadFault::Fault(Fault::of_words(Kind::PinnedLast)));
     }
     Ok(())
 }
 
-/// The path with its steps in the order of the words.
+/// The path with its steps in the order of the words, where it is said whether its output is free.
 pub(crate) fn ordered_path(
     alloc: Global,
     netlist: &Netlist,
     path: &Path,
+    output_free: bool,
     rewire: &Rewire,
 ) -> Result<Path, ReadFault>
+    requires free { output_free ≡ is_free netlist.now path.now.output }
     ensures value { IfOk result (λ new. new ≡ ordered netlist.now path.now rewire.now.units) }
     ensures instances { IfOk result (λ _. AreInstances rewire.now.units (instance_names netlist.now path.now)) }
     ensures last { IfOk result (λ _. is_free netlist.now path.now.output ≡ false → last_name rewire.now.units ≡ last_name (instance_names netlist.now path.now)) }
     ensures fault { IfFault result (λ fault. (text : List ℕ) → IsTraced text rewire.now netlist.now path.now → IsRewireFault text rewire.now fault) }
 {
-    check_names(alloc, netlist, path, rewire)?;
+    check_names(alloc, netlist, path, output_free, rewire)?;
     let steps = steps_by_name(alloc, netlist, path)?;
     Ok(Path {
         input: path.input,

@@ -10,7 +10,7 @@ use crate::order::ordered_path;
 use base_types::{Name, ReadFault, Rows, Text};
 use cell_table::CellTable;
 use chain_trace::names_law;
-use net_edit::edits_for;
+use net_edit::{Uses, edits_for};
 use std::alloc::Global;
 use verilog_reader::read_netlist;
 use verilog_writer::verilog_text;
@@ -65,7 +65,8 @@ pub fn rewire_text(alloc: Global, text: &[u8], rewire: &Rewire) -> Result<Rewire
     let netlist = read_netlist(alloc, text)?;
     let table = CellTable::one(alloc, &rewire.cell, &rewire.in_pin, &rewire.out_pin)?;
     let path = path_between(alloc, &netlist, &table, rewire)?;
-    let new = ordered_path(alloc, &netlist, &path, rewire)?;
+    let output_free = Uses::of(alloc, &netlist)?.is_free(path.output);
+    let new = ordered_path(alloc, &netlist, &path, output_free, rewire)?;
     let edits = edits_for(alloc, &netlist, &table, &[path], &[new])?;
     let verilog = verilog_text(alloc, text, &netlist, &table, &edits)?;
     let moved = edits.pins.as_slice().len() + edits.ports.as_slice().len();

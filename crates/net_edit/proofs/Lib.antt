@@ -1,4 +1,5 @@
 pub mod Copies
+pub mod Counting
 pub mod BlankSides
 pub mod EditKeys
 pub mod EditPlaces

@@ -1,5 +1,6 @@
 pub mod Erasure
 pub mod Free
+pub mod Uses
 pub mod Edits
 pub mod Edited
 pub mod Reordered

@@ -2,7 +2,7 @@
 //! and a written one are compared.
 //!
 //! Floor: paths, on cell_table, netlist_core, chain_trace and base_types.
-//! Contract: `edits_for` gives the edits that `specs/Edits.antt` says, `is_free` tells the ports of `specs/Free.antt`, and
+//! Contract: `edits_for` gives the edits that `specs/Edits.antt` says, `Uses` tells the free ports of `specs/Free.antt`, and
 //! `erased` gives the netlist that `specs/Erasure.antt` says, blank at the scan sinks.
 #![tactic(auto)]
 
@@ -15,9 +15,10 @@ mod instances;
 mod links;
 mod nets;
 mod sinks;
+mod uses;
 
 pub use between::edits_for;
 pub use edits::{Edits, PinEdit, PortEdit};
 pub use erasure::erased;
-pub use free::is_free;
 pub use sinks::{SinkPin, Sinks};
+pub use uses::Uses;

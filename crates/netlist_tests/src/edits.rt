@@ -2,12 +2,13 @@
 use base_types::{Name, Rows, Span};
 use cell_table::CellTable;
 use chain_trace::{Path, Step};
-use net_edit::{Edits, PinEdit, PortEdit, SinkPin, Sinks, edits_for, erased, is_free};
+use net_edit::{Edits, PinEdit, PortEdit, SinkPin, Sinks, Uses, edits_for, erased};
 use netlist_core::{
     Assign, Bit, Bits, Connection, Direction, Expr, Instance, NetId, NetName, Netlist, Port,
     is_netlist,
 };
-use std::alloc::Global;
+use std::alloc::{Alloc, Global};
+use std::process::Abort;
 use std::test::Fail;
 
 fn name(alloc: Global, text: &str) -> Result<Name, Fail> {
@@ -115,16 +116,26 @@ fn two_orders_of_a_chain_are_alike(rt: HostRuntime) -> Result<(), Fail> {
     Ok(())
 }
 
+fn is_free(
+    rt: &(impl Abort + Alloc<A = Global>),
+    netlist: Netlist,
+    port: u32,
+) -> Result<bool, Fail> {
+    assert!(rt; is_netlist(rt.alloc(), &netlist)?);
+    assert!(rt; (port as usize) < netlist.nets.as_slice().len());
+    Ok(Uses::of(rt.alloc(), &netlist)?.is_free(NetId(port)))
+}
+
 #[test]
 fn a_port_is_free_at_an_assign_of_its_own(rt: HostRuntime) -> Result<(), Fail> {
     let alloc = rt.alloc();
-    assert!(rt; is_free(&chain(alloc, 0, 1, 2)?, NetId(3)));
+    assert!(rt; is_free(&rt, chain(alloc, 0, 1, 2)?, 3)?);
     // Also a pin reads it.
-    assert!(rt; !is_free(&chain(alloc, 0, 3, 2)?, NetId(3)));
+    assert!(rt; !is_free(&rt, chain(alloc, 0, 3, 2)?, 3)?);
     // A pin drives it, and nothing else is there.
-    assert!(rt; !is_free(&chain(alloc, 0, 1, 1)?, NetId(2)));
+    assert!(rt; !is_free(&rt, chain(alloc, 0, 1, 1)?, 2)?);
     // It stands at no place.
-    assert!(rt; !is_free(&chain(alloc, 1, 1, 2)?, NetId(0)));
+    assert!(rt; !is_free(&rt, chain(alloc, 1, 1, 2)?, 0)?);
     Ok(())
 }
 

@@ -3,7 +3,8 @@
 //! Without an argument it takes a small chain and a small case of several chains and prints lengths, passes and steps alone;
 //! with a number of units it times the settling of one chain; with the name of a layout, a number of units, a number of chains
 //! and letters it times the search: e for units left beside their entry, t for tight bounds, b for units of several bits, o
-//! for some units of several bits that are left far away.
+//! for some units of several bits that are left far away. With the word `chains` and a number it times `units_of` of so many
+//! chains, each between a START and a STOP cell.
 //!
 //! Floor: benches, on plan_search, partition_moves, chain_rules, wire_cost, order_search and base_types.
 #![tactic(auto)]
@@ -11,10 +12,12 @@
 ghost use Rattle.std.specs.Prelude.{ℕ, ◌^◌, ◌<◌};
 
 mod cases;
+mod chains;
 mod searching;
 
 use base_types::{NoMemory, Point, Rows};
 use chain_rules::{ChainRule, Plan, Rules, Unit};
+use chains::run_chains;
 use order_search::{are_searchable, nearest_plan, settle_order_counted};
 use searching::{run_search, run_small_search};
 use std::alloc::{Alloc, Global};
@@ -172,6 +175,9 @@ fn run_words(
     };
     if let Ok(n) = first.as_str().parse::<u32>() {
         return run(rt, n.min(MANY), true);
+    }
+    if first.as_str() == "chains" {
+        return run_chains(rt, number(words.get(1), MANY / 4));
     }
     let letters = words.get(3).map_or("", |word| word.as_str());
     run_search(

@@ -6,10 +6,10 @@ pub returns-then-not-branch-clause-fault : goal.returns-then-not-branch-clause-f
 returns-then-not-branch-clause-fault c =
     not_permutation (Unit {0}) c.args.netlist.now c.args.rewire.now c.args.path.now _ _ c.in_ok-are_instances.field-0 _ c.in_ok-units.ensures.value c.in_ok-names.ensures.value c.in_ok-are_instances.ensures.value (search rules) c.of_words.ensures.value
 
-pub returns-then-not-is_free-clause-fault : goal.returns-then-not-is_free-clause-fault
-returns-then-not-is_free-clause-fault c =
-    pinned_last (Unit {0}) c.args.netlist.now c.args.rewire.now c.args.path.now _ _ c.in_ok-are_instances.field-0 _ _ c.is_free.result _ c.in_ok-units.ensures.value c.in_ok-names.ensures.value c.in_ok-are_instances.ensures.value (search rules)
-    c.last.ensures.value c.last-2.ensures.value (search rules) c.is_free.ensures.value (search rules) c.of_words-then-not-is_free.ensures.value
+pub returns-then-not-output_free-clause-fault : goal.returns-then-not-output_free-clause-fault
+returns-then-not-output_free-clause-fault c =
+    pinned_last (Unit {0}) c.args.netlist.now c.args.rewire.now c.args.path.now _ _ c.in_ok-are_instances.field-0 _ _ c.args.output_free _ c.in_ok-units.ensures.value c.in_ok-names.ensures.value c.in_ok-are_instances.ensures.value (search rules)
+    c.last.ensures.value c.last-2.ensures.value (search rules) c.requires.free (search rules) c.of_words-then-not-output_free.ensures.value
 
 pub returns-clause-instances : goal.returns-clause-instances
 returns-clause-instances c =
