@@ -9,7 +9,7 @@ use Rattle.std.proofs.lemmas.List.{get_or-map}
 use Rattle.stil_tester.specs.declared.chains.ChainBits.{ChainBits}
 use Rattle.stil_tester.specs.Shifting.{AreChains, bit_counts, cell_at, IsCallFor}
 use Rattle.stil_tester.proofs.Calls.{length-bit_counts}
-use Rattle.retarget.specs.Places.{parity_after, no_bits, chain_at, bits_at, longest}
+use Rattle.retarget.specs.Places.{parity_after, no_bits, chain_bits, bits_at, longest}
 use Rattle.stil_reader.specs.Calls.{compare_at, is_expectation}
 use Rattle.retarget.specs.Judging.{exit_of, IsShortLoad, IsLongCompare, IsAccepted, LoadsCells, ComparesCells}
 use Rattle.retarget.proofs.WholeCall.{loaded_is, passed_at, passed_from}
@@ -50,5 +50,5 @@ accepted_compares chains call good fits accepted some cells room =
       λ each. passed_from chains cells call good room fits (quiet_from chains call accepted.not_long)
           (λ cell c i k stands at l.
           let e : exit_of chains c i ≡ k = omega arith in
-          ap (λ m. meets (expect_of (compare_at call c m)) (flip_if (parity_after (chain_at chains c) i) (cell_at cells cell))) (sym e) ∙ each cell c i stands),
+          ap (λ m. meets (expect_of (compare_at call c m)) (flip_if (parity_after (chain_bits chains c) i) (cell_at cells cell))) (sym e) ∙ each cell c i stands),
     )

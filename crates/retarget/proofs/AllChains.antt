@@ -10,7 +10,7 @@ use Rattle.stil_tester.specs.declared.symbol.Symbol.TheVariants.{Unknown}
 use Rattle.stil_tester.specs.declared.chains.ChainBits.{ChainBits}
 use Rattle.stil_tester.specs.declared.chains.Chains.{Chains}
 use Rattle.stil_tester.specs.Shifting.{numbers_of, IsChain, AreChains, HasCells, cell_at, held_by, moved_on, all_moved_on, shift_step}
-use Rattle.retarget.specs.Places.{no_bits, chain_at, StandsAt}
+use Rattle.retarget.specs.Places.{no_bits, chain_bits, StandsAt}
 use Rattle.retarget.proofs.Numbers.{count_of, found, apart, with_symbols_at, with_symbols_other, length-with_symbols}
 
 -- where the bits of a chain begin among all of them
@@ -109,9 +109,9 @@ length-step chains inputs cells = length-with_symbols (numbers_of chains.chains)
 
 -- one shift of all chains moves each of them on
 pub held-step : (chains : Chains) (inputs cells : List Symbol) → AreChains chains → HasCells chains cells → length inputs ≡ length chains.chains → (c : ℕ) → c < length chains.chains
-    → held_by (chain_at chains c) (shift_step chains cells inputs).cells ≡ moved_on (chain_at chains c).parity (get_or inputs c Unknown) (held_by (chain_at chains c) cells)
+    → held_by (chain_bits chains c) (shift_step chains cells inputs).cells ≡ moved_on (chain_bits chains c).parity (get_or inputs c Unknown) (held_by (chain_bits chains c) cells)
 held-step chains inputs cells good room e c l =
-    let chain : ChainBits = chain_at chains c in
+    let chain : ChainBits = chain_bits chains c in
     let after : List Symbol = (shift_step chains cells inputs).cells in
     let fits : length chain.parity ≡ length chain.cells = (chain_is chains good c l).parities in
     let n : length (moved_on chain.parity (get_or inputs c Unknown) (held_by chain cells)) ≡ length chain.parity = length-moved_on chain.parity (get_or inputs c Unknown) (held_by chain cells) (length-held_by chain cells ∙ sym fits) in

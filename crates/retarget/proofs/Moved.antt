@@ -5,7 +5,7 @@ use Rattle.std.proofs.lemmas.Bool.{cases_lt, cases_eq, ne_eqb}
 use Rattle.std.proofs.lemmas.List.{get_or_append_left, get_or_push}
 use Rattle.stil_tester.specs.declared.chains.Chains.{Chains}
 use Rattle.retarget.specs.declared.side.Side.{Side}
-use Rattle.retarget.specs.Places.{differ, chain_at, bits_at}
+use Rattle.retarget.specs.Places.{differ, chain_bits, bits_at}
 use Rattle.lane_kernels.specs.Kernels.{flipped}
 use Rattle.retarget.specs.Retargeting.{flip_character_if}
 use Rattle.retarget.specs.Sides.{filler_of, parity_at, text_of, character_in, character_at, raw_at, HasParities, AreValues, IsFullString, IsMoved}
@@ -33,16 +33,16 @@ flip_character-twice false false ch = refl
 
 -- one string
 pub IsMoved-from : (side : Side) (old new : Chains) (shifts : ℕ) (strings : List (Option (List ℕ))) (n : ℕ) (values cells : List ℕ) (row : List Bool) (given : Bool) (string : Option (List ℕ))
-    → AreValues side old strings values → cells ≡ (chain_at new n).cells → HasParities row (bits_at new n) (parity_at side (chain_at new n)) → given ≡ is_some (get_or strings n None)
+    → AreValues side old strings values → cells ≡ (chain_bits new n).cells → HasParities row (bits_at new n) (parity_at side (chain_bits new n)) → given ≡ is_some (get_or strings n None)
     → IsFullString side values cells row shifts given string → IsMoved side old new shifts strings n string
 IsMoved-from side old new shifts strings n values cells row given string full e has g is = record {
   bits = λ cell c i j here there.
       ap (λ q. character_in side (text_of string) (length q) j) (sym e)
       ∙ is.bits j (omega (arith, ap length e, there.is_place))
       ∙ ap (λ p. flip_character_if p (get_or values (get_or cells j 0) 0)) (has.each j there.is_place)
-      ∙ ap (λ v. flip_character_if (parity_at side (chain_at new n) j) (get_or values v 0)) (ap (λ q. get_or q j 0) e ∙ there.is_there)
-      ∙ ap (flip_character_if (parity_at side (chain_at new n) j)) (full cell c i here)
-      ∙ flip_character-twice (parity_at side (chain_at old c) i) (parity_at side (chain_at new n) j) (character_at side old strings c i);
+      ∙ ap (λ v. flip_character_if (parity_at side (chain_bits new n) j) (get_or values v 0)) (ap (λ q. get_or q j 0) e ∙ there.is_there)
+      ∙ ap (flip_character_if (parity_at side (chain_bits new n) j)) (full cell c i here)
+      ∙ flip_character-twice (parity_at side (chain_bits old c) i) (parity_at side (chain_bits new n) j) (character_at side old strings c i);
   others = λ k l. is.others k (omega (arith, ap length e));
   stands = (
     λ some. ⊎_elim (λ (yes : IsTrue given). inl (sym g ∙ yes)) (λ (there : (k : ℕ) × (raw_at side string k ≢ filler_of side)). inr there) (is.stands.0 some),

@@ -11,7 +11,7 @@ use Rattle.stil_tester.specs.Shifting.{HasCells, IsCallFor, scan_call}
 use Rattle.retarget.specs.declared.route.Route.{Route}
 use Rattle.retarget.specs.declared.side.Side.TheVariants.{Load, Compare}
 use Rattle.stil_tester.proofs.Calls.{length-bit_counts, length-loads, length-compares}
-use Rattle.retarget.specs.Places.{differ, parity_to, parity_after, chain_at, bits_at, StandsAt, longest}
+use Rattle.retarget.specs.Places.{differ, parity_to, parity_after, chain_bits, bits_at, StandsAt, longest}
 use Rattle.retarget.specs.Judging.{load_character, load_at, exit_of, IsAccepted}
 use Rattle.lane_kernels.specs.Kernels.{flipped}
 use Rattle.retarget.specs.Retargeting.{flip_character_if, HaveSameCells, KeepsLoads, KeepsCompares, AreFull}
@@ -36,7 +36,7 @@ keeps_loads old new call written shifts moved = record {
   cells = λ cell c i d j here there.
       load_is (get_or written.loads d None) j
       ∙ (moved.each d there.is_chain).bits cell c i j here there
-      ∙ ap (flip_character_if (differ (parity_to (chain_at old c) i) (parity_to (chain_at new d) j))) (sym (load_is (get_or call.loads c None) i));
+      ∙ ap (flip_character_if (differ (parity_to (chain_bits old c) i) (parity_to (chain_bits new d) j))) (sym (load_is (get_or call.loads c None) i));
   others = λ d j l. (moved.each d l).others j;
 }
 
@@ -45,7 +45,7 @@ keeps_compares old new call written shifts moved = record {
   cells = λ cell c i d j here there.
       compare_is (get_or written.compares d None) (exit_of new d j)
       ∙ (moved.each d there.is_chain).bits cell c i j here there
-      ∙ ap (flip_character_if (differ (parity_after (chain_at old c) i) (parity_after (chain_at new d) j))) (sym (compare_is (get_or call.compares c None) (exit_of old c i)));
+      ∙ ap (flip_character_if (differ (parity_after (chain_bits old c) i) (parity_after (chain_bits new d) j))) (sym (compare_is (get_or call.compares c None) (exit_of old c i)));
   others = λ d k l. (moved.each d l).others k;
 }
 
@@ -130,7 +130,7 @@ record HasPlaces (old new : Chains) (d j : ℕ) : Type 0 where
 
 places_of : (old new : Chains) → HaveSameCells old new → (d j : ℕ) → d < length new.chains → j < bits_at new d → HasPlaces old new d j
 places_of old new same d j l m =
-    let v : ℕ = get_or (chain_at new d).cells j 0 in
+    let v : ℕ = get_or (chain_bits new d).cells j 0 in
     let there : StandsAt new v d j = record { is_chain = l; is_place = m; is_there = refl } in
     let here : (c : ℕ) × (i : ℕ) × StandsAt old v c i = standing old same.old_chains v (omega (arith, same.cells, cell_within new same.new_chains v d j there)) in
     record { cell = v; c = here.0; i = here.1; here = here.2; there = there }
@@ -140,7 +140,7 @@ written_loads_valid old new call written same each keeps d j l =
     ⊎_elim (λ (inside : j < bits_at new d).
     let at : HasPlaces old new d j = places_of old new same d j l inside in
     ap is_load_character (keeps.cells at.cell at.c at.i d j at.here at.there)
-    ∙ flips_within is_load_character load_flips (differ (parity_to (chain_at old at.c) at.i) (parity_to (chain_at new d) j)) (load_at call at.c at.i)
+    ∙ flips_within is_load_character load_flips (differ (parity_to (chain_bits old at.c) at.i) (parity_to (chain_bits new d) j)) (load_at call at.c at.i)
     (load_valid (get_or call.loads at.c None) (strings_at is_load_character call.loads each at.c) at.i))
     (λ (outside : bits_at new d ≤ j). ap is_load_character (keeps.others d j l outside))
     (cases_lt j (bits_at new d))
@@ -150,7 +150,7 @@ written_exit_valid : (old new : Chains) (call written : ScanCall) → HaveSameCe
 written_exit_valid old new call written same each keeps d j l m =
     let at : HasPlaces old new d j = places_of old new same d j l m in
     ap is_compare_character (keeps.cells at.cell at.c at.i d j at.here at.there)
-    ∙ flips_within is_compare_character compare_flips (differ (parity_after (chain_at old at.c) at.i) (parity_after (chain_at new d) j)) (compare_at call at.c (exit_of old at.c at.i))
+    ∙ flips_within is_compare_character compare_flips (differ (parity_after (chain_bits old at.c) at.i) (parity_after (chain_bits new d) j)) (compare_at call at.c (exit_of old at.c at.i))
     (compare_valid (get_or call.compares at.c None) (strings_at is_compare_character call.compares each at.c) (exit_of old at.c at.i))
 
 written_compares_valid : (old new : Chains) (call written : ScanCall) → HaveSameCells old new → All (IsStringOf is_compare_character) call.compares → KeepsCompares old new call written → (d k : ℕ) → d < length new.chains → is_compare_character (compare_at written d k) ≡ true

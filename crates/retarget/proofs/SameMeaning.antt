@@ -11,7 +11,7 @@ use Rattle.stil_tester.specs.declared.chains.ChainBits.{ChainBits}
 use Rattle.stil_tester.specs.declared.chains.Chains.{Chains}
 use Rattle.stil_tester.specs.Symbols.{flip, flip_if, meets, symbol_of, expect_of}
 use Rattle.stil_tester.specs.Shifting.{AreChains, HasCells, cell_at, IsCallFor, cells_before, met_before, scan_call}
-use Rattle.retarget.specs.Places.{differ, parity_to, parity_after, no_bits, chain_at, bits_at, StandsAt, longest}
+use Rattle.retarget.specs.Places.{differ, parity_to, parity_after, no_bits, chain_bits, bits_at, StandsAt, longest}
 use Rattle.stil_reader.specs.Calls.{compare_at, is_expectation, most_bits}
 use Rattle.retarget.specs.Judging.{load_at, exit_of}
 use Rattle.lane_kernels.specs.Kernels.{flipped}
@@ -127,8 +127,8 @@ same_loaded old new call written same fits fits' long long' keeps cells room =
     let here : (c : ℕ) × (i : ℕ) × StandsAt old v c i = standing old same.old_chains v inside in
     let there : (d : ℕ) × (j : ℕ) × StandsAt new v d j = standing new same.new_chains v (omega (arith, same.cells)) in
     loaded_is new cells written same.new_chains (omega (arith, same.cells)) fits' v there.0 there.1 there.2 (omega (arith, bits_within new there.0))
-    ∙ ap (λ ch. flip_if (parity_to (chain_at new there.0) there.1) (symbol_of ch)) (keeps.cells v here.0 here.1 there.0 there.1 here.2 there.2)
-    ∙ same_value (parity_to (chain_at old here.0) here.1) (parity_to (chain_at new there.0) there.1) (load_at call here.0 here.1)
+    ∙ ap (λ ch. flip_if (parity_to (chain_bits new there.0) there.1) (symbol_of ch)) (keeps.cells v here.0 here.1 there.0 there.1 here.2 there.2)
+    ∙ same_value (parity_to (chain_bits old here.0) here.1) (parity_to (chain_bits new there.0) there.1) (load_at call here.0 here.1)
     ∙ sym (loaded_is old cells call same.old_chains room fits v here.0 here.1 here.2 (omega (arith, bits_within old here.0))))
     (λ (outside : old.cells ≤ v).
     other_before new cells written same.new_chains v written.shifts Unknown (omega (arith, same.cells))
@@ -142,17 +142,17 @@ same_passed old new call written same fits fits' long long' quiet keeps cells ro
     (λ h. passed_from old cells call same.old_chains room fits quiet (λ cell c i k stands at l.
     let there : (d : ℕ) × (j : ℕ) × StandsAt new cell d j = standing new same.new_chains cell (omega (arith, same.cells, cell_within old same.old_chains cell c i stands)) in
     let e : exit_of old c i ≡ k = omega arith in
-    sym (same_comparison (parity_after (chain_at old c) i) (parity_after (chain_at new there.0) there.1) (compare_at call c k) (cell_at cells cell))
-    ∙ ap (λ m. meets (expect_of (flip_character_if (differ (parity_after (chain_at old c) i) (parity_after (chain_at new there.0) there.1)) (compare_at call c m))) (flip_if (parity_after (chain_at new there.0) there.1) (cell_at cells cell))) (sym e)
-    ∙ ap (λ ch. meets (expect_of ch) (flip_if (parity_after (chain_at new there.0) there.1) (cell_at cells cell))) (sym (keeps.cells cell c i there.0 there.1 stands there.2))
+    sym (same_comparison (parity_after (chain_bits old c) i) (parity_after (chain_bits new there.0) there.1) (compare_at call c k) (cell_at cells cell))
+    ∙ ap (λ m. meets (expect_of (flip_character_if (differ (parity_after (chain_bits old c) i) (parity_after (chain_bits new there.0) there.1)) (compare_at call c m))) (flip_if (parity_after (chain_bits new there.0) there.1) (cell_at cells cell))) (sym e)
+    ∙ ap (λ ch. meets (expect_of ch) (flip_if (parity_after (chain_bits new there.0) there.1) (cell_at cells cell))) (sym (keeps.cells cell c i there.0 there.1 stands there.2))
     ∙ passed_at new cells written same.new_chains (omega (arith, same.cells)) fits' cell there.0 there.1 (exit_of new there.0 there.1) there.2
     (omega (arith, there.2.is_place)) (omega (arith, there.2.is_place, bits_within new there.0)) h))
     (λ h. passed_from new cells written same.new_chains (omega (arith, same.cells)) fits' (λ d k l g. ap expect_of (keeps.others d k l g)) (λ cell d j k stands at l.
     let here : (c : ℕ) × (i : ℕ) × StandsAt old cell c i = standing old same.old_chains cell (omega (arith, same.cells, cell_within new same.new_chains cell d j stands)) in
     let e : exit_of new d j ≡ k = omega arith in
-    ap (λ m. meets (expect_of (compare_at written d m)) (flip_if (parity_after (chain_at new d) j) (cell_at cells cell))) (sym e)
-    ∙ ap (λ ch. meets (expect_of ch) (flip_if (parity_after (chain_at new d) j) (cell_at cells cell))) (keeps.cells cell here.0 here.1 d j here.2 stands)
-    ∙ same_comparison (parity_after (chain_at old here.0) here.1) (parity_after (chain_at new d) j) (compare_at call here.0 (exit_of old here.0 here.1)) (cell_at cells cell)
+    ap (λ m. meets (expect_of (compare_at written d m)) (flip_if (parity_after (chain_bits new d) j) (cell_at cells cell))) (sym e)
+    ∙ ap (λ ch. meets (expect_of ch) (flip_if (parity_after (chain_bits new d) j) (cell_at cells cell))) (keeps.cells cell here.0 here.1 d j here.2 stands)
+    ∙ same_comparison (parity_after (chain_bits old here.0) here.1) (parity_after (chain_bits new d) j) (compare_at call here.0 (exit_of old here.0 here.1)) (cell_at cells cell)
     ∙ passed_at old cells call same.old_chains room fits cell here.0 here.1 (exit_of old here.0 here.1) here.2
     (omega (arith, here.2.is_place)) (omega (arith, here.2.is_place, bits_within old here.0)) h))
 

@@ -14,7 +14,7 @@ use Rattle.stil_tester.specs.Symbols.{flip, flip_if, meets, symbol_of, expect_of
 use Rattle.stil_reader.specs.Calls.{string_length, longest_string, compare_character, compare_at}
 use Rattle.stil_tester.specs.Shifting.{AreChains, HasCells, cell_at, held_by, output_of, moved_on, IsCallFor, inputs_at, expects_at, cells_before, outputs_at, all_met, met_before, scan_call}
 use Rattle.stil_tester.proofs.Calls.{length-loads, length-compares}
-use Rattle.retarget.specs.Places.{differ, parity_of, parity_to, parity_after, no_bits, chain_at, bits_at, StandsAt}
+use Rattle.retarget.specs.Places.{differ, parity_of, parity_to, parity_after, no_bits, chain_bits, bits_at, StandsAt}
 use Rattle.retarget.specs.Judging.{load_character, load_at}
 use Rattle.retarget.proofs.OneChain.{flip-flip, moved_all, moved_all-push, loaded_bit, last_bit, parity_of-append}
 use Rattle.retarget.proofs.AllChains.{length-held_by, chain_is, length-step, held-step, other-step}
@@ -84,14 +84,14 @@ input_is chains call fits c k l = get_or-map (λ load. get_or (padded_load call.
 
 -- before shift k each chain holds what k shifts of it alone leave
 pub held_before : (chains : Chains) (cells : List Symbol) (call : ScanCall) → AreChains chains → HasCells chains cells → IsCallFor chains call → (c k : ℕ) → c < length chains.chains → k ≤ call.shifts
-    → held_by (chain_at chains c) (cells_before chains cells call k) ≡ moved_all (chain_at chains c).parity (take k (load_of call c)) (held_by (chain_at chains c) cells)
+    → held_by (chain_bits chains c) (cells_before chains cells call k) ≡ moved_all (chain_bits chains c).parity (take k (load_of call c)) (held_by (chain_bits chains c) cells)
 held_before chains cells call good room fits c zero l m = refl
 held_before chains cells call good room fits c (suc k) l m =
-    let ps : List Bool = (chain_at chains c).parity in
-    let held : List Symbol = held_by (chain_at chains c) cells in
+    let ps : List Bool = (chain_bits chains c).parity in
+    let held : List Symbol = held_by (chain_bits chains c) cells in
     held-step chains (inputs_at call k) (cells_before chains cells call k) good (omega (arith, length-cells_before chains cells call k))
     (length-map call.loads (λ load. get_or (padded_load call.shifts load) k Unknown) ∙ (length-loads chains call fits)) c l
-    ∙ ap (λ x. moved_on ps x (held_by (chain_at chains c) (cells_before chains cells call k))) (input_is chains call fits c k l)
+    ∙ ap (λ x. moved_on ps x (held_by (chain_bits chains c) (cells_before chains cells call k))) (input_is chains call fits c k l)
     ∙ ap (moved_on ps (get_or (load_of call c) k Unknown)) (held_before chains cells call good room fits c k l (omega arith))
     ∙ sym (moved_all-push ps (take k (load_of call c)) (get_or (load_of call c) k Unknown) held)
     ∙ ap (λ ss. moved_all ps ss held) (sym (take-suc (load_of call c) k Unknown (omega (arith, length-load_of chains call fits c))))
@@ -102,15 +102,15 @@ other_before chains cells call good v zero d g = refl
 other_before chains cells call good v (suc k) d g = other-step chains (inputs_at call k) (cells_before chains cells call k) good v d g ∙ other_before chains cells call good v k d g
 
 -- the cell at a place holds what the chain holds there
-pub cell_is : (chains : Chains) (cells : List Symbol) (cell c i : ℕ) → StandsAt chains cell c i → cell_at cells cell ≡ get_or (held_by (chain_at chains c) cells) i Unknown
+pub cell_is : (chains : Chains) (cells : List Symbol) (cell c i : ℕ) → StandsAt chains cell c i → cell_at cells cell ≡ get_or (held_by (chain_bits chains c) cells) i Unknown
 cell_is chains cells cell c i stands =
-    ap (cell_at cells) (sym stands.is_there) ∙ sym (get_or-map (cell_at cells) (chain_at chains c).cells i 0 Unknown stands.is_place)
+    ap (cell_at cells) (sym stands.is_there) ∙ sym (get_or-map (cell_at cells) (chain_bits chains c).cells i 0 Unknown stands.is_place)
 
 -- each cell takes its character, flipped by the parities from the scan input
 pub loaded_is : (chains : Chains) (cells : List Symbol) (call : ScanCall) → AreChains chains → HasCells chains cells → IsCallFor chains call → (cell c i : ℕ) → StandsAt chains cell c i → bits_at chains c ≤ call.shifts
-    → cell_at (scan_call chains cells call).loaded cell ≡ flip_if (parity_to (chain_at chains c) i) (symbol_of (load_at call c i))
+    → cell_at (scan_call chains cells call).loaded cell ≡ flip_if (parity_to (chain_bits chains c) i) (symbol_of (load_at call c i))
 loaded_is chains cells call good room fits cell c i stands long =
-    let chain : ChainBits = chain_at chains c in
+    let chain : ChainBits = chain_bits chains c in
     let same : length chain.parity ≡ length chain.cells = (chain_is chains good c stands.is_chain).parities in
     let n : length (load_of call c) ≡ call.shifts = length-load_of chains call fits c in
     cell_is chains (cells_before chains cells call call.shifts) cell c i stands
@@ -136,9 +136,9 @@ flips_between false false false x = refl
 
 -- what comes out in a shift below the chain's bits: the cell that many places before the last, as it was before the call
 pub output_is : (chains : Chains) (cells : List Symbol) (call : ScanCall) → AreChains chains → HasCells chains cells → IsCallFor chains call → (cell c i k : ℕ) → StandsAt chains cell c i → k + i + 1 ≡ bits_at chains c → k ≤ call.shifts
-    → get_or (outputs_at chains cells call k) c Unknown ≡ flip_if (parity_after (chain_at chains c) i) (cell_at cells cell)
+    → get_or (outputs_at chains cells call k) c Unknown ≡ flip_if (parity_after (chain_bits chains c) i) (cell_at cells cell)
 output_is chains cells call good room fits cell c i k stands at long =
-    let chain : ChainBits = chain_at chains c in
+    let chain : ChainBits = chain_bits chains c in
     let ps : List Bool = chain.parity in
     let held : List Symbol = held_by chain cells in
     let same : length ps ≡ length chain.cells = (chain_is chains good c stands.is_chain).parities in
@@ -190,7 +190,7 @@ expect_is chains call fits c k l =
 
 -- each comparison below a chain's bits holds a cell against its character, flipped by the parities to the scan output
 pub passed_at : (chains : Chains) (cells : List Symbol) (call : ScanCall) → AreChains chains → HasCells chains cells → IsCallFor chains call → (cell c i k : ℕ) → StandsAt chains cell c i → k + i + 1 ≡ bits_at chains c → k < call.shifts
-    → (scan_call chains cells call).passed ≡ true → meets (expect_of (compare_at call c k)) (flip_if (parity_after (chain_at chains c) i) (cell_at cells cell)) ≡ true
+    → (scan_call chains cells call).passed ≡ true → meets (expect_of (compare_at call c k)) (flip_if (parity_after (chain_bits chains c) i) (cell_at cells cell)) ≡ true
 passed_at chains cells call good room fits cell c i k stands at long h =
     sym (λ j. meets (expect_is chains call fits c k stands.is_chain j) (output_is chains cells call good room fits cell c i k stands at (omega arith) j))
     ∙ met_at (expects_at call k) (outputs_at chains cells call k) c (met_before_at chains cells call call.shifts k h long)
@@ -200,7 +200,7 @@ passed_at chains cells call good room fits cell c i k stands at long h =
 -- where nothing is expected beyond the chains' bits, the verdict is that of the cells
 pub passed_from : (chains : Chains) (cells : List Symbol) (call : ScanCall) → AreChains chains → HasCells chains cells → IsCallFor chains call
     → ((c k : ℕ) → c < length chains.chains → bits_at chains c ≤ k → expect_of (compare_at call c k) ≡ Any)
-    → ((cell c i k : ℕ) → StandsAt chains cell c i → k + i + 1 ≡ bits_at chains c → k < call.shifts → meets (expect_of (compare_at call c k)) (flip_if (parity_after (chain_at chains c) i) (cell_at cells cell)) ≡ true)
+    → ((cell c i k : ℕ) → StandsAt chains cell c i → k + i + 1 ≡ bits_at chains c → k < call.shifts → meets (expect_of (compare_at call c k)) (flip_if (parity_after (chain_bits chains c) i) (cell_at cells cell)) ≡ true)
     → (scan_call chains cells call).passed ≡ true
 passed_from chains cells call good room fits quiet each =
     met_before_from chains cells call call.shifts (λ k l.
@@ -209,9 +209,9 @@ passed_from chains cells call good room fits quiet each =
     ⊎_elim (λ (inside : k < bits_at chains c).
     let i : ℕ = bits_at chains c - 1 - k in
     let at : k + i + 1 ≡ bits_at chains c = omega arith in
-    let stands : StandsAt chains (get_or (chain_at chains c).cells i 0) c i = record { is_chain = n; is_place = omega arith; is_there = refl } in
-    (λ j. meets (expect_is chains call fits c k n j) (output_is chains cells call good room fits (get_or (chain_at chains c).cells i 0) c i k stands at (omega arith) j))
-    ∙ each (get_or (chain_at chains c).cells i 0) c i k stands at l)
+    let stands : StandsAt chains (get_or (chain_bits chains c).cells i 0) c i = record { is_chain = n; is_place = omega arith; is_there = refl } in
+    (λ j. meets (expect_is chains call fits c k n j) (output_is chains cells call good room fits (get_or (chain_bits chains c).cells i 0) c i k stands at (omega arith) j))
+    ∙ each (get_or (chain_bits chains c).cells i 0) c i k stands at l)
     (λ (outside : bits_at chains c ≤ k).
     ap (λ e. meets e (get_or (outputs_at chains cells call k) c Unknown)) (expect_is chains call fits c k n ∙ quiet c k n outside))
     (cases_lt k (bits_at chains c))))

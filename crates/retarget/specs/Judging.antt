@@ -8,7 +8,7 @@ use Rattle.stil_tester.specs.Symbols.{flip_if, Meets, symbol_of, expect_of}
 use Rattle.stil_tester.specs.Shifting.{HasCells, bit_counts, cell_at, scan_call}
 use Rattle.base_types.specs.declared.kind.Kind.{Kind}
 use Rattle.base_types.specs.declared.kind.Kind.TheVariants.{ShortLoad, LongCompare}
-use Rattle.retarget.specs.Places.{parity_to, parity_after, chain_at, bits_at, StandsAt}
+use Rattle.retarget.specs.Places.{parity_to, parity_after, chain_bits, bits_at, StandsAt}
 
 -- the character of a load that reaches the bit at a place: as many from the end; N (78) where there is none
 abbrev pub load_character : Option (List ℕ) → ℕ → ℕ
@@ -45,11 +45,11 @@ IsRefusal chains call other = ⊥
 abbrev pub LoadsCells : Chains → ScanCall → Type 0
 LoadsCells chains call =
     (cells : List Symbol) → HasCells chains cells → (cell c i : ℕ) → StandsAt chains cell c i
-    → cell_at (scan_call chains cells call).loaded cell ≡ flip_if (parity_to (chain_at chains c) i) (symbol_of (load_at call c i))
+    → cell_at (scan_call chains cells call).loaded cell ≡ flip_if (parity_to (chain_bits chains c) i) (symbol_of (load_at call c i))
 
 -- the call passes exactly where each cell, as it was before and flipped by the parities to the scan output, meets its own character
 abbrev pub ComparesCells : Chains → ScanCall → Type 0
 ComparesCells chains call =
     (cells : List Symbol) → HasCells chains cells
     → IsTrue (scan_call chains cells call).passed
-    ↔ ((cell c i : ℕ) → StandsAt chains cell c i → Meets (expect_of (compare_at call c (exit_of chains c i))) (flip_if (parity_after (chain_at chains c) i) (cell_at cells cell)))
+    ↔ ((cell c i : ℕ) → StandsAt chains cell c i → Meets (expect_of (compare_at call c (exit_of chains c i))) (flip_if (parity_after (chain_bits chains c) i) (cell_at cells cell)))

@@ -28,18 +28,18 @@ abbrev pub no_bits : ChainBits
 no_bits = record { cells = []; parity = []; out_parity = false }
 
 -- a chain by its number; one without bits where there is none
-abbrev pub chain_at : Chains → ℕ → ChainBits
-chain_at chains number = slice_index_or chains.chains number no_bits
+abbrev pub chain_bits : Chains → ℕ → ChainBits
+chain_bits chains number = slice_index_or chains.chains number no_bits
 
 -- how many bits a chain has
 abbrev pub bits_at : Chains → ℕ → ℕ
-bits_at chains number = length (chain_at chains number).cells
+bits_at chains number = length (chain_bits chains number).cells
 
 -- the cell is that of the bit at this place of this chain
 pub record StandsAt (chains : Chains) (cell number place : ℕ) : Type 0 where
   pub is_chain : number < length chains.chains
   pub is_place : place < bits_at chains number
-  pub is_there : slice_index_or (chain_at chains number).cells place 0 ≡ cell
+  pub is_there : slice_index_or (chain_bits chains number).cells place 0 ≡ cell
 
 -- the bits of the longest chain
 abbrev pub longest : Chains → ℕ

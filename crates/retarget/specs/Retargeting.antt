@@ -4,7 +4,7 @@ use Rattle.lane_kernels.specs.Kernels.{flipped}
 use Rattle.stil_reader.specs.declared.statement.ScanCall.{ScanCall}
 use Rattle.stil_tester.specs.declared.chains.Chains.{Chains}
 use Rattle.stil_tester.specs.Shifting.{AreChains}
-use Rattle.retarget.specs.Places.{differ, parity_to, parity_after, chain_at, bits_at, StandsAt}
+use Rattle.retarget.specs.Places.{differ, parity_to, parity_after, chain_bits, bits_at, StandsAt}
 use Rattle.stil_reader.specs.Calls.{compare_at}
 use Rattle.retarget.specs.Judging.{load_at, exit_of}
 
@@ -22,13 +22,13 @@ pub record HaveSameCells (old new : Chains) : Type 0 where
 -- every cell gets the character that gives it the same value: that of its old place, flipped where the parities from the scan inputs differ; all other places hold N (78)
 pub record KeepsLoads (old new : Chains) (call written : ScanCall) : Type 0 where
   pub cells : (cell c i d j : ℕ) → StandsAt old cell c i → StandsAt new cell d j
-      → load_at written d j ≡ flip_character_if (differ (parity_to (chain_at old c) i) (parity_to (chain_at new d) j)) (load_at call c i)
+      → load_at written d j ≡ flip_character_if (differ (parity_to (chain_bits old c) i) (parity_to (chain_bits new d) j)) (load_at call c i)
   pub others : (d j : ℕ) → d < length new.chains → bits_at new d ≤ j → load_at written d j ≡ 78
 
 -- every expectation of a cell stands where that cell comes out, flipped where the parities to the scan outputs differ; all other places hold X (88)
 pub record KeepsCompares (old new : Chains) (call written : ScanCall) : Type 0 where
   pub cells : (cell c i d j : ℕ) → StandsAt old cell c i → StandsAt new cell d j
-      → compare_at written d (exit_of new d j) ≡ flip_character_if (differ (parity_after (chain_at old c) i) (parity_after (chain_at new d) j)) (compare_at call c (exit_of old c i))
+      → compare_at written d (exit_of new d j) ≡ flip_character_if (differ (parity_after (chain_bits old c) i) (parity_after (chain_bits new d) j)) (compare_at call c (exit_of old c i))
   pub others : (d k : ℕ) → d < length new.chains → bits_at new d ≤ k → compare_at written d k ≡ 88
 
 -- a load is written exactly where one was given, or where a character other than N falls on it

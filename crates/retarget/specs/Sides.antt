@@ -6,7 +6,7 @@ use Rattle.stil_tester.specs.Shifting.{AreChains}
 use Rattle.retarget.specs.declared.route.Route.{Route}
 use Rattle.retarget.specs.declared.side.Side.{Side}
 use Rattle.retarget.specs.declared.side.Side.TheVariants.{Load, Compare}
-use Rattle.retarget.specs.Places.{differ, parity_to, parity_after, chain_at, bits_at, StandsAt, longest}
+use Rattle.retarget.specs.Places.{differ, parity_to, parity_after, chain_bits, bits_at, StandsAt, longest}
 use Rattle.stil_reader.specs.Calls.{compare_character}
 use Rattle.retarget.specs.Judging.{load_character}
 use Rattle.retarget.specs.Retargeting.{flip_character_if, HaveSameCells}
@@ -53,12 +53,12 @@ pub record HasParities (row : List Bool) (places : ℕ) (parity : ℕ → Bool) 
 -- the parities of all chains
 pub record AreParities (side : Side) (chains : Chains) (rows : List (List Bool)) : Type 0 where
   pub long : length rows ≡ length chains.chains
-  pub each : (c : ℕ) → c < length chains.chains → HasParities (slice_index_or rows c []) (bits_at chains c) (parity_at side (chain_at chains c))
+  pub each : (c : ℕ) → c < length chains.chains → HasParities (slice_index_or rows c []) (bits_at chains c) (parity_at side (chain_bits chains c))
 
 -- for each cell the character that its strings hold for it, freed from the parities of its chain
 abbrev pub AreValues : Side → Chains → List (Option (List ℕ)) → List ℕ → Type 0
 AreValues side chains strings values =
-    (cell c i : ℕ) → StandsAt chains cell c i → slice_index_or values cell 0 ≡ flip_character_if (parity_at side (chain_at chains c) i) (character_at side chains strings c i)
+    (cell c i : ℕ) → StandsAt chains cell c i → slice_index_or values cell 0 ≡ flip_character_if (parity_at side (chain_bits chains c) i) (character_at side chains strings c i)
 
 -- chains with their parities
 pub record IsRoute (route : Route) : Type 0 where
@@ -80,7 +80,7 @@ pub record IsFullString (side : Side) (values cells : List ℕ) (parities : List
 -- a string of the new chains holds what strings of the old chains hold for its cells
 pub record IsMoved (side : Side) (old new : Chains) (shifts : ℕ) (strings : List (Option (List ℕ))) (d : ℕ) (string : Option (List ℕ)) : Type 0 where
   pub bits : (cell c i j : ℕ) → StandsAt old cell c i → StandsAt new cell d j
-      → character_in side (text_of string) (bits_at new d) j ≡ flip_character_if (differ (parity_at side (chain_at old c) i) (parity_at side (chain_at new d) j)) (character_at side old strings c i)
+      → character_in side (text_of string) (bits_at new d) j ≡ flip_character_if (differ (parity_at side (chain_bits old c) i) (parity_at side (chain_bits new d) j)) (character_at side old strings c i)
   pub others : (k : ℕ) → bits_at new d ≤ k → raw_at side string k ≡ filler_of side
   pub stands : IsSome string ↔ (IsSome (slice_index_or strings d None) ⊎ ((k : ℕ) × (raw_at side string k ≢ filler_of side)))
   pub full : IfSome string (λ text. length text ≡ shifts)

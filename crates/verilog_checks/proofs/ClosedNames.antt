@@ -12,7 +12,7 @@ use Rattle.verilog_syntax.specs.declared.statement.Range.{Range}
 use Rattle.verilog_syntax.specs.declared.statement.Statement.{Statement}
 use Rattle.verilog_syntax.specs.declared.statement.Statement.TheVariants as statements
 use Rattle.verilog_names.specs.declared.bounds.Bounds.{Bounds}
-use Rattle.verilog_names.specs.Values.{plain_of, bit_name}
+use Rattle.verilog_names.specs.Values.{unescaped, bit_name}
 use Rattle.verilog_names.specs.Declarations.{Declaration, declaration_of, declarations_in, has, width, index_at, bounds_in, is_declared}
 use Rattle.verilog_checks.specs.Faults.{has_bit_in, are_bits}
 use Rattle.verilog_checks.specs.Seen.{is_bit, is_bracketed, AreNets}
@@ -56,12 +56,12 @@ pub closed_is : (ds : List Declaration) (q : List ℕ) → is_bracketed q ≡ tr
 closed_is ds q closed = closed_among (map (λ d. d.name) ds) q closed ∙ any_map (λ other. bytes_eq other q) (λ (d : Declaration). d.name) ds
 
 abbrev closed_of : List (List ℕ) → List (List ℕ)
-closed_of written = filter is_bracketed (map plain_of written)
+closed_of written = filter is_bracketed (map unescaped written)
 
-closed_more : (xs : List (List ℕ)) (i : ℕ) (d : List ℕ) → i < length xs → closed_of (take (i + 1) xs) ≡ closed_of (take i xs) ++ cond (is_bracketed (plain_of (get_or xs i d))) (plain_of (get_or xs i d) ∷ []) []
-closed_more xs i d lt = ap (filter is_bracketed) (map_more plain_of xs i d lt) ∙ filter-append is_bracketed (map plain_of (take i xs)) (plain_of (get_or xs i d) ∷ [])
+closed_more : (xs : List (List ℕ)) (i : ℕ) (d : List ℕ) → i < length xs → closed_of (take (i + 1) xs) ≡ closed_of (take i xs) ++ cond (is_bracketed (unescaped (get_or xs i d))) (unescaped (get_or xs i d) ∷ []) []
+closed_more xs i d lt = ap (filter is_bracketed) (map_more unescaped xs i d lt) ∙ filter-append is_bracketed (map unescaped (take i xs)) (unescaped (get_or xs i d) ∷ [])
 
-closed_step : (t : Bool) (before xs : List (List ℕ)) (i : ℕ) (d name : List ℕ) → i < length xs → name ≡ plain_of (get_or xs i d) → is_bracketed name ≡ t
+closed_step : (t : Bool) (before xs : List (List ℕ)) (i : ℕ) (d name : List ℕ) → i < length xs → name ≡ unescaped (get_or xs i d) → is_bracketed name ≡ t
     → (before ++ closed_of (take i xs)) ++ cond t (name ∷ []) [] ≡ before ++ closed_of (take (i + 1) xs)
 closed_step t before xs i d name lt at is =
     let front = closed_of (take i xs) in
@@ -69,19 +69,19 @@ closed_step t before xs i d name lt at is =
     ∙ ap (λ l. before ++ l) (ap (λ b. front ++ cond b (name ∷ []) []) (sym is) ∙ ap (λ n. front ++ cond (is_bracketed n) (n ∷ []) []) at ∙ sym (closed_more xs i d lt))
 
 -- a set to which a closed name was added, and one that another name left as it was
-pub closed_added : (before xs : List (List ℕ)) (i : ℕ) (d name q : List ℕ) (new old : Bool) → i < length xs → name ≡ plain_of (get_or xs i d) → is_bracketed name ≡ true → new ≡ cond (bytes_eq name q) true old
+pub closed_added : (before xs : List (List ℕ)) (i : ℕ) (d name q : List ℕ) (new old : Bool) → i < length xs → name ≡ unescaped (get_or xs i d) → is_bracketed name ≡ true → new ≡ cond (bytes_eq name q) true old
     → old ≡ has (before ++ closed_of (take i xs)) q → new ≡ has (before ++ closed_of (take (i + 1) xs)) q
 closed_added before xs i d name q new old lt at closed is was =
     added (before ++ closed_of (take i xs)) name q new old is was ∙ ap (λ l. has l q) (closed_step true before xs i d name lt at closed)
 
-pub closed_left : (before xs : List (List ℕ)) (i : ℕ) (d name q : List ℕ) (old : Bool) → i < length xs → name ≡ plain_of (get_or xs i d) → is_bracketed name ≡ false
+pub closed_left : (before xs : List (List ℕ)) (i : ℕ) (d name q : List ℕ) (old : Bool) → i < length xs → name ≡ unescaped (get_or xs i d) → is_bracketed name ≡ false
     → old ≡ has (before ++ closed_of (take i xs)) q → old ≡ has (before ++ closed_of (take (i + 1) xs)) q
 closed_left before xs i d name q old lt at other was =
     was ∙ ap (λ l. has l q) (sym (append-nil (before ++ closed_of (take i xs))) ∙ closed_step false before xs i d name lt at other)
 
-names_of : (kind : Declared) (range : Option Range) (names : List (List ℕ)) → map (λ (d : Declaration). d.name) (map (declaration_of kind range) names) ≡ map plain_of names
+names_of : (kind : Declared) (range : Option Range) (names : List (List ℕ)) → map (λ (d : Declaration). d.name) (map (declaration_of kind range) names) ≡ map unescaped names
 names_of kind range [] = refl
-names_of kind range (name ∷ names) = ap (λ l. plain_of name ∷ l) (names_of kind range names)
+names_of kind range (name ∷ names) = ap (λ l. unescaped name ∷ l) (names_of kind range names)
 
 -- the closed names that a list of names declares, behind others
 pub closed_declared : (before : List Declaration) (s : Statement) (kind : Declared) (range : Option Range) (names listed : List (List ℕ)) → s ≡ statements.Declare kind range names → listed ≡ names

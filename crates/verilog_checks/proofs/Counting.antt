@@ -11,7 +11,7 @@ use Rattle.verilog_syntax.specs.declared.statement.Declared.{Declared}
 use Rattle.verilog_syntax.specs.declared.reading.Placed.{Placed}
 use Rattle.verilog_names.specs.declared.bounds.Bounds.{Bounds}
 use Rattle.verilog_checks.specs.declared.number.Vectors.{Vectors}
-use Rattle.verilog_names.specs.Values.{plain_of}
+use Rattle.verilog_names.specs.Values.{unescaped}
 use Rattle.verilog_names.specs.Declarations.{Declaration, declaration_of, declarations_in, declarations, width, is_named}
 use Rattle.verilog_checks.specs.Faults.{is_vector, added_bits, vector_bits_from, vector_bits, bad_number}
 use Rattle.verilog_checks.specs.Steps.{has_bad_number, are_small, AreCounted}
@@ -122,7 +122,7 @@ module _ (kind : Declared) where
   scalars_named q [] = refl
   scalars_named q (name ∷ names) =
       let none : (t : Bool) → (t && false) ≡ false = λ t. elim t as (λ t. (t && false) ≡ false) [ true ↦ refl | false ↦ refl ] in
-      ap (λ (t : Bool). t || list_any (is_vector_named q) (map (declaration_of kind None) names)) (none (bytes_eq (plain_of name) q)) ∙ scalars_named q names
+      ap (λ (t : Bool). t || list_any (is_vector_named q) (map (declaration_of kind None) names)) (none (bytes_eq (unescaped name) q)) ∙ scalars_named q names
 
   scalars_bits : (before : List Declaration) (names : List (List ℕ)) → vector_bits_from before (map (declaration_of kind None) names) ≡ 0
   unfolding vector_bits_from

@@ -9,7 +9,7 @@ use Rattle.verilog_syntax.specs.declared.statement.Range.{Range}
 use Rattle.verilog_syntax.specs.declared.statement.Item.{Item}
 use Rattle.verilog_syntax.specs.declared.statement.Statement.{Statement}
 use Rattle.verilog_syntax.specs.declared.statement.Statement.TheVariants as statements
-use Rattle.verilog_names.specs.Values.{plain_of}
+use Rattle.verilog_names.specs.Values.{unescaped}
 use Rattle.verilog_names.specs.Declarations.{Declaration, declaration_of, is_declared, mentions_of, undeclared_in}
 use Rattle.verilog_checks.specs.Faults.{is_vector, scalars_in}
 use Rattle.verilog_checks.specs.Seen.{is_bracketed}
@@ -45,16 +45,16 @@ put_none front so here total new mid is was none sum = ap now_of is ∙ was ∙ 
 
 -- the scalars of a list of names
 pub scalar_names : (kind : Declared) (range : Option Range) (names : List (List ℕ))
-    → map (λ d. d.name) (filter (λ d. not (is_vector d)) (map (declaration_of kind range) names)) ≡ cond (is_some range) [] (map plain_of names)
+    → map (λ d. d.name) (filter (λ d. not (is_vector d)) (map (declaration_of kind range) names)) ≡ cond (is_some range) [] (map unescaped names)
 scalar_names kind None [] = refl
-scalar_names kind None (name ∷ names) = ap (λ l. plain_of name ∷ l) (scalar_names kind None names)
+scalar_names kind None (name ∷ names) = ap (λ l. unescaped name ∷ l) (scalar_names kind None names)
 scalar_names kind (Some range) [] = refl
 scalar_names kind (Some range) (name ∷ names) = scalar_names kind (Some range) names
 
 pub scalars_of : (ds : List Declaration) (s : Statement) (kind : Declared) (range : Option Range) (names listed found : List (List ℕ)) → s ≡ statements.Declare kind range names → listed ≡ names
-    → found ≡ [] ++ cond (is_some range) [] (filter is_bracketed (map plain_of listed)) → found ≡ filter is_bracketed (scalars_in ds s)
+    → found ≡ [] ++ cond (is_some range) [] (filter is_bracketed (map unescaped listed)) → found ≡ filter is_bracketed (scalars_in ds s)
 scalars_of ds s kind range names listed found is list same =
-    same ∙ ap (λ l. cond (is_some range) [] (filter is_bracketed (map plain_of l))) list ∙ none_or range (map plain_of names)
+    same ∙ ap (λ l. cond (is_some range) [] (filter is_bracketed (map unescaped l))) list ∙ none_or range (map unescaped names)
     ∙ ap (filter is_bracketed)
     (sym (scalar_names kind range names) ∙ sym (append-nil (map (λ d. d.name) (filter (λ d. not (is_vector d)) (map (declaration_of kind range) names)))) ∙ sym (ap (scalars_in ds) is))
   where

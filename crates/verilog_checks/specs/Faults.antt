@@ -17,7 +17,7 @@ use Rattle.verilog_syntax.specs.declared.statement.Statement.TheVariants as stat
 use Rattle.verilog_syntax.specs.declared.reading.Placed.{Placed}
 use Rattle.verilog_syntax.specs.Reading.{fault_at, result_and_then, read_statements}
 use Rattle.verilog_names.specs.declared.bounds.Bounds.{Bounds}
-use Rattle.verilog_names.specs.Values.{plain_of, decimal_value, is_big_index, bit_name}
+use Rattle.verilog_names.specs.Values.{unescaped, decimal_value, is_big_index, bit_name}
 use Rattle.verilog_checks.specs.ConstantSizes.{constant_size}
 use Rattle.verilog_names.specs.Declarations.{width, indexes, Declaration, declarations_in, declarations, is_named, first_of, bounds_in, is_port_kind, is_wire, ports_in, header_ports, has, items_in, mentions_in, undeclared_in, width_or_one, selects, selects_part, part_of}
 
@@ -123,7 +123,7 @@ abbrev pub instances_named : Statement → List (List ℕ)
 instances_named (statements.Module name ports) = []
 instances_named (statements.Declare kind range names) = []
 instances_named (statements.Assign left right) = []
-instances_named (statements.Instance cell name connections) = plain_of name ∷ []
+instances_named (statements.Instance cell name connections) = unescaped name ∷ []
 
 -- the plain names of all instances
 abbrev pub instance_names : List Placed → List (List ℕ)
@@ -134,7 +134,7 @@ abbrev pub pins_in : Statement → List (List ℕ)
 pins_in (statements.Module name ports) = []
 pins_in (statements.Declare kind range names) = []
 pins_in (statements.Assign left right) = []
-pins_in (statements.Instance cell name connections) = map (λ c. plain_of c.pin) connections
+pins_in (statements.Instance cell name connections) = map (λ c. unescaped c.pin) connections
 
 -- a vector has a bit of this name
 abbrev pub has_bit_in : List ℕ → Option Bounds → List ℕ → Bool
@@ -180,8 +180,8 @@ is_bad_select bounds items.Open = false
 is_bad_select bounds items.Comma = false
 is_bad_select bounds items.Close = false
 is_bad_select bounds (items.Name name) = false
-is_bad_select bounds (items.Bit name index) = not (selects (bounds (plain_of name)) (decimal_value index))
-is_bad_select bounds (items.Part name left right) = not (selects_part (bounds (plain_of name)) (part_of left right))
+is_bad_select bounds (items.Bit name index) = not (selects (bounds (unescaped name)) (decimal_value index))
+is_bad_select bounds (items.Part name left right) = not (selects_part (bounds (unescaped name)) (part_of left right))
 is_bad_select bounds (items.Constant text) = false
 
 -- how many bits an item has
@@ -189,7 +189,7 @@ abbrev pub item_width : BoundsAt → Item → ℕ
 item_width bounds items.Open = 0
 item_width bounds items.Comma = 0
 item_width bounds items.Close = 0
-item_width bounds (items.Name name) = width_or_one (bounds (plain_of name))
+item_width bounds (items.Name name) = width_or_one (bounds (unescaped name))
 item_width bounds (items.Bit name index) = 1
 item_width bounds (items.Part name left right) = width (part_of left right)
 item_width bounds (items.Constant text) = constant_size text

@@ -9,7 +9,7 @@ use Rattle.verilog_syntax.specs.declared.reading.Placed.{Placed}
 use Rattle.verilog_names.specs.declared.bounds.Bounds.{Bounds}
 use Rattle.verilog_names.specs.declared.declared.First.{First}
 use Rattle.verilog_checks.specs.declared.twice.Seen.{Seen}
-use Rattle.verilog_names.specs.Values.{plain_of}
+use Rattle.verilog_names.specs.Values.{unescaped}
 use Rattle.verilog_names.specs.Declarations.{Declaration, declarations, first_of, bounds_in, is_port_kind, is_wire}
 use Rattle.verilog_checks.specs.Faults.{same_bounds, stands_again, any_again, has_bit_in, have_bits, instance_names, scalars, bad_twice}
 use Rattle.verilog_names.specs.NameSets.{HasNames}
@@ -64,7 +64,7 @@ declared_at first name = record { name = name; kind = first.kind; bounds = first
 
 -- what a name is declared as
 abbrev pub declared_as : First → List ℕ → Declaration
-declared_as first name = declared_at first (plain_of name)
+declared_as first name = declared_at first (unescaped name)
 
 -- a declaration stands behind others: whether it may not, or has a bit with the name of a scalar net; and if not, it is kept too
 pub record AddsOne (bad : Bool) (names : List (List ℕ × First)) (before : List Declaration) (d : Declaration) (all : List (List ℕ)) : Type 0 where

@@ -10,7 +10,7 @@ use Rattle.verilog_syntax.specs.declared.reading.Placed.{Placed}
 use Rattle.verilog_names.specs.declared.declared.First.{First}
 use Rattle.verilog_checks.specs.declared.number.Vectors.{Vectors}
 use Rattle.verilog_checks.specs.declared.select.Known.{Known}
-use Rattle.verilog_names.specs.Values.{plain_of}
+use Rattle.verilog_names.specs.Values.{unescaped}
 use Rattle.verilog_names.specs.Declarations.{Declaration, is_named, items_in, is_port_kind, declarations, has, header_ports}
 use Rattle.verilog_names.specs.NameTables.{known_bounds}
 use Rattle.verilog_checks.specs.Faults.{is_bad_number, is_bad_range, range_in, is_vector, vector_bits, is_bad_select, differ_in_width, has_direction}
@@ -61,5 +61,5 @@ abbrev pub is_bad_beside : List (List ℕ × First) → Known → Statement → 
 is_bad_beside names known statement =
     list_any (is_bad_select (known_bounds names)) (items_in statement)
     || differ_in_width (known_bounds names) statement
-    || list_any (λ name. not (has_key known.directed (plain_of name))) (listed_in statement)
-    || list_any (λ name. not (has_key known.ports (plain_of name))) (directed_in statement)
+    || list_any (λ name. not (has_key known.directed (unescaped name))) (listed_in statement)
+    || list_any (λ name. not (has_key known.ports (unescaped name))) (directed_in statement)

@@ -1,6 +1,6 @@
 //! Lists and sets of plain names.
 ghost use Rattle.std.specs.Prelude.{◌≡◌, ◌++◌, List, ℕ, map, IfOk, OnOk};
-ghost use Rattle.verilog_names.specs.Values.{plain_of};
+ghost use Rattle.verilog_names.specs.Values.{unescaped};
 ghost use Rattle.verilog_names.specs.Declarations.{ports_in};
 ghost use Rattle.verilog_checks.specs.Faults.{has_twice, pins_in};
 ghost use Rattle.verilog_names.specs.NameSets.{HasNames};
@@ -9,15 +9,15 @@ use crate::few;
 use base_types::NoMemory;
 use std::alloc::Global;
 use token_forms::TokenText;
-use verilog_names::{NameSet, NameState, plain_of};
+use verilog_names::{NameSet, NameState, unescaped};
 use verilog_syntax::{Connection, Statement};
 
 /// Puts the plain names of these behind the last one.
 fn push_names<'a>(names: &mut Vec<&'a [u8]>, written: &[TokenText<'a>]) -> Result<(), NoMemory>
-    ensures value { OnOk result (map (λ name. name.now) names.new.items ≡ map (λ name. name.now) names.old.items ++ map plain_of written.now) }
+    ensures value { OnOk result (map (λ name. name.now) names.new.items ≡ map (λ name. name.now) names.old.items ++ map unescaped written.now) }
 {
     for name in written {
-        names.push(plain_of(name))?;
+        names.push(unescaped(name))?;
     }
     Ok(())
 }
@@ -55,10 +55,10 @@ pub(crate) fn repeats_pin(alloc: Global, statement: &Statement) -> Result<bool, 
 }
 
 fn push_pins<'a>(names: &mut Vec<&'a [u8]>, connections: &[Connection<'a>]) -> Result<(), NoMemory>
-    ensures value { OnOk result (map (λ name. name.now) names.new.items ≡ map (λ name. name.now) names.old.items ++ map (λ c. plain_of c.pin) connections.now) }
+    ensures value { OnOk result (map (λ name. name.now) names.new.items ≡ map (λ name. name.now) names.old.items ++ map (λ c. unescaped c.pin) connections.now) }
 {
     for connection in connections {
-        names.push(plain_of(&connection.pin))?;
+        names.push(unescaped(&connection.pin))?;
     }
     Ok(())
 }

@@ -17,7 +17,7 @@ use crate::ranges::{bounds_of, small_value};
 use base_types::{Kind, NoMemory, ReadFault};
 use std::alloc::Global;
 use token_forms::TokenText;
-use verilog_names::{Bounds, NameSet, NameState, index_value, plain_of, width};
+use verilog_names::{Bounds, NameSet, NameState, index_value, unescaped, width};
 use verilog_syntax::{Connection, Item, Placed, Range, Statement, is_digit};
 
 /// The most bits that the declared vectors have together.
@@ -155,7 +155,7 @@ impl<'a> Vectors<'a> {
         ensures counted { IfOk result (λ fits. (kind : ghost_declared) (range : ghost_range) → bounds_of range ≡ bounds → Counts fits self.old self.new (map (declaration_of kind (Some range)) names.now)) }
     {
         for name in names {
-            self.add(plain_of(name), bounds)?;
+            self.add(unescaped(name), bounds)?;
             if self.bits > MOST_BITS {
                 return Ok(false);
             }

@@ -1,7 +1,7 @@
 //! The scalar nets of statements whose names are closed: of these alone can one have the name of a bit of a vector.
 ghost use Rattle.std.specs.Prelude.{◌≡◌, ◌∷◌, ◌++◌, [], List, ℕ, map, is_some, if◌then◌else◌, IfOk, OnOk, MatchOption};
 ghost use Rattle.std.specs.List.{flat_map, filter};
-ghost use Rattle.verilog_names.specs.Values.{plain_of};
+ghost use Rattle.verilog_names.specs.Values.{unescaped};
 ghost use Rattle.verilog_names.specs.Declarations.{Declaration, connection_items, declarations, declarations_in, mentions_of, undeclared_in};
 ghost use Rattle.verilog_checks.specs.Faults.{scalars_in};
 ghost use Rattle.verilog_names.specs.NameSets.{HasNames};
@@ -11,15 +11,15 @@ use crate::bit_names::is_bracketed;
 use base_types::NoMemory;
 use std::alloc::Global;
 use token_forms::TokenText;
-use verilog_names::{NameSet, NameState, plain_of};
+use verilog_names::{NameSet, NameState, unescaped};
 use verilog_syntax::{Connection, Item, Placed, Range, Statement};
 
 /// Adds the closed names of a list.
 fn add_closed<'a>(set: &mut NameSet<'a>, declared: &[TokenText<'a>]) -> Result<(), NoMemory>
-    ensures value { OnOk result ((before : List (List ℕ)) → HasNames set.old before → HasNames set.new (before ++ filter is_bracketed (map plain_of declared.now))) }
+    ensures value { OnOk result ((before : List (List ℕ)) → HasNames set.old before → HasNames set.new (before ++ filter is_bracketed (map unescaped declared.now))) }
 {
     for written in declared {
-        let name = plain_of(written);
+        let name = unescaped(written);
         if is_bracketed(name) {
             set.insert(name)?;
         }
@@ -56,7 +56,9 @@ fn mention_of<'a>(item: &Item<'a>) -> Option<&'a [u8]>
     ensures value { MatchOption result (mentions_of item.now ≡ []) (λ name. mentions_of item.now ≡ name.now ∷ []) }
 {
     match item {
-        Item::Name(name) | Item::Bit { name, .. } | Item::Part { name, .. } => Some(plain_of(name)),
+        Item::Name(name) | Item::Bit { name, .. } | Item::Part { name, .. } => Some(unescaped(
+            name,
+        )),
         Item::Open | Item::Comma | Item::Close | Item::Constant(_) => None,
     }
 }
@@ -104,10 +106,10 @@ fn push_connected<'a>(
 
 /// Puts the closed names of a list behind the last name.
 fn push_closed<'a>(names: &mut Vec<&'a [u8]>, declared: &[TokenText<'a>]) -> Result<(), NoMemory>
-    ensures value { OnOk result (map (λ name. name.now) names.new.items ≡ map (λ name. name.now) names.old.items ++ filter is_bracketed (map plain_of declared.now)) }
+    ensures value { OnOk result (map (λ name. name.now) names.new.items ≡ map (λ name. name.now) names.old.items ++ filter is_bracketed (map unescaped declared.now)) }
 {
     for written in declared {
-        let name = plain_of(written);
+        let name = unescaped(written);
         if is_bracketed(name) {
             names.push(name)?;
         }
@@ -121,7 +123,7 @@ fn push_scalars<'a>(
     range: &Option<Range<'a>>,
     declared: &[TokenText<'a>],
 ) -> Result<(), NoMemory>
-    ensures value { OnOk result (map (λ name. name.now) names.new.items ≡ map (λ name. name.now) names.old.items ++ (if is_some range.now then [] else filter is_bracketed (map plain_of declared.now))) }
+    ensures value { OnOk result (map (λ name. name.now) names.new.items ≡ map (λ name. name.now) names.old.items ++ (if is_some range.now then [] else filter is_bracketed (map unescaped declared.now))) }
 {
     match range {
         Some(_) => Ok(()),

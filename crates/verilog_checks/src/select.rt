@@ -2,7 +2,7 @@
 ghost use Rattle.std.specs.Prelude.{◌≡◌, ◌≤◌, ◌^◌, ◌||◌, ◌==◌, List, ℕ, not, false, true, map, IfOk, OnOk};
 ghost use Rattle.std.specs.List.{list_any};
 ghost use Rattle.verilog_syntax.specs.Reading.{Answers};
-ghost use Rattle.verilog_names.specs.Values.{is_big_index, plain_of};
+ghost use Rattle.verilog_names.specs.Values.{is_big_index, unescaped};
 ghost use Rattle.verilog_names.specs.Declarations.{declarations, is_port_kind, header_ports, has, connection_items, items_in, selects, selects_part, part_of};
 ghost use Rattle.verilog_checks.specs.Faults.{is_bad_number, is_bad_select, item_width, expression_width, differ_in_width, has_direction, check_select};
 ghost use Rattle.verilog_names.specs.NameTables.{firsts_of, known_bounds};
@@ -15,7 +15,7 @@ use base_types::{Kind, NoMemory, ReadFault};
 use std::alloc::Global;
 use token_forms::TokenText;
 use verilog_names::{
-    Bounds, DeclaredNames, NameSet, NameState, has_index, has_part, plain_of, width, width_or_one,
+    Bounds, DeclaredNames, NameSet, NameState, has_index, has_part, unescaped, width, width_or_one,
 };
 use verilog_syntax::{Connection, Declared, Expression, Item, Placed, Statement};
 
@@ -56,11 +56,11 @@ fn is_bad_select(names: &DeclaredNames, item: &Item) -> bool
     match item {
         Item::Open | Item::Comma | Item::Close | Item::Name(_) | Item::Constant(_) => false,
         Item::Bit { name, index } => {
-            !selects(names.bounds(plain_of(name)), small_value(index.text()))
+            !selects(names.bounds(unescaped(name)), small_value(index.text()))
         }
         Item::Part { name, left, right } => {
             !selects_part(
-                names.bounds(plain_of(name)),
+                names.bounds(unescaped(name)),
                 part_of(left.get(), right.get()),
             )
         }
@@ -114,7 +114,7 @@ fn item_width(names: &DeclaredNames, item: &Item) -> u64
 {
     match item {
         Item::Open | Item::Comma | Item::Close => 0,
-        Item::Name(name) => width_or_one(names.bounds(plain_of(name))),
+        Item::Name(name) => width_or_one(names.bounds(unescaped(name))),
         Item::Bit { .. } => 1,
         Item::Part { left, right, .. } => width(part_of(left.get(), right.get())),
         Item::Constant(text) => u64::from(constant_size(text.text())),
@@ -175,10 +175,10 @@ fn directed_in<'s, 'a>(statement: &'s Statement<'a>) -> &'s [TokenText<'a>]
 }
 
 fn add_names<'a>(set: &mut NameSet<'a>, names: &[TokenText<'a>]) -> Result<(), NoMemory>
-    ensures ok { OnOk result ((q : List ℕ) → has_key set.new q ≡ (has_key set.old q || has (map plain_of names.now) q)) }
+    ensures ok { OnOk result ((q : List ℕ) → has_key set.new q ≡ (has_key set.old q || has (map unescaped names.now) q)) }
 {
     for name in names {
-        set.insert(plain_of(name))?;
+        set.insert(unescaped(name))?;
     }
     Ok(())
 }
@@ -205,10 +205,10 @@ fn directed_names<'a>(alloc: Global, statements: &[Placed<'a>]) -> Result<NameSe
 
 /// Whether the set lacks one of the names.
 fn lacks_one<'a>(set: &NameSet<'a>, names: &[TokenText<'a>]) -> bool
-    ensures value { result ≡ list_any (λ name. not (has_key set.now (plain_of name))) names.now }
+    ensures value { result ≡ list_any (λ name. not (has_key set.now (unescaped name))) names.now }
 {
     for name in names {
-        if !set.contains(&plain_of(name)) {
+        if !set.contains(&unescaped(name)) {
             return true;
         }
     }

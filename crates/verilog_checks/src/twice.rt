@@ -24,7 +24,7 @@ use base_types::{Kind, NoMemory, ReadFault};
 use std::alloc::Global;
 use token_forms::TokenText;
 use verilog_names::{
-    Bounds, DeclaredNames, First, NameSet, NameState, index_at, plain_of, push_bit_name, width,
+    Bounds, DeclaredNames, First, NameSet, NameState, index_at, push_bit_name, unescaped, width,
 };
 use verilog_syntax::{Declared, Placed, Statement};
 
@@ -154,7 +154,7 @@ fn add_names_declared<'a>(
     ensures value { IfOk result (λ bad. (before : List Declaration) (all : List (List ℕ)) → AreKnown declared.old nets.now before all → Adds bad declared.new before (map (declared_as first) names.now) all) }
 {
     for name in names {
-        if add_name(alloc, declared, nets, first, plain_of(name))? {
+        if add_name(alloc, declared, nets, first, unescaped(name))? {
             return Ok(true);
         }
     }
@@ -193,7 +193,7 @@ fn add_instance<'a>(
     ensures value { IfOk result (λ again. (before : List (List ℕ)) → HasNames instances.old before → (again ≡ list_any (has before) (instances_named statement.now)) × HasNames instances.new (before ++ instances_named statement.now)) }
 {
     match statement {
-        Statement::Instance { name, .. } => Ok(!instances.insert(plain_of(name))?),
+        Statement::Instance { name, .. } => Ok(!instances.insert(unescaped(name))?),
         Statement::Module { .. } | Statement::Declare { .. } | Statement::Assign { .. } => {
             Ok(false)
         }

@@ -12,7 +12,7 @@ use Rattle.verilog_syntax.specs.declared.statement.Statement.{Statement}
 use Rattle.verilog_syntax.specs.declared.statement.Statement.TheVariants as statements
 use Rattle.verilog_syntax.specs.declared.reading.Placed.{Placed}
 use Rattle.verilog_names.specs.declared.bounds.Bounds.{Bounds}
-use Rattle.verilog_names.specs.Values.{plain_of, decimal_value}
+use Rattle.verilog_names.specs.Values.{unescaped, decimal_value}
 
 -- the bounds that a range writes
 abbrev pub bounds_of : Range → Bounds
@@ -74,7 +74,7 @@ pub record Declaration : Type 0 where
 
 -- the declaration of one name
 abbrev pub declaration_of : Declared → Option Range → List ℕ → Declaration
-declaration_of kind range name = record { name = plain_of name; kind = kind; bounds = option_map bounds_of range }
+declaration_of kind range name = record { name = unescaped name; kind = kind; bounds = option_map bounds_of range }
 
 -- what a statement declares
 abbrev pub declarations_in : Statement → List Declaration
@@ -130,7 +130,7 @@ is_wire Supply1 = false
 
 -- the ports that the header lists
 abbrev pub ports_in : Statement → List (List ℕ)
-ports_in (statements.Module name ports) = map plain_of ports
+ports_in (statements.Module name ports) = map unescaped ports
 ports_in (statements.Declare kind range names) = []
 ports_in (statements.Assign left right) = []
 ports_in (statements.Instance cell name connections) = []
@@ -148,9 +148,9 @@ abbrev pub mentions_of : Item → List (List ℕ)
 mentions_of items.Open = []
 mentions_of items.Comma = []
 mentions_of items.Close = []
-mentions_of (items.Name name) = plain_of name ∷ []
-mentions_of (items.Bit name index) = plain_of name ∷ []
-mentions_of (items.Part name left right) = plain_of name ∷ []
+mentions_of (items.Name name) = unescaped name ∷ []
+mentions_of (items.Bit name index) = unescaped name ∷ []
+mentions_of (items.Part name left right) = unescaped name ∷ []
 mentions_of (items.Constant text) = []
 
 -- the pieces of a statement's expressions, in order

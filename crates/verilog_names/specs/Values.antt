@@ -6,9 +6,9 @@ use Rattle.verilog_syntax.specs.Seams.{is_identifier}
 use Rattle.verilog_syntax.specs.Words.{is_reserved}
 
 -- a name without its escape: without the leading backslash and the blank behind it
-abbrev pub plain_of : List ℕ → List ℕ
-plain_of [] = []
-plain_of (b ∷ bs) = if b == 92 then take (prefix_len (λ c. not (is_blank c)) bs) bs else b ∷ bs
+abbrev pub unescaped : List ℕ → List ℕ
+unescaped [] = []
+unescaped (b ∷ bs) = if b == 92 then take (prefix_len (λ c. not (is_blank c)) bs) bs else b ∷ bs
 
 -- the value of a decimal
 abbrev pub decimal_value : List ℕ → ℕ

@@ -16,5 +16,5 @@ pub use bounds::Bounds;
 pub use declared::{DeclaredNames, First, Slot};
 pub use entry::Entry;
 pub use name_hash::{NameHasher, NameSet, NameState};
-pub use values::{index_value, plain_of, push_bit_name};
+pub use values::{index_value, push_bit_name, unescaped};
 pub use vector::{has_index, has_part, index_at, offset_in, width, width_or_one};

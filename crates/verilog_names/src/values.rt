@@ -2,7 +2,7 @@
 ghost use Rattle.std.specs.Prelude.{◌≡◌, ◌<◌, ◌≤◌, ◌++◌, ◌∷◌, [], length, take, not, MatchOption, IfSome, OnOk, OnErr};
 ghost use Rattle.std.specs.List.{prefix_len};
 ghost use Rattle.verilog_syntax.specs.VerilogTokens.{is_blank};
-ghost use Rattle.verilog_names.specs.Values.{plain_of, decimal_value, bit_name};
+ghost use Rattle.verilog_names.specs.Values.{unescaped, decimal_value, bit_name};
 
 use base_types::NoMemory;
 use std::alloc::Global;
@@ -17,7 +17,7 @@ fn name_len(bytes: &[u8]) -> usize
 }
 
 fn without_escape(text: &[u8]) -> &[u8]
-    ensures value { result.now ≡ plain_of text.now }
+    ensures value { result.now ≡ unescaped text.now }
 {
     match text {
         [b'\\', name @ ..] => &name[..name_len(name)],
@@ -26,8 +26,8 @@ fn without_escape(text: &[u8]) -> &[u8]
 }
 
 /// A name without its escape.
-pub fn plain_of<'a>(name: &TokenText<'a>) -> &'a [u8]
-    ensures value { result.now ≡ plain_of name.now }
+pub fn unescaped<'a>(name: &TokenText<'a>) -> &'a [u8]
+    ensures value { result.now ≡ unescaped name.now }
 {
     without_escape(name.text())
 }

@@ -20,7 +20,7 @@ use Rattle.verilog_syntax.specs.declared.statement.Statement.TheVariants as stat
 use Rattle.verilog_syntax.specs.declared.reading.Placed.{Placed}
 use Rattle.verilog_syntax.specs.Reading.{fault_at}
 use Rattle.verilog_names.specs.declared.bounds.Bounds.{Bounds}
-use Rattle.verilog_names.specs.Values.{plain_of, decimal_value, is_big_index}
+use Rattle.verilog_names.specs.Values.{unescaped, decimal_value, is_big_index}
 use Rattle.verilog_names.specs.Declarations.{Declaration, declaration_of, declarations_in, declarations, bounds_in, mentions_of, mentions_in, mentions, connection_items, items_in, header_ports, ports_in, selects, selects_part, part_of}
 use Rattle.verilog_checks.specs.Faults.{check_from, is_bad_number, is_bad_range, range_in, bad_number, vector_bits, is_bad_select, differ_in_width, has_direction, is_badly_listed, bad_select}
 use Rattle.verilog_names.specs.NameTables.{place, with_declared}
@@ -94,12 +94,12 @@ module _ (es : Entries) (ds : List Declaration) (agree : (q : List ℕ) → boun
   fine_item items.Open number select listed = tt
   fine_item items.Comma number select listed = tt
   fine_item items.Close number select listed = tt
-  fine_item (items.Name name) number select listed = placed es (plain_of name) ∙ listed.0
+  fine_item (items.Name name) number select listed = placed es (unescaped name) ∙ listed.0
   fine_item (items.Bit name index) number select listed =
-      (number, ap (λ (b : Option Bounds). selects b (decimal_value index)) (agree (plain_of name)) ∙ not-false (selects (bounds_in ds (plain_of name)) (decimal_value index)) select)
+      (number, ap (λ (b : Option Bounds). selects b (decimal_value index)) (agree (unescaped name)) ∙ not-false (selects (bounds_in ds (unescaped name)) (decimal_value index)) select)
   fine_item (items.Part name left right) number select listed =
       let both = or_parts (is_big_index left) (is_big_index right) number in
-      (both.0, both.1, ap (λ (b : Option Bounds). selects_part b (part_of left right)) (agree (plain_of name)) ∙ not-false (selects_part (bounds_in ds (plain_of name)) (part_of left right)) select)
+      (both.0, both.1, ap (λ (b : Option Bounds). selects_part b (part_of left right)) (agree (unescaped name)) ∙ not-false (selects_part (bounds_in ds (unescaped name)) (part_of left right)) select)
   fine_item (items.Constant text) number select listed = number
 
   pub fine_items : (xs : List Item) → list_any is_bad_number xs ≡ false → list_any (is_bad_select (bounds_in ds)) xs ≡ false → Each (λ q. named es q ≡ true) (flat_map mentions_of xs) → All (IsFineItem es) xs
@@ -131,7 +131,7 @@ module _ (es : Entries) (ds : List Declaration) (agree : (q : List ℕ) → boun
 
   fine_names : (kind : Declared) (range : Option Range) (names : List (List ℕ)) → Each (λ d. named es d.name ≡ true) (map (declaration_of kind range) names) → All (IsListed es) names
   fine_names kind range [] listed = All-nil (IsListed es)
-  fine_names kind range (name ∷ names) listed = All-cons (IsListed es) name names (placed es (plain_of name) ∙ listed.0) (fine_names kind range names listed.1)
+  fine_names kind range (name ∷ names) listed = All-cons (IsListed es) name names (placed es (unescaped name) ∙ listed.0) (fine_names kind range names listed.1)
 
   pub fine_statement : (s : Statement) → is_bad_range (range_in s) ≡ false → list_any is_bad_number (items_in s) ≡ false → list_any (is_bad_select (bounds_in ds)) (items_in s) ≡ false
       → Each (λ q. named es q ≡ true) (mentions_in s) → Each (λ d. named es d.name ≡ true) (declarations_in s) → IsFineStatement es s

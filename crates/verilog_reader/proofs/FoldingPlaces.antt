@@ -20,7 +20,7 @@ use Rattle.verilog_syntax.specs.declared.statement.Statement.{Statement}
 use Rattle.verilog_syntax.specs.declared.statement.Statement.TheVariants as statements
 use Rattle.verilog_names.specs.declared.bounds.Bounds.{Bounds}
 use Rattle.verilog_names.specs.declared.entry.Entry.{Entry}
-use Rattle.verilog_names.specs.Values.{plain_of, decimal_value}
+use Rattle.verilog_names.specs.Values.{unescaped, decimal_value}
 use Rattle.verilog_names.specs.Declarations.{mentions_of, mentions_in, connection_items, width_or_one, part_of, selects, selects_part}
 use Rattle.verilog_names.specs.NameTables.{place_from, place, with_entry, with_entries}
 use Rattle.verilog_reader.specs.Numbering.{bounds_or, with_mentioned, all_bits, one_bit, part_bits, numbered_item, numbered_items, numbered_expression, numbered_connection, numbered_assigns_in, numbered_instances_in, IsFineItem, IsFineExpression, IsFineStatement, HasFineItems}
@@ -121,7 +121,7 @@ module _ (es more : Entries) where
   same_expression e is = ap (λ (bits : List Bit). let made : Expr = record { bits = bits; span = e.span } in made) (same_items e.items is)
 
   pub same_connection : (c : Connection) → Agree es more (flat_map mentions_of c.expression.items) → numbered_connection more c ≡ numbered_connection es c
-  same_connection c is = ap (λ (e : Expr). let made : NetConnection = record { pin = plain_of c.pin; expr = e } in made) (same_expression c.expression is)
+  same_connection c is = ap (λ (e : Expr). let made : NetConnection = record { pin = unescaped c.pin; expr = e } in made) (same_expression c.expression is)
 
   -- connections' names are those of each
   agree_first : (c : Connection) (cs : List Connection) → Agree es more (flat_map mentions_of (connection_items (c ∷ cs)))
@@ -164,7 +164,7 @@ module _ (es more : Entries) where
   same_instances line (statements.Declare kind range names) is = refl
   same_instances line (statements.Assign left right) is = refl
   same_instances line (statements.Instance cell name connections) is =
-      ap (λ (pins : List NetConnection). let made : Instance = record { name = plain_of name; cell = plain_of cell; connections = pins; line = line } in made ∷ []) (same_connections connections is)
+      ap (λ (pins : List NetConnection). let made : Instance = record { name = unescaped name; cell = unescaped cell; connections = pins; line = line } in made ∷ []) (same_connections connections is)
 
   pub has_fine_items : (s : Statement) → Agree es more (mentions_in s) → HasFineItems more s → HasFineItems es s
   has_fine_items (statements.Module name ports) is fine = tt

@@ -16,7 +16,7 @@ use Rattle.verilog_syntax.specs.declared.statement.Statement.TheVariants as stat
 use Rattle.verilog_syntax.specs.declared.reading.Placed.{Placed}
 use Rattle.verilog_names.specs.declared.bounds.Bounds.{Bounds}
 use Rattle.verilog_names.specs.declared.entry.Entry.{Entry}
-use Rattle.verilog_names.specs.Values.{plain_of}
+use Rattle.verilog_names.specs.Values.{unescaped}
 use Rattle.verilog_names.specs.Declarations.{Declaration, declaration_of, declarations_in, declarations, is_declared, mentions}
 use Rattle.verilog_reader.specs.Denoted.{directions_of, header_name, header_line, entry_nets}
 use Rattle.verilog_names.specs.NameTables.{total, with_entries, with_declared}
@@ -46,7 +46,7 @@ module _ (es : Entries) where
 
   names_listed : (kind : Declared) (range : Option Range) (names : List (List ℕ)) → AllNamed (map (declaration_of kind range) names) → Each (IsListed es) names
   names_listed kind range [] are = tt
-  names_listed kind range (n ∷ names) are = (placed es (plain_of n) ∙ are.0, names_listed kind range names are.1)
+  names_listed kind range (n ∷ names) are = (placed es (unescaped n) ∙ are.0, names_listed kind range names are.1)
 
   statement_listed : (s : Statement) → AllNamed (declarations_in s) → AreListed es s
   statement_listed (statements.Module name ports) are = tt

@@ -18,7 +18,7 @@ use Rattle.verilog_syntax.specs.declared.statement.Statement.TheVariants as stat
 use Rattle.verilog_syntax.specs.declared.reading.Placed.{Placed}
 use Rattle.verilog_names.specs.declared.bounds.Bounds.{Bounds}
 use Rattle.verilog_names.specs.declared.entry.Entry.{Entry}
-use Rattle.verilog_names.specs.Values.{plain_of}
+use Rattle.verilog_names.specs.Values.{unescaped}
 use Rattle.verilog_names.specs.Declarations.{Declaration, declarations_in, declarations, is_named, first_of, is_declared, is_port_kind, has, width_or_one}
 use Rattle.verilog_checks.specs.Faults.{stands_again, any_again, instances_named, instance_names, bad_twice}
 use Rattle.verilog_reader.specs.Denoted.{directions_of}
@@ -271,7 +271,7 @@ new_in : (before : List (List ℕ)) (s : Statement) → list_any (has before) (i
 new_in before (statements.Module name ports) is = tt
 new_in before (statements.Declare kind range names) is = tt
 new_in before (statements.Assign left right) is = tt
-new_in before (statements.Instance cell name connections) is = ((or_parts (has before (plain_of name)) false is).0, tt)
+new_in before (statements.Instance cell name connections) is = ((or_parts (has before (unescaped name)) false is).0, tt)
 
 names_push : (before : List Placed) (p : Placed) → instance_names (before ++ p ∷ []) ≡ instance_names before ++ instances_named p.statement
 names_push before p =

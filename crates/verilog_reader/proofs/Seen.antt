@@ -15,7 +15,7 @@ use Rattle.verilog_syntax.specs.declared.statement.Statement.TheVariants as stat
 use Rattle.verilog_syntax.specs.declared.reading.Placed.{Placed}
 use Rattle.verilog_names.specs.declared.bounds.Bounds.{Bounds}
 use Rattle.verilog_names.specs.declared.entry.Entry.{Entry}
-use Rattle.verilog_names.specs.Values.{plain_of, decimal_value, bit_name}
+use Rattle.verilog_names.specs.Values.{unescaped, decimal_value, bit_name}
 use Rattle.verilog_reader.specs.Constants.{constant_bits}
 use Rattle.verilog_names.specs.Declarations.{Declaration, width, bounds_in, selects, selects_part, part_of}
 use Rattle.verilog_reader.specs.Denoted.{SeenExpression, SeenAssign, SeenConnection, SeenInstance, item_bits, name_bits, named_of, said_expression, said_assigns_in, said_connection, said_instances_in, seen_expression, seen_assign, seen_connection, seen_instance}
@@ -60,9 +60,9 @@ module _ (es : Entries) (ds : List Declaration) (agree : (q : List ℕ) → boun
   seen_item items.Open fine = refl
   seen_item items.Comma fine = refl
   seen_item items.Close fine = refl
-  seen_item (items.Name name) fine = seen_name (plain_of name) fine
-  seen_item (items.Bit name index) fine = seen_bit (plain_of name) (decimal_value index) fine.1
-  seen_item (items.Part name left right) fine = seen_part (plain_of name) (part_of left right) fine.2
+  seen_item (items.Name name) fine = seen_name (unescaped name) fine
+  seen_item (items.Bit name index) fine = seen_bit (unescaped name) (decimal_value index) fine.1
+  seen_item (items.Part name left right) fine = seen_part (unescaped name) (part_of left right) fine.2
   seen_item (items.Constant text) fine = same_marks (nets_of es) (constant_bits text) (marks text)
 
   seen_items : (xs : List Item) → All (IsFineItem es) xs → map (named_bit (nets_of es)) (numbered_items es xs) ≡ flat_map (item_bits ds) xs
@@ -79,7 +79,7 @@ module _ (es : Entries) (ds : List Declaration) (agree : (q : List ℕ) → boun
       → map (seen_connection (nets_of es)) (map (numbered_connection es) cs) ≡ map (said_connection ds) cs
   seen_pins [] fine = refl
   seen_pins (c ∷ cs) fine =
-      ap (λ (e : SeenExpression). let s : SeenConnection = record { pin = plain_of c.pin; expression = e } in s ∷ map (seen_connection (nets_of es)) (map (numbered_connection es) cs))
+      ap (λ (e : SeenExpression). let s : SeenConnection = record { pin = unescaped c.pin; expression = e } in s ∷ map (seen_connection (nets_of es)) (map (numbered_connection es) cs))
       (seen_one c.expression (All-head (λ (c : Connection). IsFineExpression es c.expression) c cs fine))
       ∙ ap (λ (rest : List SeenConnection). said_connection ds c ∷ rest) (seen_pins cs (All-tail (λ (c : Connection). IsFineExpression es c.expression) c cs fine))
 
@@ -96,7 +96,7 @@ module _ (es : Entries) (ds : List Declaration) (agree : (q : List ℕ) → boun
   instances_in line (statements.Declare kind range names) fine = refl
   instances_in line (statements.Assign left right) fine = refl
   instances_in line (statements.Instance cell name connections) fine =
-      ap (λ (cs : List SeenConnection). let s : SeenInstance = record { name = plain_of name; cell = plain_of cell; connections = cs; line = line } in s ∷ []) (seen_pins connections fine)
+      ap (λ (cs : List SeenConnection). let s : SeenInstance = record { name = unescaped name; cell = unescaped cell; connections = cs; line = line } in s ∷ []) (seen_pins connections fine)
 
   pub seen_assigns : (ps : List Placed) → All (λ (p : Placed). IsFineStatement es p.statement) ps
       → map (seen_assign (nets_of es)) (numbered_assigns es ps) ≡ flat_map (λ (p : Placed). said_assigns_in ds p.line p.statement) ps

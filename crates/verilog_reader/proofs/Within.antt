@@ -20,7 +20,7 @@ use Rattle.verilog_syntax.specs.declared.statement.Statement.TheVariants as stat
 use Rattle.verilog_syntax.specs.declared.reading.Placed.{Placed}
 use Rattle.verilog_names.specs.declared.bounds.Bounds.{Bounds}
 use Rattle.verilog_names.specs.declared.entry.Entry.{Entry}
-use Rattle.verilog_names.specs.Values.{plain_of, decimal_value}
+use Rattle.verilog_names.specs.Values.{unescaped, decimal_value}
 use Rattle.verilog_checks.specs.ConstantSizes.{constant_size}
 use Rattle.verilog_reader.specs.Constants.{value_bits, fill_of, fitted, digit_bits, digit_width, is_decimal_base, constant_base, constant_digits, constant_bits}
 use Rattle.verilog_names.specs.Declarations.{Declaration, width, bounds_in, width_or_one, selects, selects_part, part_of}
@@ -122,9 +122,9 @@ module _ (es : Entries) (ds : List Declaration) (agree : (q : List ℕ) → boun
   item_is items.Open fine = record { inside = tt; many = refl }
   item_is items.Comma fine = record { inside = tt; many = refl }
   item_is items.Close fine = record { inside = tt; many = refl }
-  item_is (items.Name name) fine = name_item (plain_of name) fine
-  item_is (items.Bit name index) fine = bit_item (plain_of name) (decimal_value index) fine.1
-  item_is (items.Part name left right) fine = part_item (plain_of name) (part_of left right) fine.2
+  item_is (items.Name name) fine = name_item (unescaped name) fine
+  item_is (items.Bit name index) fine = bit_item (unescaped name) (decimal_value index) fine.1
+  item_is (items.Part name left right) fine = part_item (unescaped name) (part_of left right) fine.2
   item_is (items.Constant text) fine = record {
     inside = each_weaker IsMark (IsBitWithin (total es)) (constant_bits text) (mark_within (total es)) (marks text);
     many = length-constant text;
@@ -168,9 +168,9 @@ module _ (es : Entries) (ds : List Declaration) (agree : (q : List ℕ) → boun
   pins_within (c ∷ cs) fine =
       (bits_within c.expression (All-head (λ (c : Connection). IsFineExpression es c.expression) c cs fine), pins_within cs (All-tail (λ (c : Connection). IsFineExpression es c.expression) c cs fine))
 
-  pins_named : (cs : List Connection) → map (λ (c : NetConnection). c.pin) (map (numbered_connection es) cs) ≡ map (λ (c : Connection). plain_of c.pin) cs
+  pins_named : (cs : List Connection) → map (λ (c : NetConnection). c.pin) (map (numbered_connection es) cs) ≡ map (λ (c : Connection). unescaped c.pin) cs
   pins_named [] = refl
-  pins_named (c ∷ cs) = ap (λ (pins : List (List ℕ)). plain_of c.pin ∷ pins) (pins_named cs)
+  pins_named (c ∷ cs) = ap (λ (pins : List (List ℕ)). unescaped c.pin ∷ pins) (pins_named cs)
 
   instances_in : (line : ℕ) (s : Statement) → IsFineStatement es s → has_twice (pins_in s) ≡ false → Each (IsInstance (total es)) (numbered_instances_in es line s)
   instances_in line (statements.Module name ports) fine once = tt
@@ -179,7 +179,7 @@ module _ (es : Entries) (ds : List Declaration) (agree : (q : List ℕ) → boun
   instances_in line (statements.Instance cell name connections) fine once = (
     record {
       nets = all_of (λ (c : NetConnection). All (IsBitWithin (total es)) c.expr.bits) (map (numbered_connection es) connections) (pins_within connections fine);
-      pins = subst AreDistinct (sym (pins_named connections)) (distinct (map (λ (c : Connection). plain_of c.pin) connections) (distinct_names (map (λ (c : Connection). plain_of c.pin) connections) once));
+      pins = subst AreDistinct (sym (pins_named connections)) (distinct (map (λ (c : Connection). unescaped c.pin) connections) (distinct_names (map (λ (c : Connection). unescaped c.pin) connections) once));
     },
     tt,
   )

@@ -23,7 +23,7 @@ use Rattle.verilog_syntax.specs.declared.statement.Statement.{Statement}
 use Rattle.verilog_syntax.specs.declared.statement.Statement.TheVariants as statements
 use Rattle.verilog_syntax.specs.declared.reading.Placed.{Placed}
 use Rattle.verilog_names.specs.declared.bounds.Bounds.{Bounds}
-use Rattle.verilog_names.specs.Values.{plain_of, decimal_value, bit_name, name_text}
+use Rattle.verilog_names.specs.Values.{unescaped, decimal_value, bit_name, name_text}
 use Rattle.verilog_reader.specs.Constants.{constant_bits}
 use Rattle.verilog_names.specs.Declarations.{indexes, Declaration, declarations_in, declarations, is_declared, bounds_in, has, mentions, undeclared_in, part_of}
 use Rattle.verilog_checks.specs.Faults.{read_faultless}
@@ -42,9 +42,9 @@ abbrev pub item_bits : List Declaration → Item → List NamedBit
 item_bits ds items.Open = []
 item_bits ds items.Comma = []
 item_bits ds items.Close = []
-item_bits ds (items.Name name) = named_of (name_bits (plain_of name) (bounds_in ds (plain_of name)))
-item_bits ds (items.Bit name index) = Named (bit_name (plain_of name) (decimal_value index)) ∷ []
-item_bits ds (items.Part name left right) = named_of (name_bits (plain_of name) (Some (part_of left right)))
+item_bits ds (items.Name name) = named_of (name_bits (unescaped name) (bounds_in ds (unescaped name)))
+item_bits ds (items.Bit name index) = Named (bit_name (unescaped name) (decimal_value index)) ∷ []
+item_bits ds (items.Part name left right) = named_of (name_bits (unescaped name) (Some (part_of left right)))
 item_bits ds (items.Constant text) = map (named_bit []) (constant_bits text)
 
 -- an expression by the names of its bits
@@ -113,7 +113,7 @@ said_assigns_in ds line (statements.Instance cell name connections) = []
 
 -- what a connection says
 abbrev pub said_connection : List Declaration → Connection → SeenConnection
-said_connection ds c = record { pin = plain_of c.pin; expression = said_expression ds c.expression }
+said_connection ds c = record { pin = unescaped c.pin; expression = said_expression ds c.expression }
 
 -- the instance that a statement is
 abbrev pub said_instances_in : List Declaration → ℕ → Statement → List SeenInstance
@@ -121,11 +121,11 @@ said_instances_in ds line (statements.Module name ports) = []
 said_instances_in ds line (statements.Declare kind range names) = []
 said_instances_in ds line (statements.Assign left right) = []
 said_instances_in ds line (statements.Instance cell name connections) =
-    record { name = plain_of name; cell = plain_of cell; connections = map (said_connection ds) connections; line = line } ∷ []
+    record { name = unescaped name; cell = unescaped cell; connections = map (said_connection ds) connections; line = line } ∷ []
 
 -- the name that a header gives
 abbrev pub module_name : Statement → List ℕ
-module_name (statements.Module name ports) = plain_of name
+module_name (statements.Module name ports) = unescaped name
 module_name (statements.Declare kind range names) = []
 module_name (statements.Assign left right) = []
 module_name (statements.Instance cell name connections) = []

@@ -20,7 +20,7 @@ use Rattle.verilog_syntax.specs.declared.statement.Statement.TheVariants as stat
 use Rattle.verilog_syntax.specs.declared.reading.Placed.{Placed}
 use Rattle.verilog_names.specs.declared.bounds.Bounds.{Bounds}
 use Rattle.verilog_names.specs.declared.entry.Entry.{Entry}
-use Rattle.verilog_names.specs.Values.{plain_of, decimal_value, is_big_index}
+use Rattle.verilog_names.specs.Values.{unescaped, decimal_value, is_big_index}
 use Rattle.verilog_reader.specs.Constants.{constant_bits}
 use Rattle.verilog_names.specs.Declarations.{width, Declaration, declarations_in, declarations, mentions_of, mentions, width_or_one, part_of, selects, selects_part}
 use Rattle.verilog_checks.specs.Faults.{is_bad_size, is_bad_range}
@@ -79,9 +79,9 @@ abbrev pub numbered_item : List (List ℕ × Option Bounds) → Item → List Bi
 numbered_item es items.Open = []
 numbered_item es items.Comma = []
 numbered_item es items.Close = []
-numbered_item es (items.Name name) = all_bits (place es (plain_of name))
-numbered_item es (items.Bit name index) = one_bit (place es (plain_of name)) (decimal_value index)
-numbered_item es (items.Part name left right) = part_bits (place es (plain_of name)) (part_of left right)
+numbered_item es (items.Name name) = all_bits (place es (unescaped name))
+numbered_item es (items.Bit name index) = one_bit (place es (unescaped name)) (decimal_value index)
+numbered_item es (items.Part name left right) = part_bits (place es (unescaped name)) (part_of left right)
 numbered_item es (items.Constant text) = constant_bits text
 
 -- the bits of items by numbers
@@ -94,7 +94,7 @@ numbered_expression es e = record { bits = numbered_items es e.items; span = e.s
 
 -- a connection by numbers
 abbrev pub numbered_connection : List (List ℕ × Option Bounds) → Connection → NetConnection
-numbered_connection es c = record { pin = plain_of c.pin; expr = numbered_expression es c.expression }
+numbered_connection es c = record { pin = unescaped c.pin; expr = numbered_expression es c.expression }
 
 -- a port by its number
 abbrev pub numbered_port : ℕ → Direction → ℕ → Port
@@ -130,7 +130,7 @@ numbered_instances_in es line (statements.Module name ports) = []
 numbered_instances_in es line (statements.Declare kind range names) = []
 numbered_instances_in es line (statements.Assign left right) = []
 numbered_instances_in es line (statements.Instance cell name connections) =
-    record { name = plain_of name; cell = plain_of cell; connections = map (numbered_connection es) connections; line = line } ∷ []
+    record { name = unescaped name; cell = unescaped cell; connections = map (numbered_connection es) connections; line = line } ∷ []
 
 -- all ports by numbers
 abbrev pub numbered_ports : List (List ℕ × Option Bounds) → List Placed → List Port
@@ -160,7 +160,7 @@ numbered es ps = record {
 
 -- the table has the name
 abbrev pub IsListed : List (List ℕ × Option Bounds) → List ℕ → Type 0
-IsListed es name = IsSome (place es (plain_of name))
+IsListed es name = IsSome (place es (unescaped name))
 
 -- the item's name is in the table, and its index or part fits
 abbrev pub IsFineItem : List (List ℕ × Option Bounds) → Item → Type 0
@@ -168,9 +168,9 @@ IsFineItem es items.Open = Unit {0}
 IsFineItem es items.Comma = Unit {0}
 IsFineItem es items.Close = Unit {0}
 IsFineItem es (items.Name name) = IsListed es name
-IsFineItem es (items.Bit name index) = (is_big_index index ≡ false) × (selects (bounds_or (place es (plain_of name))) (decimal_value index) ≡ true)
+IsFineItem es (items.Bit name index) = (is_big_index index ≡ false) × (selects (bounds_or (place es (unescaped name))) (decimal_value index) ≡ true)
 IsFineItem es (items.Part name left right) =
-    (is_big_index left ≡ false) × (is_big_index right ≡ false) × (selects_part (bounds_or (place es (plain_of name))) (part_of left right) ≡ true)
+    (is_big_index left ≡ false) × (is_big_index right ≡ false) × (selects_part (bounds_or (place es (unescaped name))) (part_of left right) ≡ true)
 IsFineItem es (items.Constant text) = is_bad_size text ≡ false
 
 -- each item of the expression is fine

@@ -11,7 +11,7 @@ use base_types::NoMemory;
 use netlist_core::{Bit, Bits, Expr, NetId};
 use std::alloc::Global;
 use verilog_checks::small_value;
-use verilog_names::{Bounds, Entry, offset_in, plain_of, width, width_or_one};
+use verilog_names::{Bounds, Entry, offset_in, unescaped, width, width_or_one};
 use verilog_syntax::{Expression, Item};
 
 fn push_nets(bits: &mut Bits, first: u32, end: u32) -> Result<(), NoMemory>
@@ -71,9 +71,9 @@ fn push_item<'a>(
 {
     match item {
         Item::Open | Item::Comma | Item::Close => Ok(()),
-        Item::Name(name) => push_all(bits, nets.entry_or_add(plain_of(name))?),
+        Item::Name(name) => push_all(bits, nets.entry_or_add(unescaped(name))?),
         Item::Bit { name, index } => {
-            let entry = nets.entry_or_add(plain_of(name))?;
+            let entry = nets.entry_or_add(unescaped(name))?;
             push_one(bits, entry, small_value(index.text()))
         }
         Item::Part { name, left, right } => {
@@ -81,7 +81,7 @@ fn push_item<'a>(
                 left: small_value(left.get().text()),
                 right: small_value(right.get().text()),
             };
-            push_part(bits, nets.entry_or_add(plain_of(name))?, part)
+            push_part(bits, nets.entry_or_add(unescaped(name))?, part)
         }
         Item::Constant(text) => push_constant(alloc, bits, text.text()),
     }
@@ -121,7 +121,7 @@ fn bits_of_item<'a>(alloc: Global, nets: &mut Nets<'a>, item: &Item<'a>) -> Resu
     ensures value { IfOk result (λ bits. bits ≡ numbered_item nets.new item.now) }
 {
     if let Item::Name(name) = item {
-        return bits_of_entry(alloc, nets.entry_or_add(plain_of(name))?);
+        return bits_of_entry(alloc, nets.entry_or_add(unescaped(name))?);
     }
     let mut bits = Bits::new(alloc);
     push_item(alloc, &mut bits, nets, item)?;

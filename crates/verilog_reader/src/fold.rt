@@ -2,7 +2,7 @@
 ghost use Rattle.std.specs.Prelude.{◌≡◌, false, ◌+◌, ◌-◌, ◌<◌, ◌^◌, ◌++◌, All, Ok, Some, IsSome, length, map, option_to_list, OnOk, IfOk};
 ghost use Rattle.std.specs.List.{flat_map};
 ghost use Rattle.netlist_core.specs.Netlists.{IsNetlist};
-ghost use Rattle.verilog_names.specs.Values.{plain_of};
+ghost use Rattle.verilog_names.specs.Values.{unescaped};
 ghost use Rattle.verilog_names.specs.Declarations.{declaration_of, declarations, width_or_one};
 ghost use Rattle.verilog_checks.specs.Faults.{is_bad_range, range_in, check_number, check_twice, check_select};
 ghost use Rattle.verilog_reader.specs.Denoted.{directions_of, module_name, header_name, header_line, IsNetlistOf};
@@ -15,7 +15,7 @@ use base_types::{Name, NoMemory, Rows};
 use netlist_core::{Direction, NetId, Netlist, Port};
 use std::alloc::Global;
 use token_forms::TokenText;
-use verilog_names::{DeclaredNames, Entry, plain_of, width_or_one};
+use verilog_names::{DeclaredNames, Entry, unescaped, width_or_one};
 use verilog_syntax::{Declared, Placed, Statement};
 
 fn direction_of(kind: Declared) -> Option<Direction>
@@ -57,10 +57,10 @@ fn push_named_ports(
     names: &[TokenText],
 ) -> Result<(), NoMemory>
     requires { All (IsListed nets.now) names.now }
-    ensures ok { OnOk result (ports.new ≡ ports.old ++ flat_map (λ name. port_bits line direction (place nets.now (plain_of name))) names.now) }
+    ensures ok { OnOk result (ports.new ≡ ports.old ++ flat_map (λ name. port_bits line direction (place nets.now (unescaped name))) names.now) }
 {
     for name in names {
-        push_ports(ports, line, direction, nets.entry(plain_of(name)))?;
+        push_ports(ports, line, direction, nets.entry(unescaped(name)))?;
     }
     Ok(())
 }
@@ -99,7 +99,7 @@ fn module_name<'a>(statement: &Statement<'a>) -> &'a [u8]
     ensures value { result.now ≡ module_name statement.now }
 {
     match statement {
-        Statement::Module { name, .. } => plain_of(name),
+        Statement::Module { name, .. } => unescaped(name),
         _ => &[],
     }
 }

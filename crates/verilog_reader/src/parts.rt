@@ -8,7 +8,7 @@ use crate::nets::Nets;
 use base_types::{Name, NoMemory, Rows};
 use netlist_core::{Assign, Connection as Pin, Instance};
 use std::alloc::Global;
-use verilog_names::plain_of;
+use verilog_names::unescaped;
 use verilog_syntax::{Connection, Expression, Placed, Statement};
 
 fn assign_of<'a>(
@@ -38,7 +38,7 @@ fn pin_of<'a>(
     ensures value { IfOk result (λ pin. pin ≡ numbered_connection nets.new connection.now) }
 {
     Ok(Pin {
-        pin: Name::copy(alloc, plain_of(&connection.pin))?,
+        pin: Name::copy(alloc, unescaped(&connection.pin))?,
         expr: expression_of(alloc, nets, &connection.expression)?,
     })
 }
@@ -81,8 +81,8 @@ fn push_statement<'a>(
             name,
             connections,
         } => instances.push(Instance {
-            name: Name::copy(alloc, plain_of(name))?,
-            cell: Name::copy(alloc, plain_of(cell))?,
+            name: Name::copy(alloc, unescaped(name))?,
+            cell: Name::copy(alloc, unescaped(cell))?,
             connections: pins_of(alloc, nets, connections.as_slice())?,
             line,
         }),

@@ -8,7 +8,7 @@ use Rattle.verilog_syntax.specs.declared.statement.Statement.{Statement}
 use Rattle.verilog_syntax.specs.declared.statement.Statement.TheVariants as statements
 use Rattle.verilog_syntax.specs.declared.reading.Placed.{Placed}
 use Rattle.verilog_syntax.specs.Laws.{nowhere, bare_connection, bare_statement, bare}
-use Rattle.verilog_names.specs.Values.{plain_of}
+use Rattle.verilog_names.specs.Values.{unescaped}
 use Rattle.verilog_names.specs.Declarations.{declarations_in, declarations, ports_in, header_ports, connection_items, items_in}
 use Rattle.verilog_checks.specs.Faults.{BoundsAt, range_in, instances_named, instance_names, pins_in, differ_in_width}
 use Rattle.verilog_reader.specs.Denoted.{module_name, header_name}
@@ -72,9 +72,9 @@ instances_frame (statements.Declare kind range names) = refl
 instances_frame (statements.Assign left right) = refl
 instances_frame (statements.Instance cell name connections) = refl
 
-pins_blank : (cs : List Connection) → map (λ (c : Connection). plain_of c.pin) (map blank_connection cs) ≡ map (λ (c : Connection). plain_of c.pin) cs
+pins_blank : (cs : List Connection) → map (λ (c : Connection). unescaped c.pin) (map blank_connection cs) ≡ map (λ (c : Connection). unescaped c.pin) cs
 pins_blank [] = refl
-pins_blank (c ∷ cs) = ap (λ (l : List (List ℕ)). plain_of c.pin ∷ l) (pins_blank cs)
+pins_blank (c ∷ cs) = ap (λ (l : List (List ℕ)). unescaped c.pin ∷ l) (pins_blank cs)
 
 pins_frame : (s : Statement) → pins_in (frame s) ≡ pins_in s
 pins_frame (statements.Module name ports) = refl

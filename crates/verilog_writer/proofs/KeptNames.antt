@@ -29,7 +29,7 @@ use Rattle.verilog_syntax.specs.declared.statement.Statement.TheVariants as stat
 use Rattle.verilog_syntax.specs.declared.reading.Placed.{Placed}
 use Rattle.verilog_syntax.specs.Laws.{bare_connection, bare_statement}
 use Rattle.verilog_names.specs.declared.bounds.Bounds.{Bounds}
-use Rattle.verilog_names.specs.Values.{plain_of, bit_name}
+use Rattle.verilog_names.specs.Values.{unescaped, bit_name}
 use Rattle.verilog_reader.specs.Constants.{constant_bits}
 use Rattle.verilog_names.specs.Declarations.{width, indexes, Declaration, declarations, bounds_in, part_of, width_or_one}
 use Rattle.verilog_reader.specs.Denoted.{SeenAssign, SeenConnection, SeenInstance, name_bits, named_of, item_bits, seen_assign, seen_connection, seen_instance, said_expression, said_connection, said_assigns_in, said_instances_in}
@@ -54,13 +54,13 @@ assigns_named ds (statements.Assign left right) = pairs (bits_of ds left.items) 
 assigns_named ds (statements.Instance cell name connections) = []
 
 abbrev pin_named : List Declaration → Connection → List ℕ × List NamedBit
-pin_named ds c = (plain_of c.pin, bits_of ds c.expression.items)
+pin_named ds c = (unescaped c.pin, bits_of ds c.expression.items)
 
 abbrev pub instances_named : List Declaration → Statement → List NamedInstance
 instances_named ds (statements.Module name ports) = []
 instances_named ds (statements.Declare kind range names) = []
 instances_named ds (statements.Assign left right) = []
-instances_named ds (statements.Instance cell name connections) = record { name = plain_of name; cell = plain_of cell; pins = map (pin_named ds) connections } ∷ []
+instances_named ds (statements.Instance cell name connections) = record { name = unescaped name; cell = unescaped cell; pins = map (pin_named ds) connections } ∷ []
 
 -- places don't count
 pub assigns_bare : (ds : List Declaration) (s : Statement) → assigns_named ds (bare_statement s) ≡ assigns_named ds s
@@ -78,7 +78,7 @@ instances_bare ds (statements.Module name ports) = refl
 instances_bare ds (statements.Declare kind range names) = refl
 instances_bare ds (statements.Assign left right) = refl
 instances_bare ds (statements.Instance cell name connections) =
-    ap (λ (ps : List (List ℕ × List NamedBit)). let i : NamedInstance = record { name = plain_of name; cell = plain_of cell; pins = ps } in i ∷ []) (pins_bare ds connections)
+    ap (λ (ps : List (List ℕ × List NamedBit)). let i : NamedInstance = record { name = unescaped name; cell = unescaped cell; pins = ps } in i ∷ []) (pins_bare ds connections)
 
 -- what a netlist shows, by names
 abbrev strip_assign : SeenAssign → List (NamedBit × NamedBit)
@@ -132,7 +132,7 @@ said_instance ds line (statements.Module name ports) = refl
 said_instance ds line (statements.Declare kind range names) = refl
 said_instance ds line (statements.Assign left right) = refl
 said_instance ds line (statements.Instance cell name connections) =
-    ap (λ (ps : List (List ℕ × List NamedBit)). let i : NamedInstance = record { name = plain_of name; cell = plain_of cell; pins = ps } in i ∷ []) (said_pins ds connections)
+    ap (λ (ps : List (List ℕ × List NamedBit)). let i : NamedInstance = record { name = unescaped name; cell = unescaped cell; pins = ps } in i ∷ []) (said_pins ds connections)
 
 said_instances : (ds : List Declaration) (ps : List Placed) → map strip_instance (flat_map (λ (p : Placed). said_instances_in ds p.line p.statement) ps) ≡ flat_map (λ (p : Placed). instances_named ds p.statement) ps
 said_instances ds [] = refl
@@ -157,9 +157,9 @@ item_wide : (ds : List Declaration) (x : Item) → length (item_bits ds x) ≡ i
 item_wide ds items.Open = refl
 item_wide ds items.Comma = refl
 item_wide ds items.Close = refl
-item_wide ds (items.Name name) = names_wide (plain_of name) (bounds_in ds (plain_of name))
+item_wide ds (items.Name name) = names_wide (unescaped name) (bounds_in ds (unescaped name))
 item_wide ds (items.Bit name index) = refl
-item_wide ds (items.Part name left right) = names_wide (plain_of name) (Some (part_of left right))
+item_wide ds (items.Part name left right) = names_wide (unescaped name) (Some (part_of left right))
 item_wide ds (items.Constant text) = length-map (constant_bits text) (named_bit []) ∙ length-constant text
 
 items_wide : (ds : List Declaration) (xs : List Item) → length (bits_of ds xs) ≡ sum_by (item_width (bounds_in ds)) xs
@@ -201,7 +201,7 @@ module _ (ps : List Placed) (n : Netlist) (bits : List BitEdit) where
   pins_come source (c ∷ cs) (x ∷ conns) same comes =
       let first : seen_connection n.nets x ≡ said_connection ds c = cc in
       let others : map (seen_connection n.nets) conns ≡ map (said_connection ds) cs = cc in
-      let pin : x.pin ≡ plain_of c.pin = ap (λ (s : SeenConnection). s.pin) first in
+      let pin : x.pin ≡ unescaped c.pin = ap (λ (s : SeenConnection). s.pin) first in
       let span : x.expr.span ≡ c.expression.span = ap (λ (s : SeenConnection). s.expression.span) first in
       let old : map (named_bit n.nets) x.expr.bits ≡ bits_of ds c.expression.items = ap (λ (s : SeenConnection). s.expression.bits) first in
       let here : Comes ps n bits c.expression.span (source x.pin) = subst (λ (s : Span). Comes ps n bits s (source x.pin)) span (comes x (inl refl)) in
@@ -231,13 +231,13 @@ module _ (ps : List Placed) (n : Netlist) (bits : List BitEdit) where
     instance_step (statements.Assign left right) line olds k all same at more = more k all same at
     instance_step (statements.Instance cell name connections) line olds k [] same at more = absurd cc
     instance_step (statements.Instance cell name connections) line olds k (i ∷ all) same at more =
-        let said : SeenInstance = record { name = plain_of name; cell = plain_of cell; connections = map (said_connection ds) connections; line = line } in
+        let said : SeenInstance = record { name = unescaped name; cell = unescaped cell; connections = map (said_connection ds) connections; line = line } in
         let first : seen_instance n.nets i ≡ said = cc in
         let others : map (seen_instance n.nets) all ≡ said_rest olds = cc in
         let k_is : k + 0 ≡ k = omega arith in
         let here : slice_get n.instances k ≡ Some i = subst (λ (x : ℕ). slice_get n.instances x ≡ Some i) k_is (at 0 i refl) in
-        let name_is : i.name ≡ plain_of name = ap (λ (s : SeenInstance). s.name) first in
-        let cell_is : i.cell ≡ plain_of cell = ap (λ (s : SeenInstance). s.cell) first in
+        let name_is : i.name ≡ unescaped name = ap (λ (s : SeenInstance). s.name) first in
+        let cell_is : i.cell ≡ unescaped cell = ap (λ (s : SeenInstance). s.cell) first in
         let pins_are = pins_come (pin_source n cells pins k) connections i.connections (ap (λ (s : SeenInstance). s.connections) first) (λ c h. comes k i c here h) in
         let behind : AreInstancesFrom (k + 1) all = λ j x is. let e : k + suc j ≡ (k + 1) + j = omega arith in subst (λ (y : ℕ). slice_get n.instances y ≡ Some x) e (at (suc j) x is) in
         ap₂ (λ (x : NamedInstance) (xs : List NamedInstance). x ∷ xs)

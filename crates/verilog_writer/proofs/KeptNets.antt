@@ -17,7 +17,7 @@ use Rattle.netlist_core.specs.Netlists.{plain_of as net_plain}
 use Rattle.verilog_syntax.specs.declared.reading.Placed.{Placed}
 use Rattle.verilog_syntax.specs.StatementParts.{item_texts}
 use Rattle.verilog_names.specs.declared.bounds.Bounds.{Bounds}
-use Rattle.verilog_names.specs.Values.{plain_of, name_text, bit_name, decimal_value}
+use Rattle.verilog_names.specs.Values.{unescaped, name_text, bit_name, decimal_value}
 use Rattle.verilog_names.specs.Declarations.{width, indexes, Declaration, declarations, is_named, first_of, is_declared, bounds_or_none, bounds_in, has, mentions, undeclared_in, selects}
 use Rattle.verilog_reader.specs.Denoted.{first_declared, first_mentioned, net_entries, entry_nets, bit_text, DenotesNetlist}
 use Rattle.verilog_reader.specs.Numbering.{entries}
@@ -164,7 +164,7 @@ net_known text n d net lt = all_of (IsKnownName d.statements) n.nets (nets_known
 -- a text tells its net
 module _ (m k : List ℕ) (black : is_escapable m ≡ true) (dark : is_escapable k ≡ true) where
   same_name : name_text m ≡ name_text k → m ≡ k
-  same_name same = sym (name_again m black) ∙ ap plain_of same ∙ name_again k dark
+  same_name same = sym (name_again m black) ∙ ap unescaped same ∙ name_again k dark
 
   names_same : (i j : Option ℕ) → IsIndex i → IsIndex j → item_texts (indexed_item m i) ≡ item_texts (indexed_item k j) → indexed_name m i ≡ indexed_name k j
   names_same None None a b same = let first : name_text m ≡ name_text k = cc in same_name first

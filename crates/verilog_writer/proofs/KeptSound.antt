@@ -13,7 +13,7 @@ use Rattle.verilog_syntax.specs.declared.statement.Statement.TheVariants as stat
 use Rattle.verilog_syntax.specs.declared.reading.Placed.{Placed}
 use Rattle.verilog_syntax.specs.Laws.{bare_statement, bare}
 use Rattle.verilog_names.specs.declared.bounds.Bounds.{Bounds}
-use Rattle.verilog_names.specs.Values.{plain_of, decimal_value, name_text}
+use Rattle.verilog_names.specs.Values.{unescaped, decimal_value, name_text}
 use Rattle.verilog_names.specs.Declarations.{declarations, bounds_in, mentions_of, mentions_in, mentions, connection_items, items_in, selects}
 use Rattle.verilog_checks.specs.Faults.{is_bad_number, is_bad_range, is_bad_select, differ_in_width}
 use Rattle.verilog_reader.specs.Numbering.{entries}
@@ -52,7 +52,7 @@ item_fine ps name (Some i) black small known =
     let again = name_again name black in
     record {
       number = ap (nat_lt 65535) value ∙ known.0;
-      select = ap not (ap (λ (v : ℕ). selects (bounds_in (declarations ps) (plain_of (name_text name))) v) value ∙ ap (λ (q : List ℕ). selects (bounds_in (declarations ps) q) i) again ∙ known.1);
+      select = ap not (ap (λ (v : ℕ). selects (bounds_in (declarations ps) (unescaped (name_text name))) v) value ∙ ap (λ (q : List ℕ). selects (bounds_in (declarations ps) q) i) again ∙ known.1);
       mentions = (ap (named (entries ps)) again ∙ vector_named ps name i known.1, tt);
     }
 

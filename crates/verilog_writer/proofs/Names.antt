@@ -11,7 +11,7 @@ use Rattle.verilog_syntax.proofs.NameTokens.{no_blank_start}
 use Rattle.netlist_core.specs.Netlists.{Named}
 use Rattle.verilog_syntax.specs.Words.{is_name}
 use Rattle.verilog_syntax.specs.StatementParts.{IsName}
-use Rattle.verilog_names.specs.Values.{plain_of, name_text}
+use Rattle.verilog_names.specs.Values.{unescaped, name_text}
 use Rattle.verilog_names.specs.Declarations.{Declaration}
 use Rattle.verilog_reader.specs.Denoted.{item_bits}
 use Rattle.verilog_writer.specs.VerilogText.{indexed_item, IsIndex}
@@ -57,7 +57,7 @@ escaped_black : (bs : List ℕ) → is_escaped bs ≡ true → is_escapable (tak
 escaped_black bs e = rw (run_length (λ c. not (is_blank c)) bs, first_part (nat_lt 0 (prefix_len (λ c. not (is_blank c)) bs)) _ e) (run_all (λ c. not (is_blank c)) bs)
 
 -- the plain name of a name can be escaped
-pub plain_escapable : (name : List ℕ) → IsName name → is_escapable (plain_of name) ≡ true
+pub plain_escapable : (name : List ℕ) → IsName name → is_escapable (unescaped name) ≡ true
 unfolding is_name
 plain_escapable [] e = absurd cc
 plain_escapable (b ∷ bs) e = by (b == 92) e
@@ -75,14 +75,14 @@ plain_start : (b : ℕ) (bs : List ℕ) (t : Bool) → (b == 92) ≡ t → is_pl
 plain_start b bs true e plain = absurd (no_backslash b e (first_part (is_word_start b) _ (first_part (is_identifier (b ∷ bs)) _ plain)))
 plain_start b bs false e plain = refl
 
-plain_again : (name : List ℕ) (t : Bool) → is_plain name ≡ t → is_escapable name ≡ true → plain_of (cond t name (92 ∷ (name ++ 32 ∷ []))) ≡ name
+plain_again : (name : List ℕ) (t : Bool) → is_plain name ≡ t → is_escapable name ≡ true → unescaped (cond t name (92 ∷ (name ++ 32 ∷ []))) ≡ name
 plain_again [] true e black = refl
 plain_again (b ∷ bs) true e black = plain_start b bs (b == 92) refl e
 plain_again name false e black =
     let size = blank_ends name (second_part (nat_lt 0 (length name)) _ black) in
     ap (λ (k : ℕ). take k (name ++ 32 ∷ [])) size ∙ take_front name (32 ∷ [])
 
-pub name_again : (name : List ℕ) → is_escapable name ≡ true → plain_of (name_text name) ≡ name
+pub name_again : (name : List ℕ) → is_escapable name ≡ true → unescaped (name_text name) ≡ name
 name_again name black = plain_again name (is_plain name) refl black
 
 indexed_bits : (ds : List Declaration) (name : List ℕ) (index : Option ℕ) → is_escapable name ≡ true → IsIndex index → IsScalarWithout ds name index

@@ -2,7 +2,7 @@ use Rattle.std.proofs.Common.{◌≡◌, ◌++◌, ◌∷◌, ◌+◌, ◌<◌, 
 use Rattle.std.specs.Prelude.{is_some}
 use Rattle.std.proofs.lemmas.List.{get_or_read, length_push}
 use Rattle.stil_tester.specs.declared.chains.ChainBits.{ChainBits}
-use Rattle.retarget.specs.Places.{chain_at, no_bits, bits_at}
+use Rattle.retarget.specs.Places.{chain_bits, no_bits, bits_at}
 use Rattle.retarget.specs.Sides.{parity_at, HasParities}
 use Rattle.retarget.proofs.SameMeaning.{bits_within}
 use Rattle.retarget.proofs.Values.{bit_within}
@@ -15,9 +15,9 @@ moved_string-requires-clause-within c i h =
     let n : ℕ = c.loop-number.number in
     let items : c.as_slice-chain-items.result.now ≡ chains.chains = c.as_slice-chain-items.ensures.value in
     let within : n < length chains.chains = omega (arith, ap length items) in
-    let cells : c.as_slice-cells.result.now ≡ (chain_at chains n).cells
+    let cells : c.as_slice-cells.result.now ≡ (chain_bits chains n).cells
     = c.as_slice-cells.ensures.value ∙ ap (λ (ch : ChainBits). ch.cells) (get_or_read c.as_slice-chain-items.result.now n c.chain-item.result (omega arith) c.chain-item.is no_bits ∙ ap (λ q. get_or q n no_bits) items) in
-    let at : get_or c.as_slice-cells.result.now i 0 ≡ get_or (chain_at chains n).cells i 0 = ap (λ q. get_or q i 0) cells in
+    let at : get_or c.as_slice-cells.result.now i 0 ≡ get_or (chain_bits chains n).cells i 0 = ap (λ q. get_or q i 0) cells in
     omega (arith, at, bit_within chains c.requires.new.chains n i within (omega (arith, ap length cells)), ap length c.as_slice.ensures.value, c.in_ok-values.ensures.long, c.requires.cells.cells)
 
 pub moved_string-requires-clause-shifts : goal.moved_string-requires-clause-shifts
@@ -25,7 +25,7 @@ moved_string-requires-clause-shifts c =
     let chains = c.args.new.now.chains in
     let n : ℕ = c.loop-number.number in
     let items : c.as_slice-chain-items.result.now ≡ chains.chains = c.as_slice-chain-items.ensures.value in
-    let cells : c.as_slice-cells.result.now ≡ (chain_at chains n).cells
+    let cells : c.as_slice-cells.result.now ≡ (chain_bits chains n).cells
     = c.as_slice-cells.ensures.value ∙ ap (λ (ch : ChainBits). ch.cells) (get_or_read c.as_slice-chain-items.result.now n c.chain-item.result (omega arith) c.chain-item.is no_bits ∙ ap (λ q. get_or q n no_bits) items) in
     omega (arith, ap length cells, bits_within chains n, c.requires.shifts)
 
@@ -37,12 +37,12 @@ loop-number-preserved c =
     let rows : List (List Bool) = c.parities-parities.result.now in
     let items : c.as_slice-chain-items.result.now ≡ chains.chains = c.as_slice-chain-items.ensures.value in
     let within : n < length chains.chains = omega (arith, ap length items) in
-    let cells : c.as_slice-cells.result.now ≡ (chain_at chains n).cells
+    let cells : c.as_slice-cells.result.now ≡ (chain_bits chains n).cells
     = c.as_slice-cells.ensures.value ∙ ap (λ (ch : ChainBits). ch.cells) (get_or_read c.as_slice-chain-items.result.now n c.chain-item.result (omega arith) c.chain-item.is no_bits ∙ ap (λ q. get_or q n no_bits) items) in
     let row : c.as_slice-row.result.now ≡ get_or rows n []
     = c.as_slice-row.ensures.value ∙ get_or_read rows n c.index-parities-number.result (omega (arith, c.parities-parities.ensures.long)) c.index-parities-number.is [] in
-    let has : HasParities c.as_slice-row.result.now (bits_at chains n) (parity_at c.args.side (chain_at chains n))
-    = subst (λ (q : List Bool). HasParities q (bits_at chains n) (parity_at c.args.side (chain_at chains n))) (sym row) (c.parities-parities.ensures.each n within) in
+    let has : HasParities c.as_slice-row.result.now (bits_at chains n) (parity_at c.args.side (chain_bits chains n))
+    = subst (λ (q : List Bool). HasParities q (bits_at chains n) (parity_at c.args.side (chain_bits chains n))) (sym row) (c.parities-parities.ensures.each n within) in
     let given : c.is_some-given.result ≡ is_some (get_or strings n None)
     = c.is_some-given.ensures ∙ ap is_some (get_or_read strings n c.index-strings-number.result (omega (arith, c.requires.cells.chains)) c.index-strings-number.is None) in
     let pushed : c.push.new.self ≡ c.loop-number.written ++ c.in_ok-moved_string.field-0 ∷ [] = search rules in

@@ -1,5 +1,5 @@
 use Rattle.std.proofs.Common.{sym, ap, ◌∙◌}
-use Rattle.verilog_names.specs.Values.{plain_of}
+use Rattle.verilog_names.specs.Values.{unescaped}
 use Rattle.verilog_checks.proofs.ClosedNames.{closed_added, closed_left}
 use Rattle.verilog_checks.proofs.scalars.add_closed.Goals.{then-is_bracketed+in_ok-insert, else-is_bracketed}
 use Rattle.verilog_checks.proofs.scalars.add_closed.Goals as goal
@@ -9,8 +9,8 @@ loop-written-preserved c = λ before h q.
     let xs = c.args.declared.now in
     let i = c.loop-written.written-index in
     let d = c.written-item.result in
-    let name = c.plain_of-name.result.now in
-    let at = c.plain_of-name.ensures.value ∙ ap plain_of c.written-item.is in
+    let name = c.unescaped-name.result.now in
+    let at = c.unescaped-name.ensures.value ∙ ap unescaped c.written-item.is in
     elim c.if-is_bracketed.branch [
       | then-is_bracketed+in_ok-insert w ↦
           rw w.set-is (closed_added before xs i d name q.now _ _ c.loop-written-test.true at (sym c.is_bracketed.ensures.value ∙ w.if-is_bracketed.true) (w.in_ok-insert.ensures.updates.0 q) (c.loop-written.invariant before h q))

@@ -1,5 +1,5 @@
 use Rattle.std.proofs.Common.{List, ℕ, ◌||◌, map, ap, ◌∙◌}
-use Rattle.verilog_names.specs.Values.{plain_of}
+use Rattle.verilog_names.specs.Values.{unescaped}
 use Rattle.verilog_names.specs.Declarations.{has}
 use Rattle.verilog_checks.specs.Steps.{has_key}
 use Rattle.verilog_checks.proofs.Ports.{ports_more}
@@ -8,5 +8,5 @@ use Rattle.verilog_checks.proofs.select.header_ports.Goals as goal
 pub loop-placed-preserved : goal.loop-placed-preserved
 loop-placed-preserved c = λ q.
     ports_more c.args.statements.now c.loop-placed.placed-index c.placed-item.result c.placed-item.result q _ _ c.loop-placed-test.true c.placed-item.is
-    (c.in_ok-add_names.ensures.ok q ∙ ap (λ (l : List (List ℕ)). has_key c.loop-placed.set q || has (map plain_of l) q) c.listed_in.ensures.value)
+    (c.in_ok-add_names.ensures.ok q ∙ ap (λ (l : List (List ℕ)). has_key c.loop-placed.set q || has (map unescaped l) q) c.listed_in.ensures.value)
     (c.loop-placed.invariant q)

@@ -1,6 +1,6 @@
 use Rattle.std.proofs.Common.{◌≡◌, ◌++◌, List, [], ℕ, Bool, false, map, take, get_or, refl, ap, ◌∙◌, subst}
 use Rattle.std.proofs.lemmas.List.{take_all}
-use Rattle.verilog_names.specs.Values.{plain_of}
+use Rattle.verilog_names.specs.Values.{unescaped}
 use Rattle.verilog_names.specs.Declarations.{Declaration}
 use Rattle.verilog_names.specs.NameTables.{firsts_of}
 use Rattle.verilog_checks.specs.Seen.{AddsOne, IsClean, declared_at, declared_as}
@@ -16,7 +16,7 @@ returns-then-branch c = record {
       let d = c.name-item.result in
       let so = before ++ map (declared_as first) (take i xs) in
       let inv = c.loop-name.invariant before all known in
-      let name : c.plain_of.result.now ≡ plain_of (get_or xs i d) = c.plain_of.ensures.value ∙ ap plain_of c.name-item.is in
+      let name : c.unescaped.result.now ≡ unescaped (get_or xs i d) = c.unescaped.ensures.value ∙ ap unescaped c.name-item.is in
       let named = subst (λ (n : List ℕ). AddsOne c.in_ok-add_name.field-0 c.add_name.new.declared so (declared_at first n) all) name (c.in_ok-add_name.ensures.value so all inv.known) in
       let one = subst (λ (t : Bool). AddsOne t c.add_name.new.declared so (declared_as first (get_or xs i d)) all) c.if-branch.true named in
       record { is = both_fails first before all xs i d _ c.add_name.new.declared c.loop-name-test.true one inv.same; kept = λ e. absurd cc; clean = λ e. absurd cc };
@@ -30,7 +30,7 @@ loop-name-preserved c = λ before all known.
     let d = c.name-item.result in
     let so = before ++ map (declared_as first) (take i xs) in
     let inv = c.loop-name.invariant before all known in
-    let name : c.plain_of.result.now ≡ plain_of (get_or xs i d) = c.plain_of.ensures.value ∙ ap plain_of c.name-item.is in
+    let name : c.unescaped.result.now ≡ unescaped (get_or xs i d) = c.unescaped.ensures.value ∙ ap unescaped c.name-item.is in
     let named = subst (λ (n : List ℕ). AddsOne c.in_ok-add_name.field-0 c.add_name.new.declared so (declared_at first n) all) name (c.in_ok-add_name.ensures.value so all inv.known) in
     let one = subst (λ (t : Bool). AddsOne t c.add_name.new.declared so (declared_as first (get_or xs i d)) all) c.if-branch.false named in
     let more = so_more first before all xs i d false c.loop-name-test.true in

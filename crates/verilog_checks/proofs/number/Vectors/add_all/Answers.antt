@@ -1,5 +1,5 @@
 use Rattle.std.proofs.Common.{◌+◌, List, ℕ, ◌++◌, Some, map, take, get_or, sym, ap, ◌∙◌, subst, arith}
-use Rattle.verilog_names.specs.Values.{plain_of}
+use Rattle.verilog_names.specs.Values.{unescaped}
 use Rattle.verilog_names.specs.Declarations.{Declaration, declaration_of}
 use Rattle.verilog_checks.specs.Steps.{AreCounted}
 use Rattle.verilog_checks.proofs.Counting.{front_more, front_within}
@@ -11,7 +11,7 @@ returns-then-self-gt-MOST_BITS-clause-counted c = λ kind range e ds h.
     let names : List (List ℕ) = c.args.names.now in
     let i : ℕ = c.loop-name.name-index in
     let before = c.loop-name.invariant.counted kind range e ds h in
-    let is = c.in_ok-add.ensures.counted (ds ++ map f (take i names)) (f (get_or names i c.name-item.result)) (sym (c.plain_of.ensures.value ∙ ap plain_of c.name-item.is)) (ap Some e) before in
+    let is = c.in_ok-add.ensures.counted (ds ++ map f (take i names)) (f (get_or names i c.name-item.result)) (sym (c.unescaped.ensures.value ∙ ap unescaped c.name-item.is)) (ap Some e) before in
     let now = subst (AreCounted c.add.new.self) (front_more f ds names i c.name-item.result c.loop-name-test.true) is in
     let within = front_within f ds names (i + 1) in
     omega (arith, now.bits, within, c.if-self-gt-MOST_BITS.true)
@@ -24,6 +24,6 @@ loop-name-preserved c = record {
       let names : List (List ℕ) = c.args.names.now in
       let i : ℕ = c.loop-name.name-index in
       let before = c.loop-name.invariant.counted kind range e ds h in
-      let is = c.in_ok-add.ensures.counted (ds ++ map f (take i names)) (f (get_or names i c.name-item.result)) (sym (c.plain_of.ensures.value ∙ ap plain_of c.name-item.is)) (ap Some e) before in
+      let is = c.in_ok-add.ensures.counted (ds ++ map f (take i names)) (f (get_or names i c.name-item.result)) (sym (c.unescaped.ensures.value ∙ ap unescaped c.name-item.is)) (ap Some e) before in
       subst (AreCounted c.add.new.self) (front_more f ds names i c.name-item.result c.loop-name-test.true) is;
 }
