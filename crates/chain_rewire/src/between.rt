@@ -1,15 +1,17 @@
 //! The scan path between the ports of the words.
-ghost use Rattle.std.specs.Prelude.{◌≡◌, ℕ, List, IfOk};
+ghost use Rattle.std.specs.Prelude.{◌≡◌, ◌<◌, ℕ, List, length, IfOk};
 ghost use Rattle.netlist_core.specs.Netlists.{IsNetlist};
 ghost use Rattle.verilog_reader.specs.Denoted.{DenotesNetlist};
+ghost use Rattle.net_edit.specs.Free.{is_free};
 ghost use Rattle.base_types.specs.FirstFault.{IfFault};
 ghost use Rattle.chain_rewire.specs.Rewiring.{cells_of, IsTraced};
 ghost use Rattle.chain_rewire.specs.Faults.{IsRewireFault};
 
 use crate::rewire::Rewire;
-use base_types::{Fault, Kind, ReadFault};
+use base_types::{Fault, Kind, NoMemory, ReadFault};
 use cell_table::CellTable;
 use chain_trace::{Path, input_named, output_named, plain_of, trace};
+use net_edit::Uses;
 use netlist_core::{Netlist, classes_of};
 use std::alloc::Global;
 
@@ -37,4 +39,17 @@ pub(crate) fn path_between(
         return Err(ReadFault::Fault(Fault::of_words(Kind::WrongPort)));
     }
     Ok(path)
+}
+
+/// Whether a path's output is free.
+pub(crate) fn is_output_free(
+    alloc: Global,
+    netlist: &Netlist,
+    path: &Path,
+) -> Result<bool, NoMemory>
+    requires netlist { IsNetlist netlist.now }
+    requires output { path.now.output.0 < length netlist.now.nets }
+    ensures value { IfOk result (λ free. free ≡ is_free netlist.now path.now.output) }
+{
+    Ok(Uses::of(alloc, netlist)?.is_free(path.output))
 }

@@ -5,12 +5,12 @@ ghost use Rattle.base_types.specs.FirstFault.{IfFault, IsFirstFault};
 ghost use Rattle.chain_rewire.specs.Rewiring.{IsRewired, AreErasedAlike, HasPath};
 ghost use Rattle.chain_rewire.specs.Faults.{HoldsInRewire};
 
-use crate::between::path_between;
+use crate::between::{is_output_free, path_between};
 use crate::order::ordered_path;
 use base_types::{Name, ReadFault, Rows, Text};
 use cell_table::CellTable;
 use chain_trace::names_law;
-use net_edit::{Uses, edits_for};
+use net_edit::edits_for;
 use std::alloc::Global;
 use verilog_reader::read_netlist;
 use verilog_writer::verilog_text;
@@ -65,7 +65,7 @@ pub fn rewire_text(alloc: Global, text: &[u8], rewire: &Rewire) -> Result<Rewire
     let netlist = read_netlist(alloc, text)?;
     let table = CellTable::one(alloc, &rewire.cell, &rewire.in_pin, &rewire.out_pin)?;
     let path = path_between(alloc, &netlist, &table, rewire)?;
-    let output_free = Uses::of(alloc, &netlist)?.is_free(path.output);
+    let output_free = is_output_free(alloc, &netlist, &path)?;
     let new = ordered_path(alloc, &netlist, &path, output_free, rewire)?;
     let edits = edits_for(alloc, &netlist, &table, &[path], &[new])?;
     let verilog = verilog_text(alloc, text, &netlist, &table, &edits)?;

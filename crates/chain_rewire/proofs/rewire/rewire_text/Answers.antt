@@ -10,7 +10,14 @@ use Rattle.base_types.proofs.FirstFaults.{fault_weaker}
 use Rattle.chain_rewire.proofs.Firsts.{first_verilog, excluded}
 use Rattle.chain_rewire.specs.declared.rewire.Rewired.{Rewired}
 use Rattle.chain_rewire.proofs.NewPaths.{erased, has_path}
+use Rattle.chain_trace.specs.Paths.{is_driven}
+use Rattle.chain_trace.proofs.Ranges.{port_within}
 use Rattle.chain_rewire.proofs.rewire.rewire_text.Goals as goal
+
+pub is_output_free-requires-clause-output : goal.is_output_free-requires-clause-output
+is_output_free-requires-clause-output c =
+    let traced = c.in_ok-path.ensures.path c.args.text.now c.in_ok-netlist.ensures.value in
+    port_within c.in_ok-netlist.netlist is_driven c.in_ok-path.path.output c.in_ok-netlist.ensures.value.sound traced.output.port
 
 pub returns-in_err-path-clause-fault : goal.returns-in_err-path-clause-fault
 returns-in_err-path-clause-fault c =
