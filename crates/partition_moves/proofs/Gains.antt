@@ -1,11 +1,10 @@
 -- How a plan's length changes where a unit is taken out, put in, or exchanged with another.
-use Rattle.std.proofs.Common.{◌≡◌, ◌≢◌, ℕ, ◌+◌, ◌<◌, ◌≤◌, List, [], ◌∷◌, ◌++◌, length, take, drop, get_or, set, insert, remove, Option, refl, sym, ap, ◌∙◌, slice_get, arith, suc, zero, sum, subst, add-one}
+use Rattle.std.proofs.Common.{◌≡◌, ◌≢◌, ℕ, ◌+◌, ◌<◌, List, [], ◌∷◌, ◌++◌, length, take, drop, get_or, set, insert, remove, Option, refl, sym, ap, ◌∙◌, slice_get, arith, suc, zero, sum, subst, add-one}
 use Rattle.std.proofs.lemmas.List.{length-set, take-append-drop, drop_more}
 use Rattle.std.proofs.lemmas.List.Sums.{sum_by-cons}
 use Rattle.base_types.specs.declared.span.Point.{Point}
-use Rattle.chain_rules.specs.Legality.{chain_at, moved_plan, swapped_plan, taken_out, with_chain, replaced, unit_in}
+use Rattle.chain_rules.specs.Legality.{chain_at, moved_plan, swapped_plan, taken_out, with_chain, replaced}
 use Rattle.chain_rules.specs.declared.plan.Plan.{Plan}
-use Rattle.chain_rules.specs.declared.unit.Position.{Position}
 use Rattle.chain_rules.proofs.Steps.{with_chain_other}
 use Rattle.wire_cost.specs.declared.ends.Ends.{Ends}
 use Rattle.wire_cost.specs.Lengths.{ChainEnds, chain_ends, chain_length_of, end_of, first_of, length_of, lengths_from, link_of, plan_length_of}

@@ -1,2 +1,4 @@
+pub mod Exchanged
 pub mod Gains
+pub mod Landing
 pub mod Settled

@@ -1,24 +1,20 @@
 -- Chains with a unit left out, and when a step is a gain.
-use Rattle.std.proofs.Common.{◌≡◌, ◌≢◌, ℕ, ◌+◌, ◌<◌, ◌≤◌, ◌⊎◌, List, [], ◌∷◌, ◌++◌, Vec, length, take, get_or, remove, sym, ap, ◌∙◌, arith, subst, inl, inr, IsTrue, nat_lt}
+use Rattle.std.proofs.Common.{◌≡◌, ◌≢◌, ℕ, ◌+◌, ◌*◌, ◌<◌, ◌≤◌, List, [], ◌∷◌, ◌++◌, Vec, length, take, get_or, remove, sym, ap, ◌∙◌, arith, subst, inl, inr, refl, Bool, true, false, IsTrue, nat_lt}
 use Rattle.std.proofs.lemmas.Bool.{cases_eq, cases_lt}
 use Rattle.std.proofs.lemmas.Bool.Decides.{nat_tests}
 use Rattle.std.proofs.lemmas.List.{map_push, take_all, take_more}
 use Rattle.std.proofs.lemmas.List.Edits.{get_or-remove_above, get_or-remove_below, length-remove}
-use Rattle.chain_rules.specs.Legality.{IsLegal, IsIn, IsOpen, chain_at, moved_plan, swapped_plan, taken_out, with_chain}
+use Rattle.chain_rules.specs.Legality.{IsLegal, chain_at, taken_out}
 use Rattle.chain_rules.specs.Plans.{lists_of}
 use Rattle.chain_rules.specs.declared.plan.Plan.{Plan}
-use Rattle.chain_rules.specs.declared.unit.Position.{Position}
 use Rattle.chain_rules.specs.declared.unit.Rules.{Rules}
 use Rattle.chain_rules.proofs.Steps.{with_chain_other, with_chain_same}
 use Rattle.wire_cost.specs.declared.ends.Ends.{Ends}
 use Rattle.wire_cost.specs.Lengths.{AreWithin, IsChainAt, plan_length_of}
 use Rattle.wire_cost.proofs.Plans.{chain_of_plan}
 use Rattle.order_search.specs.Searches.{AreSearchable}
-use Rattle.order_search.specs.Steps.{IsMove, IsReversal, IsSettled, IsStep, IsSwap}
-use Rattle.order_search.specs.declared.effort.Effort.TheVariants.{Full, Order}
 use Rattle.order_search.specs.Trials.{IsGain, at}
-use Rattle.order_search.proofs.Legal.{chain_few, chain_within, legal_plan_at}
-use Rattle.partition_moves.specs.Quiet.{HasNoMove, HasNoSwap}
+use Rattle.order_search.proofs.Legal.{chain_few, legal_plan_at}
 
 -- a chain of a legal plan, in range and with few units
 pub chain_in_range : (rules : Rules) (ends : Ends) (p : Plan) (c : ℕ) → c < length p.chains → AreSearchable rules ends → IsLegal rules p → IsChainAt ends c (chain_at p c)
@@ -77,3 +73,32 @@ pub copied_all : (p q : Plan) (xs : List (List ℕ)) (n : ℕ) → q.chains ≡ 
 copied_all p q xs n e f h =
     let make : List (List ℕ) → Plan = λ (ys : List (List ℕ)). (let r : Plan = record { chains = ys } in r) in
     ap make (e ∙ f ∙ take_all n p.chains h)
+
+-- a chain of the plan after a legal step, in range
+pub filled_range : (rules : Rules) (ends : Ends) (q r p : Plan) (d : ℕ) (us : List ℕ) → q ≡ r → AreSearchable rules ends → IsLegal rules r → IsLegal rules p → d < length p.chains → us ≡ chain_at q d → IsChainAt ends d us
+filled_range rules ends q r p d us e a new old h f =
+    let legal : IsLegal rules q = subst (IsLegal rules) (sym e) new in
+    in_range rules ends q d us (omega (arith, legal.chains, old.chains)) a legal f
+
+pub filled_few : (rules : Rules) (q r p : Plan) (d : ℕ) (us : List ℕ) (n : ℕ) → q ≡ r → IsLegal rules r → IsLegal rules p → d < length p.chains → us ≡ chain_at q d → length rules.units < 32 * n → length us < 32 * n
+filled_few rules q r p d us n e new old h f room =
+    let legal : IsLegal rules q = subst (IsLegal rules) (sym e) new in
+    omega (arith, ap (λ (xs : List ℕ). length xs) f, chain_few rules q d (omega (arith, legal.chains, old.chains)) legal, room)
+
+-- a plan that a pass left is still quiet, with one thing more
+pub still_quiet : (T : Plan → ℕ → Type 0) (p q : Plan) (n : ℕ) → q ≡ p → ((k : ℕ) → k < n → T p k) → T q n → (k : ℕ) → k < n + 1 → T p k
+still_quiet T p q n e all last k h = elim (cases_lt k n) [
+  | inl a ↦ all k a
+  | inr b ↦ (let m : n ≡ k = omega arith in subst (T p) m (subst (λ (x : Plan). T x n) e last))
+]
+
+pub not_both : (b : Bool) → b ≡ true → b ≡ false → ⊥
+not_both true p q = cc
+not_both false p q = cc
+
+pub not_true : (b : Bool) → b ≡ false → ¬ IsTrue b
+not_true b e h = not_both b h e
+
+pub is_false : (b : Bool) → ¬ IsTrue b → b ≡ false
+is_false true h = absurd (h refl)
+is_false false h = refl

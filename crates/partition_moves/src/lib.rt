@@ -1,9 +1,10 @@
 //! Settles plans for all steps: reversed runs, units moved to another place, and units of two chains exchanged.
 //!
-//! Floor: planning, on chain_rules, wire_cost, order_search and base_types.
+//! Floor: planning, on chain_rules, wire_cost, place_blocks, order_search and base_types.
 //! Contract: a settled plan is what `order_search/specs/Steps.antt` says. Begin with `settle.rt`.
 #![tactic(auto)]
 
+mod lift;
 mod moves;
 mod settle;
 mod swaps;

@@ -1,5 +1,5 @@
 //! Settles a plan for all steps.
-ghost use Rattle.std.specs.Prelude.{◌≡◌, ℕ, ◌<◌, ◌≤◌, length, IfOk, OnOk, OnErr};
+ghost use Rattle.std.specs.Prelude.{◌≡◌, ℕ, ◌*◌, ◌<◌, ◌≤◌, length, IfOk, OnOk, OnErr};
 ghost use Rattle.chain_rules.specs.Legality.{IsLegal, chain_at};
 ghost use Rattle.wire_cost.specs.Lengths.{plan_length_of};
 ghost use Rattle.order_search.specs.Searches.{AreSearchable};
@@ -11,6 +11,7 @@ use crate::swaps::swap_pass;
 use base_types::NoMemory;
 use chain_rules::{Plan, Rules};
 use order_search::settle_plan;
+use place_blocks::{Block, PLACES, no_block};
 use std::alloc::Global;
 use wire_cost::{Ends, Sums};
 
@@ -19,13 +20,13 @@ fn settle_steps(
     rules: &Rules,
     ends: &Ends,
     plan: &mut Plan,
-    room: &mut [u32],
+    blocks: &mut [Block],
     spare: &mut Vec<u32>,
     sums: &mut Sums,
 ) -> Result<(), NoMemory>
     requires searchable { AreSearchable rules.now ends.now }
     requires legal { IsLegal rules.now plan.old }
-    requires room { length rules.now.units ≤ length room.old }
+    requires room { length rules.now.units < 32 * length blocks.old }
     requires sums { length rules.now.units ≤ sums.old.room }
     ensures legal { OnOk result (IsLegal rules.now plan.new) }
     ensures no_longer { OnOk result (plan_length_of ends.now plan.new ≤ plan_length_of ends.now plan.old) }
@@ -34,9 +35,9 @@ fn settle_steps(
     let mut again = true;
     'passes: while again {
         settle_plan(rules, ends, plan, spare, sums);
-        again = move_pass(rules, ends, plan, room)?;
+        again = move_pass(rules, ends, plan, blocks)?;
         if !again {
-            again = swap_pass(rules, ends, plan, spare);
+            again = swap_pass(rules, ends, plan, blocks, spare);
         }
     }
     Ok(())
@@ -80,14 +81,14 @@ pub fn settle_all(
 {
     let units = rules.units.as_slice().len();
     let mut work = roomy_copy(alloc, rules, plan)?;
-    let mut room = vec![in alloc; 0; units]?;
+    let mut blocks = vec![in alloc; no_block(); units / PLACES + 1]?;
     let mut spare = Vec::new(alloc);
     let mut sums = Sums::make(alloc, units)?;
     settle_steps(
         rules,
         ends,
         &mut work,
-        room.as_mut_slice(),
+        blocks.as_mut_slice(),
         &mut spare,
         &mut sums,
     )?;

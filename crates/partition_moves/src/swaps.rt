@@ -1,12 +1,20 @@
 //! Exchanges of two units of two chains.
-ghost use Rattle.std.specs.Prelude.{◌≡◌, ◌≢◌, ℕ, ◌+◌, ◌<◌, ◌≤◌, ◌↔◌, cond, length, slice_set, IfSome, IfNone, IsTrue};
+//!
+//! An exchange that makes the plan shorter makes the two links of one of both places shorter; so each two units are tried
+//! from either side, and at a place whose links get no shorter nothing is tested.
+ghost use Rattle.std.specs.Prelude.{◌≡◌, ◌≢◌, ℕ, ◌+◌, ◌*◌, ◌<◌, ◌≤◌, ◌↔◌, cond, length, slice_set, IfSome, IfNone, IsTrue};
 ghost use Rattle.chain_rules.specs.Legality.{IsIn, IsLegal, chain_at, swapped_plan, with_chain};
-ghost use Rattle.wire_cost.specs.Lengths.{plan_length_of};
+ghost use Rattle.wire_cost.specs.Lengths.{chain_ends, plan_length_of};
+ghost use Rattle.place_blocks.specs.Covers.{AreBlocks};
 ghost use Rattle.order_search.specs.Searches.{AreSearchable};
-ghost use Rattle.order_search.specs.Trials.{IsGain, NoSwapOf, NoSwapWith, at};
-ghost use Rattle.partition_moves.specs.Quiet.{HasNoSwap};
+ghost use Rattle.order_search.specs.Trials.{IsGain, at};
+ghost use Rattle.partition_moves.specs.Links.{NoCloserSwapAt};
+ghost use Rattle.partition_moves.specs.Quiet.{HasNoSwap, NoCloserSwap};
 
+use crate::lift::{closer_place, lift_of};
+use crate::moves::are_together;
 use chain_rules::{Plan, Position, Rules, can_swap};
+use place_blocks::{Block, fill_blocks};
 use wire_cost::{Ends, entry_of, exit_of, point_after, point_before, wire};
 
 /// Whether an exchange that is told to be shorter or not is also legal.
@@ -19,24 +27,17 @@ fn is_swap(rules: &Rules, plan: &Plan, shorter: bool, one: Position, other: Posi
     shorter && can_swap(rules, plan, one, other)
 }
 
-/// The first place of chain d whose unit, exchanged with the one at place i of chain c, makes the plan shorter and leaves
-/// it legal.
-fn partner_for(
-    rules: &Rules,
-    ends: &Ends,
-    plan: &Plan,
-    c: usize,
-    i: usize,
-    d: usize,
-) -> Option<usize>
+/// Whether the exchange of the units at place i of chain c and at place j of chain d makes the plan shorter and leaves it
+/// legal.
+fn is_gain(rules: &Rules, ends: &Ends, plan: &Plan, c: usize, i: usize, d: usize, j: usize) -> bool
     requires searchable { AreSearchable rules.now ends.now }
     requires legal { IsLegal rules.now plan.now }
     requires chain { c < length plan.now.chains }
     requires place { i < length (chain_at plan.now c) }
     requires other { d < length plan.now.chains }
+    requires there { j < length (chain_at plan.now d) }
     requires apart { c ≢ d }
-    ensures found { IfSome result (λ j. (j < length (chain_at plan.now d)) × IsGain rules.now ends.now plan.now (swapped_plan plan.now (at c i) (at d j))) }
-    ensures none { IfNone result (NoSwapWith rules.now ends.now plan.now c i d) }
+    ensures value { IsTrue result ↔ IsGain rules.now ends.now plan.now (swapped_plan plan.now (at c i) (at d j)) }
 {
     let us = plan.chain(c);
     let ws = plan.chain(d);
@@ -49,46 +50,51 @@ fn partner_for(
         chain: c as u32,
         place: i as u32,
     };
-    for j in 0..ws.len() {
-        let its_entry = Some(entry_of(ends, ws[j]));
-        let its_exit = Some(exit_of(ends, ws[j]));
-        let left = point_before(ends, d as u32, ws, j);
-        let right = point_after(ends, d as u32, ws, j + 1);
-        let now = here + (wire(left, its_entry) + wire(its_exit, right));
-        let then = wire(before, its_entry)
-            + wire(its_exit, after)
-            + (wire(left, entry) + wire(exit, right));
-        let other = Position {
-            chain: d as u32,
-            place: j as u32,
-        };
-        if is_swap(rules, plan, then < now, one, other) {
-            return Some(j);
-        }
-    }
-    None
+    let its_entry = Some(entry_of(ends, ws[j]));
+    let its_exit = Some(exit_of(ends, ws[j]));
+    let left = point_before(ends, d as u32, ws, j);
+    let right = point_after(ends, d as u32, ws, j + 1);
+    let now = here + (wire(left, its_entry) + wire(its_exit, right));
+    let then = wire(before, its_entry)
+        + wire(its_exit, after)
+        + (wire(left, entry) + wire(exit, right));
+    let other = Position {
+        chain: d as u32,
+        place: j as u32,
+    };
+    is_swap(rules, plan, then < now, one, other)
 }
 
-/// The unit of another chain that, exchanged with the one at place i of chain c, makes the plan shorter and leaves it legal.
-fn partner_of(rules: &Rules, ends: &Ends, plan: &Plan, c: usize, i: usize) -> Option<Position>
+/// The first place of chain d whose unit, exchanged with the one at place i of chain c, makes the links there and the plan
+/// shorter and leaves it legal.
+fn partner_for(
+    rules: &Rules,
+    ends: &Ends,
+    plan: &Plan,
+    blocks: &[Block],
+    c: usize,
+    i: usize,
+    d: usize,
+) -> Option<usize>
     requires searchable { AreSearchable rules.now ends.now }
     requires legal { IsLegal rules.now plan.now }
     requires chain { c < length plan.now.chains }
     requires place { i < length (chain_at plan.now c) }
-    ensures within { IfSome result (λ other. IsIn plan.now other) }
-    ensures apart { IfSome result (λ other. c ≢ other.chain) }
-    ensures gain { IfSome result (λ other. IsGain rules.now ends.now plan.now (swapped_plan plan.now (at c i) other)) }
-    ensures none { IfNone result (NoSwapOf rules.now ends.now plan.now c i) }
+    requires other { d < length plan.now.chains }
+    requires apart { c ≢ d }
+    requires room { length rules.now.units < 32 * length blocks.now }
+    requires blocks { AreBlocks (chain_ends ends.now d) (chain_at plan.now d) blocks.now }
+    ensures found { IfSome result (λ j. (j < length (chain_at plan.now d)) × IsGain rules.now ends.now plan.now (swapped_plan plan.now (at c i) (at d j))) }
+    ensures none { IfNone result ((k : ℕ) → k < length (chain_at plan.now d) → NoCloserSwapAt rules.now ends.now plan.now c i d k) }
 {
-    for d in 0..plan.len() {
-        if c != d {
-            if let Some(j) = partner_for(rules, ends, plan, c, i, d) {
-                return Some(Position {
-                    chain: d as u32,
-                    place: j as u32,
-                });
-            }
+    let others = plan.chain(d);
+    let lift = lift_of(ends, c as u32, plan.chain(c), i);
+    let mut from = 0;
+    'places: while let Some(k) = closer_place(ends, d as u32, others, blocks, &lift, from) {
+        if is_gain(rules, ends, plan, c, i, d, k) {
+            return Some(k);
         }
+        from = k + 1;
     }
     None
 }
@@ -105,34 +111,81 @@ fn replace(plan: &mut Plan, c: usize, i: usize, unit: u32, spare: &mut Vec<u32>)
 }
 
 /// Exchanges two units of two chains.
-fn swap_units(plan: &mut Plan, c: usize, i: usize, other: Position, spare: &mut Vec<u32>)
+fn swap_units(plan: &mut Plan, c: usize, i: usize, d: usize, j: usize, spare: &mut Vec<u32>)
     requires chain { c < length plan.old.chains }
     requires place { i < length (chain_at plan.old c) }
-    requires other { IsIn plan.old other }
-    requires apart { c ≢ other.chain }
-    ensures value { plan.new ≡ swapped_plan plan.old (at c i) other }
+    requires other { d < length plan.old.chains }
+    requires there { j < length (chain_at plan.old d) }
+    requires apart { c ≢ d }
+    ensures value { plan.new ≡ swapped_plan plan.old (at c i) (at d j) }
 {
-    let (d, j) = (other.chain as usize, other.place as usize);
     let one = plan.chain(c)[i];
     let two = plan.chain(d)[j];
     replace(plan, c, i, two, spare);
     replace(plan, d, j, one, spare);
 }
 
-/// Exchanges each unit of a chain once, where an exchange makes the plan shorter, and tells whether one did.
-fn swaps_from(rules: &Rules, ends: &Ends, plan: &mut Plan, c: usize, spare: &mut Vec<u32>) -> bool
+/// Exchanges two units, as the plan gets shorter by, and fills in the blocks of the chain of the latter.
+fn take_swap(
+    rules: &Rules,
+    ends: &Ends,
+    plan: &mut Plan,
+    blocks: &mut [Block],
+    spare: &mut Vec<u32>,
+    c: usize,
+    i: usize,
+    d: usize,
+    j: usize,
+)
     requires searchable { AreSearchable rules.now ends.now }
     requires legal { IsLegal rules.now plan.old }
     requires chain { c < length plan.old.chains }
+    requires place { i < length (chain_at plan.old c) }
+    requires other { d < length plan.old.chains }
+    requires there { j < length (chain_at plan.old d) }
+    requires apart { c ≢ d }
+    requires gain { IsGain rules.now ends.now plan.old (swapped_plan plan.old (at c i) (at d j)) }
+    requires room { length rules.now.units < 32 * length blocks.old }
+    ensures legal { IsLegal rules.now plan.new }
+    ensures shorter { plan_length_of ends.now plan.new < plan_length_of ends.now plan.old }
+    ensures blocks { AreBlocks (chain_ends ends.now d) (chain_at plan.new d) blocks.new }
+    ensures room { length blocks.new ≡ length blocks.old }
+{
+    swap_units(plan, c, i, d, j, spare);
+    fill_blocks(blocks, ends, d as u32, plan.chain(d));
+}
+
+/// Exchanges each unit of chain c once with one of chain d, where such an exchange makes the plan shorter, and tells whether
+/// one did. The blocks are those of chain d, before and afterwards.
+fn swaps_between(
+    rules: &Rules,
+    ends: &Ends,
+    plan: &mut Plan,
+    blocks: &mut [Block],
+    spare: &mut Vec<u32>,
+    c: usize,
+    d: usize,
+) -> bool
+    requires searchable { AreSearchable rules.now ends.now }
+    requires legal { IsLegal rules.now plan.old }
+    requires chain { c < length plan.old.chains }
+    requires other { d < length plan.old.chains }
+    requires room { length rules.now.units < 32 * length blocks.old }
+    requires blocks { AreBlocks (chain_ends ends.now d) (chain_at plan.old d) blocks.old }
     ensures legal { IsLegal rules.now plan.new }
     ensures shorter { plan_length_of ends.now plan.new + cond result 1 0 ≤ plan_length_of ends.now plan.old }
-    ensures quiet { ¬ IsTrue result → (plan.new ≡ plan.old) × ((i : ℕ) → i < length (chain_at plan.old c) → NoSwapOf rules.now ends.now plan.old c i) }
+    ensures room { length blocks.new ≡ length blocks.old }
+    ensures blocks { AreBlocks (chain_ends ends.now d) (chain_at plan.new d) blocks.new }
+    ensures quiet { ¬ IsTrue result → (plan.new ≡ plan.old) × NoCloserSwap rules.now ends.now plan.old c d }
 {
+    if c == d || !are_together(rules, c, d) {
+        return false;
+    }
     let mut again = false;
     for i in 0..plan.chain(c).len() {
         if i < plan.chain(c).len() {
-            if let Some(other) = partner_of(rules, ends, plan, c, i) {
-                swap_units(plan, c, i, other, spare);
+            if let Some(j) = partner_for(rules, ends, plan, blocks, c, i, d) {
+                take_swap(rules, ends, plan, blocks, spare, c, i, d, j);
                 again = true;
             }
         }
@@ -140,17 +193,54 @@ fn swaps_from(rules: &Rules, ends: &Ends, plan: &mut Plan, c: usize, spare: &mut
     again
 }
 
-/// Goes once over all units and exchanges each that an exchange makes the plan shorter by; tells whether there was one.
-pub(crate) fn swap_pass(rules: &Rules, ends: &Ends, plan: &mut Plan, spare: &mut Vec<u32>) -> bool
+/// Exchanges each unit once with one of chain d, where such an exchange makes the plan shorter, and tells
+/// whether one did.
+fn swaps_into(
+    rules: &Rules,
+    ends: &Ends,
+    plan: &mut Plan,
+    blocks: &mut [Block],
+    spare: &mut Vec<u32>,
+    d: usize,
+) -> bool
     requires searchable { AreSearchable rules.now ends.now }
     requires legal { IsLegal rules.now plan.old }
+    requires chain { d < length plan.old.chains }
+    requires room { length rules.now.units < 32 * length blocks.old }
     ensures legal { IsLegal rules.now plan.new }
     ensures shorter { plan_length_of ends.now plan.new + cond result 1 0 ≤ plan_length_of ends.now plan.old }
+    ensures room { length blocks.new ≡ length blocks.old }
+    ensures quiet { ¬ IsTrue result → (plan.new ≡ plan.old) × ((c : ℕ) → c < length plan.old.chains → NoCloserSwap rules.now ends.now plan.old c d) }
+{
+    fill_blocks(blocks, ends, d as u32, plan.chain(d));
+    let mut again = false;
+    for c in 0..plan.len() {
+        if swaps_between(rules, ends, plan, blocks, spare, c, d) {
+            again = true;
+        }
+    }
+    again
+}
+
+/// Goes once over all units and exchanges each that an exchange makes the plan shorter by; tells whether there was one.
+pub(crate) fn swap_pass(
+    rules: &Rules,
+    ends: &Ends,
+    plan: &mut Plan,
+    blocks: &mut [Block],
+    spare: &mut Vec<u32>,
+) -> bool
+    requires searchable { AreSearchable rules.now ends.now }
+    requires legal { IsLegal rules.now plan.old }
+    requires room { length rules.now.units < 32 * length blocks.old }
+    ensures legal { IsLegal rules.now plan.new }
+    ensures shorter { plan_length_of ends.now plan.new + cond result 1 0 ≤ plan_length_of ends.now plan.old }
+    ensures room { length blocks.new ≡ length blocks.old }
     ensures quiet { ¬ IsTrue result → (plan.new ≡ plan.old) × HasNoSwap rules.now ends.now plan.old }
 {
     let mut again = false;
-    for c in 0..plan.len() {
-        if swaps_from(rules, ends, plan, c, spare) {
+    for d in 0..plan.len() {
+        if swaps_into(rules, ends, plan, blocks, spare, d) {
             again = true;
         }
     }

@@ -1,68 +1,56 @@
-use Rattle.std.proofs.Common.{◌≡◌, ◌+◌, ◌≤◌, ◌<◌, ℕ, length, arith, refl, Some}
-use borrow.Author.Count.{below_more}
-use Rattle.std.proofs.lemmas.Bool.{iff_false}
-use Rattle.chain_rules.specs.Legality.{moved_plan}
-use Rattle.chain_rules.specs.declared.plan.Plan.{Plan}
-use Rattle.wire_cost.specs.Lengths.{plan_length_of}
-use Rattle.order_search.specs.Trials.{IsGain, at}
+use Rattle.std.proofs.Common.{◌≡◌, ℕ, List, length, ap, arith, inl, inr, subst}
+use Rattle.std.proofs.lemmas.Bool.{cases_lt}
+use Rattle.chain_rules.specs.Legality.{chain_at}
+use Rattle.wire_cost.specs.Lengths.{chain_ends}
 use Rattle.order_search.proofs.Legal.{chain_few}
-use Rattle.partition_moves.proofs.Gains.{move_links}
-use Rattle.partition_moves.proofs.Settled.{gain_by, in_range, others_in_range, place_in, shorter_by}
+use Rattle.partition_moves.specs.Links.{IsLift, IsShorterAt, NoMoveAt}
+use Rattle.partition_moves.proofs.Landing.{a_gain, no_move_to, no_shorter, only_apart}
+use Rattle.partition_moves.proofs.Settled.{in_range}
 use Rattle.partition_moves.proofs.moves.place_for.Goals as goal
 
-pub entry_of-requires-clause-within : goal.entry_of-requires-clause-within
-entry_of-requires-clause-within c = (in_range c.args.rules.now c.args.ends.now c.args.plan.now c.args.c c.chain-us.result.now c.requires.chain c.requires.searchable c.requires.legal c.chain-us.ensures.value).entry c.args.i (place_in _ _ c.args.i c.chain-us.ensures.value c.requires.place)
+pub lift_of-lift-requires-clause-chain : goal.lift_of-lift-requires-clause-chain
+lift_of-lift-requires-clause-chain c = in_range c.args.rules.now c.args.ends.now c.args.plan.now c.args.c c.chain.result.now c.requires.chain c.requires.searchable c.requires.legal c.chain.ensures.value
 
-pub exit_of-requires-clause-within : goal.exit_of-requires-clause-within
-exit_of-requires-clause-within c = (in_range c.args.rules.now c.args.ends.now c.args.plan.now c.args.c c.chain-us.result.now c.requires.chain c.requires.searchable c.requires.legal c.chain-us.ensures.value).exit c.args.i (place_in _ _ c.args.i c.chain-us.ensures.value c.requires.place)
+pub shorter_place-requires-clause-chain : goal.shorter_place-requires-clause-chain
+shorter_place-requires-clause-chain c = in_range c.args.rules.now c.args.ends.now c.args.plan.now c.args.d c.chain-others.result.now c.requires.other c.requires.searchable c.requires.legal c.chain-others.ensures.value
 
-pub point_before-before-requires-clause-chain : goal.point_before-before-requires-clause-chain
-point_before-before-requires-clause-chain c = in_range c.args.rules.now c.args.ends.now c.args.plan.now c.args.c c.chain-us.result.now c.requires.chain c.requires.searchable c.requires.legal c.chain-us.ensures.value
+pub shorter_place-requires-clause-room : goal.shorter_place-requires-clause-room
+shorter_place-requires-clause-room c = omega (arith, ap (λ (us : List ℕ). length us) c.chain-others.ensures.value, chain_few c.args.rules.now c.args.plan.now c.args.d c.requires.other c.requires.legal, c.requires.room)
 
-pub point_after-after-requires-clause-chain : goal.point_after-after-requires-clause-chain
-point_after-after-requires-clause-chain c = in_range c.args.rules.now c.args.ends.now c.args.plan.now c.args.c c.chain-us.result.now c.requires.chain c.requires.searchable c.requires.legal c.chain-us.ensures.value
+pub open_place-requires-clause-few : goal.open_place-requires-clause-few
+open_place-requires-clause-few c = omega (arith, chain_few c.args.rules.now c.args.plan.now c.args.c c.requires.chain c.requires.legal, c.requires.searchable.few_units)
 
-pub overflow_cast-from-2 : goal.overflow_cast-from-2
-overflow_cast-from-2 c = omega (arith, chain_few c.args.rules.now c.args.plan.now c.args.c c.requires.chain c.requires.legal, c.requires.searchable.few_units)
+pub open_place-requires-clause-others_few : goal.open_place-requires-clause-others_few
+open_place-requires-clause-others_few c = omega (arith, chain_few c.args.rules.now c.args.plan.now c.args.d c.requires.other c.requires.legal, c.requires.searchable.few_units)
 
-pub point_before-left-requires-clause-chain : goal.point_before-left-requires-clause-chain
-point_before-left-requires-clause-chain c = others_in_range c.args.rules.now c.args.ends.now c.args.plan.now c.args.c c.args.i c.args.d c.args.others.now c.requires.chain c.requires.place c.requires.other c.requires.searchable c.requires.legal c.requires.others
+pub returns-in-Some-open_place-clause-found : goal.returns-in-Some-open_place-clause-found
+returns-in-Some-open_place-clause-found c =
+    let lift : IsLift (chain_ends c.args.ends.now c.args.c) (chain_at c.args.plan.now c.args.c) c.args.i c.lift_of-lift.result = subst (λ (us : List ℕ). IsLift (chain_ends c.args.ends.now c.args.c) us c.args.i c.lift_of-lift.result) c.chain.ensures.value c.lift_of-lift.ensures.value in
+    let less : IsShorterAt (chain_ends c.args.ends.now c.args.d) (chain_at c.args.plan.now c.args.d) c.lift_of-lift.result c.in-Some.k = subst (λ (us : List ℕ). IsShorterAt (chain_ends c.args.ends.now c.args.d) us c.lift_of-lift.result c.in-Some.k) c.chain-others.ensures.value c.in-Some.ensures.found in
+    let long = ap (λ (us : List ℕ). length us) c.chain-others.ensures.value in
+    a_gain c.args.rules.now c.args.ends.now c.args.plan.now c.args.c c.args.i c.args.d c.in-Some.k c.in-Some-open_place.j c.lift_of-lift.result c.requires.chain c.requires.place c.requires.other (omega (arith, long, c.in-Some.ensures.within.1)) lift less
+    c.in-Some-open_place.ensures.lands c.in-Some-open_place.ensures.apart c.in-Some-open_place.ensures.legal
 
-pub point_after-right-requires-clause-chain : goal.point_after-right-requires-clause-chain
-point_after-right-requires-clause-chain c = others_in_range c.args.rules.now c.args.ends.now c.args.plan.now c.args.c c.args.i c.args.d c.args.others.now c.requires.chain c.requires.place c.requires.other c.requires.searchable c.requires.legal c.requires.others
+pub places-preserved : goal.places-preserved
+places-preserved c k p q =
+    let lift : IsLift (chain_ends c.args.ends.now c.args.c) (chain_at c.args.plan.now c.args.c) c.args.i c.lift_of-lift.result = subst (λ (us : List ℕ). IsLift (chain_ends c.args.ends.now c.args.c) us c.args.i c.lift_of-lift.result) c.chain.ensures.value c.lift_of-lift.ensures.value in
+    elim (cases_lt k c.places.from) [
+      | inl a ↦ c.places.invariant k a q
+      | inr a ↦ elim (cases_lt k c.in-Some.k) [
+        | inl b ↦ no_shorter c.args.rules.now c.args.ends.now c.args.plan.now c.args.c c.args.i c.args.d k c.lift_of-lift.result c.requires.chain c.requires.place c.requires.other q lift
+            (subst (λ (us : List ℕ). ¬ IsShorterAt (chain_ends c.args.ends.now c.args.d) us c.lift_of-lift.result k) c.chain-others.ensures.value (c.in-Some.ensures.least k a b))
+        | inr b ↦ (
+            let e : c.in-Some.k ≡ k = omega arith in
+            subst (NoMoveAt c.args.rules.now c.args.ends.now c.args.plan.now c.args.c c.args.i c.args.d) e
+            (only_apart c.args.rules.now c.args.ends.now c.args.plan.now c.args.c c.args.i c.args.d c.in-Some.k c.requires.chain c.requires.place (λ j lands apart g. c.in_default-open_place.ensures.none j lands apart g.legal)))
+      ]
+    ]
 
-pub overflow_cast-to-in-loop-j : goal.overflow_cast-to-in-loop-j
-overflow_cast-to-in-loop-j c =
-    let r = others_in_range c.args.rules.now c.args.ends.now c.args.plan.now c.args.c c.args.i c.args.d c.args.others.now c.requires.chain c.requires.place c.requires.other c.requires.searchable c.requires.legal c.requires.others in
-    omega (arith, r.few)
-
-pub returns-then-is_move-clause-found : goal.returns-then-is_move-clause-found
-returns-then-is_move-clause-found c =
-    let p = c.args.plan.now in
-    let ends = c.args.ends.now in
-    let q : Plan = moved_plan c.args.plan.now (at c.args.c c.args.i) (at c.args.d c.loop-j.j) in
-    let now : ℕ = c.wire-in-loop-j.result + (c.wire.result + c.wire-2.result) in
-    let then : ℕ = c.wire-in-loop-j-2.result + c.wire-in-loop-j-3.result + c.wire-closed.result in
-    let links = move_links c.args.ends.now c.args.plan.now c.args.c c.args.i c.args.d c.loop-j.j c.chain-us.result.now c.args.others.now c.point_before-before.result c.point_after-after.result c.point_before-left.result c.point_after-right.result (Some c.entry_of.result) (Some c.exit_of.result)
-    c.wire.result c.wire-2.result c.wire-closed.result c.wire-in-loop-j.result c.wire-in-loop-j-2.result c.wire-in-loop-j-3.result
-    c.requires.chain (place_in _ _ c.args.i c.chain-us.ensures.value c.requires.place) c.requires.other c.chain-us.ensures.value c.requires.others
-    c.point_before-before.ensures.value c.point_after-after.ensures.value c.point_before-left.ensures.value c.point_after-right.ensures.value c.entry_of.ensures.value c.exit_of.ensures.value
-    c.wire.ensures.value c.wire-2.ensures.value c.wire-closed.ensures.value c.wire-in-loop-j.ensures.value c.wire-in-loop-j-2.ensures.value c.wire-in-loop-j-3.ensures.value in
-    let e : plan_length_of ends q + now ≡ plan_length_of ends p + then = omega (arith, links) in
-    let y = c.if-is_move.ensures.value.0 refl in
-    (omega arith, gain_by c.args.rules.now ends p q now then e y.0 y.1)
-
-pub loop-j-preserved : goal.loop-j-preserved
-loop-j-preserved c =
-    let p = c.args.plan.now in
-    let ends = c.args.ends.now in
-    let q : Plan = moved_plan c.args.plan.now (at c.args.c c.args.i) (at c.args.d c.loop-j.j) in
-    let now : ℕ = c.wire-in-loop-j.result + (c.wire.result + c.wire-2.result) in
-    let then : ℕ = c.wire-in-loop-j-2.result + c.wire-in-loop-j-3.result + c.wire-closed.result in
-    let links = move_links c.args.ends.now c.args.plan.now c.args.c c.args.i c.args.d c.loop-j.j c.chain-us.result.now c.args.others.now c.point_before-before.result c.point_after-after.result c.point_before-left.result c.point_after-right.result (Some c.entry_of.result) (Some c.exit_of.result)
-    c.wire.result c.wire-2.result c.wire-closed.result c.wire-in-loop-j.result c.wire-in-loop-j-2.result c.wire-in-loop-j-3.result
-    c.requires.chain (place_in _ _ c.args.i c.chain-us.ensures.value c.requires.place) c.requires.other c.chain-us.ensures.value c.requires.others
-    c.point_before-before.ensures.value c.point_after-after.ensures.value c.point_before-left.ensures.value c.point_after-right.ensures.value c.entry_of.ensures.value c.exit_of.ensures.value
-    c.wire.ensures.value c.wire-2.ensures.value c.wire-closed.ensures.value c.wire-in-loop-j.ensures.value c.wire-in-loop-j-2.ensures.value c.wire-in-loop-j-3.ensures.value in
-    let e : plan_length_of ends q + now ≡ plan_length_of ends p + then = omega (arith, links) in
-    below_more (λ (k : ℕ). ¬ IsGain c.args.rules.now ends p (moved_plan p (at c.args.c c.args.i) (at c.args.d k))) c.loop-j.j c.loop-j.invariant (λ g. iff_false c.is_move.ensures.value c.if-is_move.false (shorter_by c.args.rules.now ends p q now then e g, g.legal))
+pub returns-clause-none : goal.returns-clause-none
+returns-clause-none c =
+    let lift : IsLift (chain_ends c.args.ends.now c.args.c) (chain_at c.args.plan.now c.args.c) c.args.i c.lift_of-lift.result = subst (λ (us : List ℕ). IsLift (chain_ends c.args.ends.now c.args.c) us c.args.i c.lift_of-lift.result) c.chain.ensures.value c.lift_of-lift.ensures.value in
+    no_move_to c.args.rules.now c.args.ends.now c.args.plan.now c.args.c c.args.i c.args.d c.requires.chain c.requires.place (λ k q. elim (cases_lt k c.places.from) [
+      | inl a ↦ c.places.invariant k a q
+      | inr a ↦ no_shorter c.args.rules.now c.args.ends.now c.args.plan.now c.args.c c.args.i c.args.d k c.lift_of-lift.result c.requires.chain c.requires.place c.requires.other q lift
+          (subst (λ (us : List ℕ). ¬ IsShorterAt (chain_ends c.args.ends.now c.args.d) us c.lift_of-lift.result k) c.chain-others.ensures.value (c.in_default.ensures.none k a (omega (arith, ap (λ (us : List ℕ). length us) c.chain-others.ensures.value, q))))
+    ])

@@ -1,7 +1,10 @@
-use Rattle.std.proofs.Common.{ℕ, ◌<◌}
-use Rattle.chain_rules.specs.Legality.{moved_plan}
-use Rattle.order_search.specs.Trials.{IsGain, at}
+use Rattle.std.proofs.Common.{ℕ, ◌+◌, ◌-◌, ◌<◌, ◌≤◌, length}
+use Rattle.chain_rules.specs.Legality.{chain_at}
+use Rattle.partition_moves.specs.Links.{NoMoveAt}
 use Rattle.partition_moves.proofs.moves.place_for.Given as goal
 
-abbrev pub invariant-loop-j : goal.invariant-loop-j
-invariant-loop-j l = (k : ℕ) → k < l.j → ¬ IsGain l.rules l.ends l.plan (moved_plan l.plan (at l.c l.i) (at l.d k))
+abbrev pub invariant-places : goal.invariant-places
+invariant-places l = (k : ℕ) → k < l.from → k ≤ length (chain_at l.plan l.d) → NoMoveAt l.rules l.ends l.plan l.c l.i l.d k
+
+abbrev pub decreases-places : goal.decreases-places
+decreases-places l = length (chain_at l.plan l.d) + 1 - l.from

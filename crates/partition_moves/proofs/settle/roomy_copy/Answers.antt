@@ -1,4 +1,4 @@
-use Rattle.std.proofs.Common.{◌≡◌, ℕ, List, ◌++◌, ap, ◌∙◌, arith}
+use Rattle.std.proofs.Common.{ℕ, List, ◌++◌, ap, ◌∙◌, arith}
 use Rattle.partition_moves.proofs.Settled.{copied_all, copied_more}
 use Rattle.partition_moves.proofs.settle.roomy_copy.Goals as goal
 

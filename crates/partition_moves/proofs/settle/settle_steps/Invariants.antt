@@ -1,4 +1,4 @@
-use Rattle.std.proofs.Common.{◌≡◌, ℕ, ◌+◌, ◌≤◌, cond, false, length}
+use Rattle.std.proofs.Common.{◌≡◌, ◌+◌, ◌*◌, ◌<◌, ◌≤◌, cond, false, length}
 use Rattle.chain_rules.specs.Legality.{IsLegal}
 use Rattle.wire_cost.specs.Lengths.{plan_length_of}
 use Rattle.order_search.specs.Steps.{IsSettled}
@@ -8,6 +8,7 @@ use Rattle.partition_moves.proofs.settle.settle_steps.Given as goal
 abbrev pub invariant-passes : goal.invariant-passes
 invariant-passes l = record {
   legal : IsLegal l.rules l.plan;
+  room : length l.rules.units < 32 * length l.blocks;
   no_longer : plan_length_of l.ends l.plan ≤ plan_length_of l.ends l.fn.plan;
   sums : length l.rules.units ≤ l.sums.room;
   settled : l.again ≡ false → IsSettled Full l.rules l.ends l.plan;

@@ -1,13 +1,14 @@
 use Rattle.std.proofs.Common.{◌≡◌, ℕ, ◌+◌, ◌<◌, ◌≤◌, cond, false, length}
-use Rattle.chain_rules.specs.Legality.{IsLegal, chain_at}
+use Rattle.chain_rules.specs.Legality.{IsLegal}
 use Rattle.wire_cost.specs.Lengths.{plan_length_of}
-use Rattle.order_search.specs.Trials.{NoSwapOf}
+use Rattle.partition_moves.specs.Quiet.{NoCloserSwap}
 use Rattle.partition_moves.proofs.swaps.swap_pass.Given as goal
 
-abbrev pub invariant-loop-c : goal.invariant-loop-c
-invariant-loop-c l = record {
+abbrev pub invariant-loop-d : goal.invariant-loop-d
+invariant-loop-d l = record {
   legal : IsLegal l.rules l.plan;
+  room : length l.blocks ≡ length l.fn.blocks;
   shorter : plan_length_of l.ends l.plan + cond l.again 1 0 ≤ plan_length_of l.ends l.fn.plan;
   same : l.again ≡ false → l.plan ≡ l.fn.plan;
-  quiet : l.again ≡ false → (d : ℕ) → d < l.c → (i : ℕ) → i < length (chain_at l.fn.plan d) → NoSwapOf l.rules l.ends l.fn.plan d i;
+  quiet : l.again ≡ false → (e : ℕ) → e < l.d → (c : ℕ) → c < length l.fn.plan.chains → NoCloserSwap l.rules l.ends l.fn.plan c e;
 }

@@ -1,0 +1,39 @@
+-- Rows of lists, as one more is looked at.
+use Rattle.std.proofs.Common.{◌≡◌, ℕ, ◌+◌, ◌<◌, ◌≤◌, List, [], ◌∷◌, ◌++◌, length, map, get_or, take, sym, ap, ◌∙◌, subst, append_assoc}
+use Rattle.std.specs.List.{flat_map}
+use Rattle.std.proofs.lemmas.List.{take_more, take_all, map-append, append-nil}
+
+pub take_next : {A : Type 0} (xs : List A) (i : ℕ) (x : A) → i < length xs → x ≡ get_or xs i x → take (i + 1) xs ≡ take i xs ++ x ∷ []
+take_next xs i x lt is = take_more xs i x lt ∙ ap (λ y. take i xs ++ y ∷ []) (sym is)
+
+pub map_next : {A B : Type 0} (f : A → B) (xs : List A) (i : ℕ) (x : A) → i < length xs → x ≡ get_or xs i x → map f (take (i + 1) xs) ≡ map f (take i xs) ++ f x ∷ []
+map_next f xs i x lt is = ap (map f) (take_next xs i x lt is) ∙ map-append f (take i xs) (x ∷ [])
+
+flat_last : {A B : Type 0} (f : A → List B) (xs : List A) (x : A) → flat_map f (xs ++ x ∷ []) ≡ flat_map f xs ++ f x
+flat_last f [] x = append-nil (f x)
+flat_last f (y ∷ ys) x = ap (λ l. f y ++ l) (flat_last f ys x) ∙ sym (append_assoc (f y) (flat_map f ys) (f x))
+
+pub flat_next : {A B : Type 0} (f : A → List B) (xs : List A) (i : ℕ) (x : A) → i < length xs → x ≡ get_or xs i x → flat_map f (take (i + 1) xs) ≡ flat_map f (take i xs) ++ f x
+flat_next f xs i x lt is = ap (flat_map f) (take_next xs i x lt is) ∙ flat_last f (take i xs) x
+
+-- of names with their lines
+pub row_next : {X : Type 0} (name : X → List ℕ) (line : X → ℕ) (xs : List X) (i : ℕ) (x : X) (n : List ℕ) (l : ℕ) (P : List (List ℕ × ℕ) → Type 0) → i < length xs → x ≡ get_or xs i x → n ≡ name x → l ≡ line x
+    → P (map (λ r. (name r, line r)) (take i xs) ++ (n, l) ∷ []) → P (map (λ r. (name r, line r)) (take (i + 1) xs))
+row_next name line xs i x n l P lt is named lined holds =
+    let last : (n, l) ≡ (name x, line x) = ap (λ (m : List ℕ). (m, l)) named ∙ ap (λ (k : ℕ). (name x, k)) lined in
+    subst P (ap (λ (r : List ℕ × ℕ). map (λ r. (name r, line r)) (take i xs) ++ r ∷ []) last ∙ sym (map_next (λ r. (name r, line r)) xs i x lt is)) holds
+
+pub rows_all : {X : Type 0} (name : X → List ℕ) (line : X → ℕ) (xs : List X) (i : ℕ) (P : List (List ℕ × ℕ) → Type 0) → length xs ≤ i
+    → P (map (λ r. (name r, line r)) (take i xs)) → P (map (λ r. (name r, line r)) xs)
+rows_all name line xs i P le holds = subst P (ap (map (λ r. (name r, line r))) (take_all i xs le)) holds
+
+-- of the connections of a net
+pub pins_next : {K : Type 0} (rows : List (K × ℕ)) (items pins : List K) (line i : ℕ) (x : K) → items ≡ pins → i < length items → x ≡ get_or items i x
+    → (rows ++ map (λ p. (p, line)) (take i pins)) ++ (x, line) ∷ [] ≡ rows ++ map (λ p. (p, line)) (take (i + 1) pins)
+pins_next {K} rows items pins line i x same lt is =
+    let f : K → K × ℕ = λ p. (p, line) in
+    append_assoc rows (map f (take i pins)) ((x, line) ∷ [])
+    ∙ ap (λ (l : List (K × ℕ)). rows ++ l) (ap (λ (ps : List K). map f (take i ps) ++ (x, line) ∷ []) (sym same) ∙ sym (map_next f items i x lt is) ∙ ap (λ (ps : List K). map f (take (i + 1) ps)) same)
+
+pub pins_all : {K : Type 0} (rows : List (K × ℕ)) (items pins : List K) (line i : ℕ) → items ≡ pins → length items ≤ i → rows ++ map (λ p. (p, line)) (take i pins) ≡ rows ++ map (λ p. (p, line)) pins
+pins_all {K} rows items pins line i same le = ap (λ (l : List K). rows ++ map (λ p. (p, line)) l) (take_all i pins (subst (λ (l : List K). length l ≤ i) same le))

@@ -1,0 +1,34 @@
+use Rattle.std.proofs.Common.{◌≡◌, ℕ, Option, Some, None, sym, ap, ◌∙◌, subst}
+use Rattle.std.proofs.lemmas.Result.{err_from_is_err_and}
+use Rattle.def_syntax.specs.declared.design.DesignText.{DesignText}
+use Rattle.def_reader.specs.declared.design.Design.{Design}
+use Rattle.def_reader.specs.Designs.{design_of}
+use Rattle.def_reader.specs.Faults.{TwiceAt}
+use Rattle.def_reader.specs.Steps.{IsLeast}
+use Rattle.def_reader.proofs.DesignFaults.{form_stage, number_first, twice_first, no_fault}
+use Rattle.def_reader.proofs.reading.read_design.Goals as goal
+
+pub returns-in_err-text-clause-fault : goal.returns-in_err-text-clause-fault
+returns-in_err-text-clause-fault c =
+    let p = err_from_is_err_and c.from_residual.result c.from_residual.ensures.1 in
+    rw (p.1, p.2) (form_stage Design c.args.bytes.now c.in_err-text.field-0.0 c.in_err-text.ensures.exactly)
+
+pub returns-in-Some-clause-fault : goal.returns-in-Some-clause-fault
+returns-in-Some-clause-fault c = rw c.fault_at.ensures.value (number_first c.args.bytes.now c.in_ok-text.text c.in_ok-text.ensures.exactly c.in-Some.line c.in-Some.ensures.value)
+
+pub returns-in-Some-2-clause-fault : goal.returns-in-Some-2-clause-fault
+returns-in-Some-2-clause-fault c =
+    let text = c.in_ok-text.text in
+    let twice = c.in_ok-line.ensures.value c.args.bytes.now c.args.table.now text c.in_ok-design.ensures.value (c.as_slice.ensures.value ∙ c.in_ok-design.ensures.sections) in
+    rw c.fault_at-in-Some-2.ensures.value
+    (twice_first c.args.bytes.now text c.in_ok-text.ensures.exactly c.in-Some-2.line c.in_default.ensures.value (subst (λ (r : Option ℕ). IsLeast (TwiceAt c.args.bytes.now text) r) c.in-Some-2.is twice))
+
+pub returns-clause-only : goal.returns-clause-only
+returns-clause-only c = λ other d.
+    d.is ∙ ap (λ (t : DesignText). design_of c.args.bytes.now c.args.table.now t) (c.in_ok-text.ensures.exactly.1 d.statements d.reads) ∙ sym c.in_ok-design.ensures.value
+
+pub returns-clause-no_fault : goal.returns-clause-no_fault
+returns-clause-no_fault c =
+    let text = c.in_ok-text.text in
+    let twice = c.in_ok-line.ensures.value c.args.bytes.now c.args.table.now text c.in_ok-design.ensures.value (c.as_slice.ensures.value ∙ c.in_ok-design.ensures.sections) in
+    no_fault c.args.bytes.now text c.in_ok-text.ensures.exactly c.in_default.ensures.value (subst (λ (r : Option ℕ). IsLeast (TwiceAt c.args.bytes.now text) r) c.in_default-2.is twice)

@@ -1,0 +1,9 @@
+pub mod Denoted
+pub mod Designs
+pub mod Faults
+pub mod Numbers
+pub mod Places
+pub mod Seen
+pub mod SeenConnections
+pub mod Steps
+pub mod Words

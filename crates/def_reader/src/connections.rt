@@ -1,0 +1,71 @@
+//! Connections that stand a second time.
+ghost use Rattle.std.specs.Prelude.{◌≡◌, ◌∷◌, ◌++◌, [], ℕ, List, IfOk, OnOk};
+ghost use Rattle.def_reader.specs.declared.design.NetPin.{NetPin as ghost_pin};
+ghost use Rattle.def_reader.specs.Faults.{StandsAgain, connections_of, connection_rows};
+ghost use Rattle.def_reader.specs.Steps.{IsLeast, pin_of_key};
+ghost use Rattle.def_reader.specs.SeenConnections.{IsSeenPins};
+
+use crate::design::{Net, NetPin};
+use crate::least::{lesser, line_if};
+use base_types::NoMemory;
+use std::alloc::Global;
+use std::collections::HashSet;
+
+/// The connections so far, each by its component, or None at a design pin, and its pin; and the least line at which one
+/// stood again.
+#[derive(Drop)]
+pub(crate) struct SeenPins<'a> {
+    pins: HashSet<(Option<&'a [u8]>, &'a [u8])>,
+    least: Option<u64>,
+}
+
+fn key_of(pin: &NetPin) -> (Option<&[u8]>, &[u8])
+    ensures value { pin_of_key result ≡ pin.now }
+{
+    match pin {
+        NetPin::Cell { component, pin } => (Some(component.bytes()), pin.bytes()),
+        NetPin::Port(pin) => (None, pin.bytes()),
+    }
+}
+
+impl<'a> SeenPins<'a> {
+    /// Nothing yet.
+    fn new(alloc: Global) -> SeenPins<'a>
+        ensures value { IsSeenPins result [] }
+    {
+        SeenPins {
+            pins: HashSet::new(alloc),
+            least: None,
+        }
+    }
+
+    /// Adds a connection on a line.
+    fn add(&mut self, pin: &'a NetPin, line: u64) -> Result<(), NoMemory>
+        ensures value { OnOk result ((rows : List (ghost_pin × ℕ)) → IsSeenPins self.old rows → IsSeenPins self.new (rows ++ (pin.now, line) ∷ [])) }
+    {
+        let again = !self.pins.insert(key_of(pin))?;
+        self.least = lesser(self.least, line_if(again, line));
+        Ok(())
+    }
+
+    /// Adds the connections of a net.
+    fn add_net(&mut self, net: &'a Net) -> Result<(), NoMemory>
+        ensures value { OnOk result ((rows : List (ghost_pin × ℕ)) → IsSeenPins self.old rows → IsSeenPins self.new (rows ++ connections_of net.now)) }
+    {
+        for pin in net.pins.as_slice() {
+            self.add(pin, net.line)?;
+        }
+        Ok(())
+    }
+}
+
+/// The least line of a net one of whose connections stood before, in it or in another net.
+pub(crate) fn least_connection(alloc: Global, nets: &[Net]) -> Result<Option<u64>, NoMemory>
+    ensures value { IfOk result (IsLeast (StandsAgain (connection_rows nets.now))) }
+{
+    let mut seen = SeenPins::new(alloc);
+    for net in nets {
+        seen.add_net(net)?;
+    }
+    Ok(seen.least)
+}

@@ -1,0 +1,24 @@
+//! Reads a DEF text into a `Design`, or answers its first fault (LEF/DEF 5.8, in this profile).
+//!
+//! Floor: readers, on netlist_core, cell_table, def_tokens, def_syntax, token_forms, base_types and `indexmap`.
+//! Contract: `read_design` gives what `specs/Denoted.antt` says the text denotes, and refuses exactly as `specs/Faults.antt`
+//! says. Begin with `design.rt`.
+#![tactic(auto)]
+
+mod cells;
+mod chains;
+mod connections;
+mod convert;
+mod design;
+mod judge;
+mod least;
+mod names;
+mod numbers;
+mod reading;
+mod side;
+mod twice;
+
+pub use design::{
+    Component, Design, DesignPin, Element, ElementList, EndText, Net, NetPin, ScanChainText,
+};
+pub use reading::read_design;

@@ -1,0 +1,11 @@
+pub mod Designs
+pub mod ExactDesigns
+pub mod Examples
+pub mod FrameLaws
+pub mod Lawful
+pub mod OptionLaws
+pub mod Places
+pub mod ReadTurns
+pub mod Sole
+pub mod StatementCuts
+pub mod Unread

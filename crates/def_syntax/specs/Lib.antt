@@ -1,0 +1,7 @@
+pub mod Designs
+pub mod Frames
+pub mod Grammar
+pub mod Options
+pub mod Pieces
+pub mod Reading
+pub mod Words

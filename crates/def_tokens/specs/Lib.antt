@@ -1,0 +1,4 @@
+pub mod DefSplit
+pub mod DefStatements
+pub mod DefTokens
+pub mod Numbers

@@ -1,0 +1,17 @@
+//! Laws of the definitions, each carried by a contract.
+ghost use Rattle.def_tokens.specs.DefSplit.{OnlyLaw};
+ghost use Rattle.def_tokens.specs.DefStatements.{OnlyStatementsLaw, StatementsLaw, FirstLaw};
+
+/// Only the tokens of a LEF or DEF text are a split of it: what a split is says all. It does nothing; its contract is the
+/// law.
+pub fn split_law()
+    ensures only { OnlyLaw }
+{}
+
+/// Tokens have one split into statements, which is what `statement_len` cuts from them, one after the other. It does
+/// nothing; its contract is the law.
+pub fn statement_law()
+    ensures split { StatementsLaw }
+    ensures only { OnlyStatementsLaw }
+    ensures first { FirstLaw }
+{}
