@@ -1,5 +1,5 @@
 -- Names that stand again, as one row more is looked at.
-use Rattle.std.proofs.Common.{◌≡◌, ℕ, zero, suc, ◌+◌, ◌<◌, ◌≤◌, ◌⊎◌, inl, inr, Bool, true, false, cond, not, List, [], ◌∷◌, ◌++◌, length, map, get_or, take, Option, Some, None, Contains, refl, sym, ap, ◌∙◌, subst, append_assoc, arith}
+use Rattle.std.proofs.Common.{◌≡◌, ℕ, zero, suc, ◌⊎◌, inl, inr, Bool, true, false, cond, not, List, [], ◌∷◌, ◌++◌, Option, None, Contains, refl, sym, ap, ◌∙◌, subst, append_assoc, arith}
 use Rattle.std.proofs.lemmas.Bool.{cases_Bool}
 use Rattle.std.proofs.lemmas.List.{map-append}
 use Rattle.std.proofs.lemmas.List.Elements.{Contains-append_left, Contains-append_right, Contains-append_cases}
@@ -7,11 +7,11 @@ use Rattle.def_reader.specs.Faults.{StandsAgain, names_in}
 use Rattle.def_reader.specs.Steps.{IsLeast, IsSeen, lesser, line_if}
 use Rattle.def_reader.proofs.LeastLines.{same_least, either, alone}
 
-nil_not : {X : Type 0} (front behind : List X) (y : X) → [] ≡ front ++ y ∷ behind → ⊥
+pub nil_not : {X : Type 0} (front behind : List X) (y : X) → [] ≡ front ++ y ∷ behind → ⊥
 nil_not [] behind y e = absurd cc
 nil_not (f ∷ fs) behind y e = absurd cc
 
-split_last : {X : Type 0} (xs front behind : List X) (x y : X) → xs ++ x ∷ [] ≡ front ++ y ∷ behind → ((b : List X) × (xs ≡ front ++ y ∷ b)) ⊎ ((xs ≡ front) × (x ≡ y))
+pub split_last : {X : Type 0} (xs front behind : List X) (x y : X) → xs ++ x ∷ [] ≡ front ++ y ∷ behind → ((b : List X) × (xs ≡ front ++ y ∷ b)) ⊎ ((xs ≡ front) × (x ≡ y))
 split_last [] [] behind x y e = let same : x ≡ y = cc in inr (refl, same)
 split_last [] (f ∷ fs) behind x y e = let rest : [] ≡ fs ++ y ∷ behind = cc in absurd (nil_not fs behind y rest)
 split_last (a ∷ xs) [] behind x y e = let same : a ≡ y = cc in inl (xs, ap (λ z. z ∷ xs) same)

@@ -1,5 +1,5 @@
 -- The least line at which anything of a design stands a second time.
-use Rattle.std.proofs.Common.{◌≡◌, ℕ, ◌⊎◌, inl, inr, List, [], ◌∷◌, map, Option, sym, ap, ◌∙◌, refl, subst}
+use Rattle.std.proofs.Common.{◌≡◌, ℕ, ◌⊎◌, inl, inr, List, [], ◌∷◌, map, Option, ap, refl, subst}
 use Rattle.std.specs.List.{filter_map}
 use Rattle.base_types.specs.Names.{plain_name}
 use Rattle.cell_table.specs.Cells.{Cells}

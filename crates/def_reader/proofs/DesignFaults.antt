@@ -1,5 +1,5 @@
 -- The faults of a DEF text: what is answered is the first of them, and where nothing is refused there is none.
-use Rattle.std.proofs.Common.{◌≡◌, ℕ, ◌<◌, ◌≤◌, List, Option, Some, None, Ordering, Less, Equal, Greater, refl, sym, ap, ◌∙◌, subst, arith}
+use Rattle.std.proofs.Common.{◌≡◌, ℕ, ◌≤◌, List, Some, None, Ordering, Less, Equal, Greater, refl, sym, ap, ◌∙◌, subst, arith}
 use Rattle.std.specs.Prelude.{Ok, Err}
 use Rattle.std.specs.Ordering.{nat_cmp, ordering_then}
 use Rattle.std.proofs.lemmas.Cmp.{ranked}
@@ -17,7 +17,7 @@ use Rattle.def_syntax.specs.declared.design.DesignText.{DesignText}
 use Rattle.def_reader.specs.Faults.{NumberAt, TwiceAt, HoldsInDesign, Form, Number, Twice}
 use Rattle.def_reader.specs.Steps.{IsLeast}
 
-line_case : (a b : ℕ) (r rest : Ordering) → r ≡ nat_cmp b a → a ≤ b → rest ≡ Equal → ordering_then r rest ≡ Less → ⊥
+pub line_case : (a b : ℕ) (r rest : Ordering) → r ≡ nat_cmp b a → a ≤ b → rest ≡ Equal → ordering_then r rest ≡ Less → ⊥
 line_case a b Less rest is le same e = let below = ranked b a Less is in omega arith
 line_case a b Equal rest is le same e = let both = sym same ∙ e in absurd cc
 line_case a b Greater rest is le same e = absurd cc

@@ -1,8 +1,14 @@
 pub mod Again
+pub mod Agreeing
+pub mod AgreementFaults
 pub mod AllTwice
 pub mod DesignFaults
+pub mod Finding
 pub mod LeastLines
+pub mod Members
+pub mod NetClasses
 pub mod Noted
 pub mod PinKeys
 pub mod PlainNames
 pub mod RowsMore
+pub mod Within

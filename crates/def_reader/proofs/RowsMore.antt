@@ -1,6 +1,8 @@
 -- Rows of lists, as one more is looked at.
-use Rattle.std.proofs.Common.{◌≡◌, ℕ, ◌+◌, ◌<◌, ◌≤◌, List, [], ◌∷◌, ◌++◌, length, map, get_or, take, sym, ap, ◌∙◌, subst, append_assoc}
-use Rattle.std.specs.List.{flat_map}
+use Rattle.std.proofs.Common.{◌≡◌, Bool, true, false, cond, ◌||◌, eqb, Option, refl, ℕ, ◌+◌, ◌<◌, ◌≤◌, List, [], ◌∷◌, ◌++◌, length, map, get_or, take, sym, ap, ◌∙◌, subst, append_assoc}
+use Rattle.std.specs.List.{flat_map, filter_map, cons_option, list_any}
+use Rattle.std.proofs.lemmas.List.Elements.{filter_map-append}
+use Rattle.std.proofs.lemmas.List.Folds.{list_any-append}
 use Rattle.std.proofs.lemmas.List.{take_more, take_all, map-append, append-nil}
 
 pub take_next : {A : Type 0} (xs : List A) (i : ℕ) (x : A) → i < length xs → x ≡ get_or xs i x → take (i + 1) xs ≡ take i xs ++ x ∷ []
@@ -37,3 +39,24 @@ pins_next {K} rows items pins line i x same lt is =
 
 pub pins_all : {K : Type 0} (rows : List (K × ℕ)) (items pins : List K) (line i : ℕ) → items ≡ pins → length items ≤ i → rows ++ map (λ p. (p, line)) (take i pins) ≡ rows ++ map (λ p. (p, line)) pins
 pins_all {K} rows items pins line i same le = ap (λ (l : List K). rows ++ map (λ p. (p, line)) l) (take_all i pins (subst (λ (l : List K). length l ≤ i) same le))
+
+-- what members give, as far as they give something
+pub filter_next : {A B : Type 0} (f : A → Option B) (items xs : List A) (i : ℕ) (x : A) → items ≡ xs → i < length items → x ≡ get_or items i x → filter_map f (take (i + 1) xs) ≡ filter_map f (take i xs) ++ cons_option (f x) []
+filter_next {A} f items xs i x same lt is =
+    ap (λ (l : List A). filter_map f (take (i + 1) l)) (sym same) ∙ ap (filter_map f) (take_next items i x lt is) ∙ filter_map-append f (take i items) (x ∷ [])
+    ∙ ap (λ (l : List A). filter_map f (take i l) ++ cons_option (f x) []) same
+
+or_cond : (a b : Bool) → (a || (b || false)) ≡ cond b true a
+or_cond true true = refl
+or_cond true false = refl
+or_cond false true = refl
+or_cond false false = refl
+
+-- a number more is in a set
+pub number_added : (before cs : List ℕ) (i q : ℕ) (new old : Bool) → i < length cs → new ≡ cond (eqb (get_or cs i 0) q) true old → old ≡ list_any (λ d. eqb d q) (before ++ take i cs)
+    → new ≡ list_any (λ d. eqb d q) (before ++ take (i + 1) cs)
+number_added before cs i q new old lt is was =
+    let p : ℕ → Bool = λ d. eqb d q in
+    let x = get_or cs i 0 in
+    is ∙ ap (λ (b : Bool). cond (eqb x q) true b) was ∙ sym (or_cond (list_any p (before ++ take i cs)) (eqb x q)) ∙ sym (list_any-append p (before ++ take i cs) (x ∷ []))
+    ∙ ap (list_any p) (append_assoc before (take i cs) (x ∷ []) ∙ ap (λ (l : List ℕ). before ++ l) (sym (take_more cs i 0 lt)))

@@ -1,6 +1,6 @@
 -- What a DEF text denotes: the placed design that its statements make (LEF/DEF 5.8, in this profile). Names are plain: without
 -- backslashes. A number beyond its limits makes nothing: such a text is refused.
-use Rattle.std.specs.Prelude.{◌≡◌, ℕ, Bool, true, false, if◌then◌else◌, List, [], ◌∷◌, map, Option, Some, None, is_some, option_map, option_and_then, unwrap_or, ℤ, pos, codes}
+use Rattle.std.specs.Prelude.{ℕ, Bool, true, false, if◌then◌else◌, List, [], map, Option, Some, None, is_some, option_map, option_and_then, unwrap_or, ℤ, pos, codes}
 use Rattle.std.specs.List.{find, filter_map, list_any}
 use Rattle.std.specs.Str.{bytes_eq}
 use Rattle.base_types.specs.Names.{plain_name}

@@ -1,3 +1,5 @@
+pub mod Agreement
+pub mod Classes
 pub mod Denoted
 pub mod Designs
 pub mod Faults

@@ -1,5 +1,5 @@
 -- The numbers of a design within their limits; one beyond them is a fault of the kind DefNumber.
-use Rattle.std.specs.Prelude.{ℕ, ◌^◌, Bool, nat_le, nat_lt, ◌&&◌, if◌then◌else◌, List, Option, Some, None, ℤ, pos, negsuc}
+use Rattle.std.specs.Prelude.{ℕ, ◌^◌, nat_le, nat_lt, ◌&&◌, if◌then◌else◌, List, Option, Some, None, ℤ, pos, negsuc}
 use Rattle.def_tokens.specs.Numbers.{integer_of}
 
 -- of an integer of 64 bits the value, where it lies within 32 bits

@@ -1,5 +1,5 @@
 -- What the checks know on their way over the statements: the least line so far, and what has been seen.
-use Rattle.std.specs.Prelude.{◌≡◌, ℕ, ◌≤◌, Bool, true, false, ◌&&◌, min, if◌then◌else◌, List, [], ◌∷◌, ◌++◌, Option, Some, None, Contains}
+use Rattle.std.specs.Prelude.{◌≡◌, ℕ, ◌≤◌, Bool, true, ◌&&◌, min, if◌then◌else◌, List, Option, Some, None, Contains}
 use Rattle.std.specs.Borrow.{Bor}
 use Rattle.std.specs.HashSet.{HashSet, contains}
 use Rattle.std.specs.Option.{option_eq}

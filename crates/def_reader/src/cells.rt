@@ -1,12 +1,8 @@
 //! The cells of components, and the scan paths that the table gives them.
-ghost use Rattle.std.specs.Prelude.{◌≡◌, Some, None, option_map, slice_get, if◌then◌else◌, List, ℕ, IfOk, OnOk};
-ghost use Rattle.std.specs.Borrow.{Bor};
-ghost use Rattle.std.specs.HashMap.{get};
-ghost use Rattle.std.specs.Option.{option_or};
-ghost use Rattle.std.specs.Str.{bytes_eq};
+ghost use Rattle.std.specs.Prelude.{◌≡◌, option_map, slice_get, IfOk};
 ghost use Rattle.def_reader.specs.Designs.{cell_of, scan_paths};
-ghost use Rattle.def_reader.specs.Places.{ArePlaces};
 
+use crate::by_name::places_by_name;
 use crate::design::Component;
 use base_types::{Name, NoMemory};
 use cell_table::{CellTable, ScanPath};
@@ -14,53 +10,23 @@ use std::alloc::Global;
 use std::collections::HashMap;
 use std::marker::Model;
 
-/// The components with their places by name, beside the table of cells. Contracts see the table and the components.
+/// Components with their places by name. Contracts see the components.
 #[derive(Drop)]
-pub(crate) struct Cells<'d> {
-    table: &'d CellTable,
+pub(crate) struct Components<'d> {
     components: &'d [Component],
     places: HashMap<&'d [u8], usize>,
 }
 
-impl<'d> Model for Cells<'d> {
-    ghost use Rattle.std.specs.Prelude.{List};
-    ghost use Rattle.cell_table.specs.Cells.{Cells};
+impl<'d> Model for Components<'d> {
+    ghost use Rattle.std.specs.Prelude.{List, length};
     ghost use Rattle.def_reader.specs.declared.design.Component.{Component};
-    ghost use Rattle.def_reader.specs.Places.{ArePlaces};
+    ghost use Rattle.def_reader.specs.Places.{AreNoted};
 
-    ghost Value = { Cells × List Component };
+    ghost Value = { List Component };
 
-    ghost view = { λ c. (c.table.now, c.components.now) };
+    ghost view = { λ c. c.components.now };
 
-    ghost invariant = { λ c. ArePlaces c.places c.components.now };
-}
-
-/// Notes a place by its name, unless the name has one.
-fn add_place<'d>(
-    places: &mut HashMap<&'d [u8], usize>,
-    name: &'d [u8],
-    place: usize,
-) -> Result<(), NoMemory>
-    ensures ok { OnOk result ((q : Bor (List ℕ)) → get (λ x y. bytes_eq x.now y.now) places.new q ≡ option_or (get (λ x y. bytes_eq x.now y.now) places.old q) (if bytes_eq name.now q.now then Some place else None)) }
-{
-    if !places.contains_key(&name) {
-        places.insert(name, place)?;
-    }
-    Ok(())
-}
-
-/// The places of components by their names: of those of one name the first.
-fn places_by_name<'d>(
-    alloc: Global,
-    components: &'d [Component],
-) -> Result<HashMap<&'d [u8], usize>, NoMemory>
-    ensures value { IfOk result (λ places. ArePlaces places components.now) }
-{
-    let mut places = HashMap::new(alloc);
-    for (place, component) in components.iter().enumerate() {
-        add_place(&mut places, component.name.bytes(), place)?;
-    }
-    Ok(places)
+    ghost invariant = { λ c. AreNoted (λ component. component.name) c.places c.components.now (length c.components.now) };
 }
 
 fn cell_at(components: &[Component], place: usize) -> Option<&Name>
@@ -70,6 +36,45 @@ fn cell_at(components: &[Component], place: usize) -> Option<&Name>
         Some(component) => Some(&component.cell),
         None => None,
     }
+}
+
+impl<'d> Components<'d> {
+    /// The components of a design.
+    pub(crate) fn of(alloc: Global, components: &'d [Component]) -> Result<Components<'d>, NoMemory>
+        ensures value { IfOk result (λ c. c ≡ components.now) }
+    {
+        Ok(Components {
+            components,
+            places: places_by_name(alloc, components)?,
+        })
+    }
+
+    /// The cell of the component of a name.
+    pub(crate) fn cell_of(&self, name: &[u8]) -> Option<&'d Name>
+        ensures value { option_map (λ cell. cell.now) result ≡ cell_of self.now name.now }
+    {
+        match self.places.get(&name) {
+            Some(place) => cell_at(self.components, *place),
+            None => None,
+        }
+    }
+}
+
+/// Components beside the table of cells. Contracts see both.
+#[derive(Drop)]
+pub(crate) struct Cells<'d> {
+    table: &'d CellTable,
+    components: Components<'d>,
+}
+
+impl<'d> Model for Cells<'d> {
+    ghost use Rattle.std.specs.Prelude.{List};
+    ghost use Rattle.cell_table.specs.Cells.{Cells};
+    ghost use Rattle.def_reader.specs.declared.design.Component.{Component};
+
+    ghost Value = { Cells × List Component };
+
+    ghost view = { λ c. (c.table.now, c.components) };
 }
 
 impl<'d> Cells<'d> {
@@ -83,26 +88,15 @@ impl<'d> Cells<'d> {
     {
         Ok(Cells {
             table,
-            components,
-            places: places_by_name(alloc, components)?,
+            components: Components::of(alloc, components)?,
         })
-    }
-
-    /// The cell of the component of a name.
-    fn cell_of(&self, name: &[u8]) -> Option<&'d Name>
-        ensures value { option_map (λ cell. cell.now) result ≡ cell_of self.now.1 name.now }
-    {
-        match self.places.get(&name) {
-            Some(place) => cell_at(self.components, *place),
-            None => None,
-        }
     }
 
     /// The scan paths of the cell of the component of a name; none where no component has it, or the table no cell.
     pub(crate) fn scan_paths(&self, name: &[u8]) -> &'d [ScanPath]
         ensures value { result.now ≡ scan_paths self.now.0 self.now.1 name.now }
     {
-        match self.cell_of(name) {
+        match self.components.cell_of(name) {
             Some(cell) => self.table.get(cell).unwrap_or(&[]),
             None => &[],
         }

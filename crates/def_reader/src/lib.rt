@@ -1,10 +1,13 @@
-//! Reads a DEF text into a `Design`, or answers its first fault (LEF/DEF 5.8, in this profile).
+//! Reads a DEF text into a `Design`, or answers its first fault (LEF/DEF 5.8, in this profile); and tells whether a netlist and a
+//! design agree.
 //!
-//! Floor: readers, on netlist_core, cell_table, def_tokens, def_syntax, token_forms, base_types and `indexmap`.
+//! Floor: readers, on netlist_core, cell_table, def_tokens, def_syntax, token_forms and base_types.
 //! Contract: `read_design` gives what `specs/Denoted.antt` says the text denotes, and refuses exactly as `specs/Faults.antt`
-//! says. Begin with `design.rt`.
+//! says; `agree` refuses exactly as `specs/Agreement.antt` says. Begin with `design.rt`.
 #![tactic(auto)]
 
+mod agreement;
+mod by_name;
 mod cells;
 mod chains;
 mod connections;
@@ -18,6 +21,7 @@ mod reading;
 mod side;
 mod twice;
 
+pub use agreement::agree;
 pub use design::{
     Component, Design, DesignPin, Element, ElementList, EndText, Net, NetPin, ScanChainText,
 };

@@ -9,6 +9,7 @@ use crate::design::{Component, DesignPin, Net, ScanChainText};
 use crate::least::{lesser, line_if};
 use base_types::NoMemory;
 use def_syntax::{Section, SectionKind};
+use netlist_core::Instance;
 use std::alloc::Global;
 use std::collections::HashSet;
 
@@ -31,6 +32,20 @@ impl Named for Component {
     ghost name_of = { λ c. c.name };
 
     ghost line_of = { λ c. c.line };
+
+    fn name(&self) -> &[u8] {
+        self.name.bytes()
+    }
+
+    fn line(&self) -> u64 {
+        self.line
+    }
+}
+
+impl Named for Instance {
+    ghost name_of = { λ i. i.name };
+
+    ghost line_of = { λ i. i.line };
 
     fn name(&self) -> &[u8] {
         self.name.bytes()

@@ -1,6 +1,5 @@
 use Rattle.std.proofs.Common.{List, ℕ, ◌≡◌, sym, ◌∙◌}
 use Rattle.std.proofs.lemmas.Result.{IfOk-weaker}
-use Rattle.base_types.specs.Names.{plain_name}
 use Rattle.def_reader.proofs.PlainNames.{as_written}
 use Rattle.def_reader.proofs.names.plain.Goals as goal
 

@@ -1,4 +1,4 @@
-use Rattle.std.proofs.Common.{List, ℕ, subst}
+use Rattle.std.proofs.Common.{List, ℕ}
 use Rattle.def_reader.specs.Seen.{IsSeenNames}
 use Rattle.def_reader.specs.Faults.{StandsAgain}
 use Rattle.def_reader.specs.Steps.{IsLeast}

@@ -1,6 +1,4 @@
-use Rattle.std.proofs.Common.{List, ℕ, ◌++◌, ◌∷◌, [], subst}
-use Rattle.def_reader.specs.declared.design.NetPin.{NetPin}
-use Rattle.def_reader.specs.Steps.{IsSeen, has_pin_key, pin_of_key, same_key}
+use Rattle.def_reader.specs.Steps.{has_pin_key, pin_of_key, same_key}
 use Rattle.def_reader.proofs.Again.{seen_more}
 use Rattle.def_reader.proofs.PinKeys.{key_exact, key_back}
 use Rattle.def_reader.proofs.connections.SeenPins.add.Goals as goal

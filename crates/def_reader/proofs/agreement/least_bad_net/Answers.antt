@@ -1,0 +1,33 @@
+use Rattle.std.proofs.Common.{rules, List, ℕ, ◌++◌, take, refl, sym, ap, ◌∙◌, subst}
+use Rattle.std.specs.List.{flat_map}
+use Rattle.std.proofs.lemmas.List.{take_all}
+use Rattle.def_reader.specs.declared.design.Net.{Net}
+use Rattle.def_reader.specs.Classes.{net_classes, is_split, has_in, HasClasses, IsBadNet}
+use Rattle.std.specs.List.{list_any}
+use Rattle.def_reader.specs.Steps.{IsLeast}
+use Rattle.def_reader.proofs.NetClasses.{bad_none, bad_next, bad_is}
+use Rattle.def_reader.proofs.RowsMore.{flat_next}
+use Rattle.def_reader.proofs.agreement.least_bad_net.Goals as goal
+
+pub loop-net-init : goal.loop-net-init
+loop-net-init c = record { seen = search rules; least = bad_none (net_classes c.args.pins.now c.args.classes.now) }
+
+pub loop-net-preserved : goal.loop-net-preserved
+loop-net-preserved c =
+    let cls = net_classes c.args.pins.now c.args.classes.now in
+    let nets = c.args.nets.now in
+    let i = c.loop-net.net-index in
+    record {
+      seen = subst (λ (l : List ℕ). HasClasses c.add_all.new.seen l)
+          (ap (λ (l : List ℕ). flat_map cls (take i nets) ++ l) (c.as_slice-in-loop-net-2.ensures.value ∙ c.in_ok-put_classes.ensures.value) ∙ sym (flat_next cls nets i c.net-item.result c.loop-net-test.true c.net-item.is))
+          (c.in_ok-add_all.ensures.value (flat_map cls (take i nets)) c.loop-net.invariant.seen);
+      least = rw (c.lesser-least.ensures.value, c.line_if.ensures.value)
+          (bad_next cls nets i c.net-item.result c.loop-net.least _ c.loop-net-test.true c.net-item.is
+          (bad_is c.loop-net.seen (flat_map cls (take i nets)) (cls c.net-item.result) c.put_classes.new.found.items c.is_split.result c.is_shared.result _ c.loop-net.invariant.seen c.in_ok-put_classes.ensures.value
+          (c.is_split.ensures.value ∙ ap is_split c.as_slice.ensures.value) (c.is_shared.ensures.value ∙ ap (list_any (has_in c.loop-net.seen)) c.as_slice-in-loop-net.ensures.value) refl) c.loop-net.invariant.least);
+    }
+
+pub returns : goal.returns
+returns c = record {
+  value = subst (λ (l : List Net). IsLeast (IsBadNet (net_classes c.args.pins.now c.args.classes.now) l) c.loop-net.least) (take_all c.loop-net.net-index c.args.nets.now c.loop-net-test.false) c.loop-net.invariant.least;
+}
