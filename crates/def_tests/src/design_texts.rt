@@ -7,7 +7,7 @@ use def_syntax::{
     Orientation, Placement, SectionKind, Terminal, read_design_text,
 };
 use def_tokens::def_tokens;
-use std::alloc::Global;
+use std::alloc::{Alloc, Global};
 use std::process::Abort;
 use std::test::Fail;
 use token_forms::{TokenText, Tokens, read_all};
@@ -15,8 +15,8 @@ use token_forms::{TokenText, Tokens, read_all};
 /// A section, a statement within it, and whether that is of a form there.
 type Row = (&'static str, &'static str, bool);
 
-const FORMS: [Row; 86] = [
-    // components
+/// Statements of COMPONENTS.
+const COMPONENTS: [Row; 27] = [
     ("COMPONENTS", "- a C ;", true),
     ("COMPONENTS", "- a C + PLACED ( 1 -2 ) FS ;", true),
     ("COMPONENTS", "- a C + FIXED ( +1 007 ) E ;", true),
@@ -60,7 +60,10 @@ const FORMS: [Row; 86] = [
         "- a C + FIXED ( 1 2 ) N + UNPLACED ( ;",
         false,
     ),
-    // design pins
+];
+
+/// Statements of PINS.
+const PINS: [Row; 13] = [
     ("PINS", "- p + NET n ;", true),
     (
         "PINS",
@@ -82,7 +85,10 @@ const FORMS: [Row; 86] = [
     ("PINS", "- p q + NET a ;", false),
     ("PINS", "- p + NET a + PLACED ( 1 2 ) ;", false),
     ("PINS", "- p + NET ( ;", false),
-    // nets
+];
+
+/// Statements of NETS.
+const NETS: [Row; 15] = [
     ("NETS", "- n ;", true),
     ("NETS", "- n ( a Q ) ( PIN p ) ( * SI ) ;", true),
     (
@@ -102,7 +108,10 @@ const FORMS: [Row; 86] = [
     ("NETS", "- n ( a Q + SYNTHESIZED + SYNTHESIZED ) ;", false),
     ("NETS", "- n ( a Q ;", false),
     ("NETS", "- n + x ; ( a Q ) ;", false),
-    // chains
+];
+
+/// Statements of SCANCHAINS.
+const CHAINS: [Row; 28] = [
     ("SCANCHAINS", "- c + START a + FLOATING b + STOP d ;", true),
     (
         "SCANCHAINS",
@@ -219,7 +228,10 @@ const FORMS: [Row; 86] = [
         "- c + START a + FLOATING b + STOP d + OTHER x ;",
         false,
     ),
-    // of no form in any section
+];
+
+/// Statements of no form in any section.
+const OTHERS: [Row; 3] = [
     ("NETS", "END COMPONENTS", false),
     ("PINS", "UNITS DISTANCE MICRONS 1000 ;", false),
     ("COMPONENTS", "BEGINEXT - a C ; ENDEXT", false),
@@ -593,18 +605,43 @@ fn refusal(alloc: Global, text: &[u8]) -> Result<u64, Fail>
     }
 }
 
-#[test]
-fn statements_of_each_section(rt: HostRuntime) -> Result<(), Fail> {
+/// Each statement is read in its section, or refused at its line, as its row says.
+fn fit(rt: &(impl Abort + Alloc<A = Global>), rows: &[Row]) -> Result<(), Fail> {
     let alloc = rt.alloc();
-    for (section, statement, fits) in FORMS {
+    for (section, statement, fits) in rows {
         let text = format!(in alloc;
             "UNITS DISTANCE MICRONS 1 ;\n{section} 1 ;\n{statement}\nEND {section}\nEND DESIGN\n"
         )?;
         assert!(rt; text.len() < 4096);
         let line = refusal(alloc, text.as_bytes())?;
-        assert_eq!(rt; line, if fits { 0 } else { 3 }, "{section}: {statement}");
+        assert_eq!(rt; line, if *fits { 0 } else { 3 }, "{section}: {statement}");
     }
     Ok(())
+}
+
+#[test]
+fn components(rt: HostRuntime) -> Result<(), Fail> {
+    fit(&rt, &COMPONENTS)
+}
+
+#[test]
+fn design_pins(rt: HostRuntime) -> Result<(), Fail> {
+    fit(&rt, &PINS)
+}
+
+#[test]
+fn nets(rt: HostRuntime) -> Result<(), Fail> {
+    fit(&rt, &NETS)
+}
+
+#[test]
+fn chains(rt: HostRuntime) -> Result<(), Fail> {
+    fit(&rt, &CHAINS)
+}
+
+#[test]
+fn statements_of_no_section(rt: HostRuntime) -> Result<(), Fail> {
+    fit(&rt, &OTHERS)
 }
 
 #[test]
