@@ -7,8 +7,7 @@ use netlist_core::{
     Assign, Bit, Bits, Connection, Direction, Expr, Instance, NetId, NetName, Netlist, Port,
     is_netlist,
 };
-use std::alloc::{Alloc, Global};
-use std::process::Abort;
+use std::alloc::Global;
 use std::test::Fail;
 
 fn name(alloc: Global, text: &str) -> Result<Name, Fail> {
@@ -116,26 +115,27 @@ fn two_orders_of_a_chain_are_alike(rt: HostRuntime) -> Result<(), Fail> {
     Ok(())
 }
 
-fn is_free(
-    rt: &(impl Abort + Alloc<A = Global>),
-    netlist: Netlist,
-    port: u32,
-) -> Result<bool, Fail> {
-    assert!(rt; is_netlist(rt.alloc(), &netlist)?);
-    assert!(rt; (port as usize) < netlist.nets.as_slice().len());
-    Ok(Uses::of(rt.alloc(), &netlist)?.is_free(NetId(port)))
+fn is_free(alloc: Global, netlist: &Netlist, port: u32) -> Result<bool, Fail> {
+    if !is_netlist(alloc, netlist)? {
+        return Err("no netlist".into());
+    }
+    if netlist.nets.as_slice().len() <= port as usize {
+        return Err("no port".into());
+    }
+    let uses = Uses::of(alloc, netlist)?;
+    Ok(uses.is_free(NetId(port)))
 }
 
 #[test]
 fn a_port_is_free_at_an_assign_of_its_own(rt: HostRuntime) -> Result<(), Fail> {
     let alloc = rt.alloc();
-    assert!(rt; is_free(&rt, chain(alloc, 0, 1, 2)?, 3)?);
+    assert!(rt; is_free(alloc, &chain(alloc, 0, 1, 2)?, 3)?);
     // Also a pin reads it.
-    assert!(rt; !is_free(&rt, chain(alloc, 0, 3, 2)?, 3)?);
+    assert!(rt; !is_free(alloc, &chain(alloc, 0, 3, 2)?, 3)?);
     // A pin drives it, and nothing else is there.
-    assert!(rt; !is_free(&rt, chain(alloc, 0, 1, 1)?, 2)?);
+    assert!(rt; !is_free(alloc, &chain(alloc, 0, 1, 1)?, 2)?);
     // It stands at no place.
-    assert!(rt; !is_free(&rt, chain(alloc, 1, 1, 2)?, 0)?);
+    assert!(rt; !is_free(alloc, &chain(alloc, 1, 1, 2)?, 0)?);
     Ok(())
 }
 

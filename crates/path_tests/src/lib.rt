@@ -1,0 +1,9 @@
+//! Tests of traced paths and of edits.
+//!
+//! Floor: tests, on cell_table, netlist_core, chain_trace, net_edit and base_types.
+#![tactic(auto)]
+
+#[cfg(test)]
+mod edits;
+#[cfg(test)]
+mod traces;
