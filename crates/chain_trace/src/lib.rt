@@ -19,6 +19,7 @@ mod tracing;
 pub use bits::bits_of;
 pub use entry::{out_pin, scan_path, source_net};
 pub use laws::{names_law, parity_law, path_law};
+pub use lines::sink_line;
 pub use path::{BitId, Path, PathBits, Sink, Source, Step};
 pub use ports::{input_named, output_named, plain_of};
 pub use tracer::Tracer;

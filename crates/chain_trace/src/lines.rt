@@ -28,7 +28,9 @@ fn instance_line(netlist: &Netlist, instance: u32) -> u64
     }
 }
 
-fn sink_line(netlist: &Netlist, sink: Sink) -> u64
+/// The line at which a fault of a sink is answered: that of its instance, or of the port's direction statement; 0 where there is
+/// none.
+pub fn sink_line(netlist: &Netlist, sink: Sink) -> u64
     ensures value { result ≡ sink_line netlist.now sink }
 {
     match sink {

@@ -14,7 +14,7 @@ use Rattle.def_syntax.specs.declared.design.Located.{Located}
 use Rattle.def_syntax.specs.declared.design.Section.{Section}
 use Rattle.def_syntax.specs.declared.frame.SectionKind.{SectionKind}
 use Rattle.def_syntax.specs.declared.frame.SectionKind.TheVariants.{Components, Pins, Nets, ScanChains}
-use Rattle.def_syntax.specs.declared.placement.Orientation.{Orientation}
+use Rattle.def_tokens.specs.declared.orient.Orient.{Orient}
 use Rattle.def_syntax.specs.declared.placement.Placement.{Placement}
 use Rattle.def_syntax.specs.declared.component.Component.{Component as ComponentText}
 use Rattle.def_syntax.specs.declared.pin.DesignPin.{DesignPin as PinText}
@@ -61,9 +61,9 @@ pin_place None = None
 pin_place (Some p) = point_of p
 
 -- the point where a component is placed, and how it is turned
-abbrev pub place_of : Option Placement → Option (Point × Orientation)
+abbrev pub place_of : Option Placement → Option (Point × Orient)
 place_of None = None
-place_of (Some p) = option_map (λ point. (point, p.orientation)) (point_of p)
+place_of (Some p) = option_map (λ point. (point, p.orient)) (point_of p)
 
 -- a component, with its name as it is written too
 abbrev pub component_of : Located ComponentText → Component

@@ -7,5 +7,6 @@ pub mod Numbers
 pub mod Places
 pub mod Seen
 pub mod SeenConnections
+pub mod Sound
 pub mod Steps
 pub mod Words

@@ -12,7 +12,7 @@ use std::alloc::Global;
 use std::collections::HashMap;
 
 /// Notes a place by its name, unless the name has one.
-pub(crate) fn add_place<'d>(
+pub fn add_place<'d>(
     places: &mut HashMap<&'d [u8], usize>,
     name: &'d [u8],
     place: usize,
@@ -26,7 +26,7 @@ pub(crate) fn add_place<'d>(
 }
 
 /// The places of what has names: of those of one name the first.
-pub(crate) fn places_by_name<'d, T: Named>(
+pub fn places_by_name<'d, T: Named>(
     alloc: Global,
     rows: &'d [T],
 ) -> Result<HashMap<&'d [u8], usize>, NoMemory>

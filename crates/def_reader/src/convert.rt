@@ -8,9 +8,9 @@ use crate::names::{plain, word_at};
 use crate::numbers::coordinate;
 use base_types::{Name, NoMemory, Point, Rows};
 use def_syntax::{
-    Component as ComponentText, Connection, DesignPin as PinText, Located, NetStatement,
-    Orientation, Placement,
+    Component as ComponentText, Connection, DesignPin as PinText, Located, NetStatement, Placement,
 };
+use def_tokens::Orient;
 use std::alloc::Global;
 
 /// The point of a placement, or None where a coordinate lies outside 32 bits.
@@ -31,13 +31,13 @@ fn pin_place(place: &Option<Placement<'_>>) -> Option<Point>
     }
 }
 
-fn place_of(place: &Option<Placement<'_>>) -> Option<(Point, Orientation)>
+fn place_of(place: &Option<Placement<'_>>) -> Option<(Point, Orient)>
     ensures value { result ≡ place_of place.now }
 {
     match place {
         Some(placement) => {
             let point = point_of(placement)?;
-            Some((point, placement.orientation))
+            Some((point, placement.orient))
         }
         None => None,
     }

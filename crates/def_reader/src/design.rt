@@ -1,6 +1,6 @@
 //! A placed design.
 use base_types::{Name, Point, Rows, Span};
-use def_syntax::Orientation;
+use def_tokens::Orient;
 
 /// A component: its plain name, its name as it is written, its cell, and its line.
 #[derive(Drop)]
@@ -9,7 +9,7 @@ pub struct Component {
     pub text: Name,
     pub cell: Name,
     /// The placement point, in database units, and how it is turned; None where it isn't placed.
-    pub place: Option<(Point, Orientation)>,
+    pub place: Option<(Point, Orient)>,
     pub line: u64,
 }
 

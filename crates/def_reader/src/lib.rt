@@ -22,7 +22,9 @@ mod side;
 mod twice;
 
 pub use agreement::agree;
+pub use by_name::{add_place, places_by_name};
 pub use design::{
     Component, Design, DesignPin, Element, ElementList, EndText, Net, NetPin, ScanChainText,
 };
 pub use reading::read_design;
+pub use twice::Named;

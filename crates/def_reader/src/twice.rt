@@ -14,7 +14,7 @@ use std::alloc::Global;
 use std::collections::HashSet;
 
 /// What has a name, and a line.
-pub(crate) trait Named {
+pub trait Named {
     ghost name_of: { Self → List ℕ };
 
     ghost line_of: { Self → ℕ };

@@ -5,8 +5,8 @@ use Rattle.token_forms.specs.Forms.{Form, text, key, ◌&◌, made, made_if, ◌
 use Rattle.def_syntax.specs.Words.{in_components, in_pins, in_nets, name, name_place, integer, number, placing, net_name, in_statement}
 use Rattle.def_syntax.specs.Options.{unread, options, with_options}
 use Rattle.def_syntax.specs.Pieces.{fresh_component, put_component, component_of, fresh_pin, put_pin, pin_of, fresh_element, put_bracket, no_pins, put_common, is_terminal, fresh_chain, put_clause, chain_of}
-use Rattle.def_syntax.specs.declared.placement.Orientation.{Orientation}
-use Rattle.def_syntax.specs.declared.placement.Orientation.TheVariants as orientation
+use Rattle.def_tokens.specs.declared.orient.Orient.{Orient}
+use Rattle.def_tokens.specs.declared.orient.Orient.TheVariants as orient
 use Rattle.def_syntax.specs.declared.placement.Placement.{Placement}
 use Rattle.def_syntax.specs.declared.component.ComponentOption.{ComponentOption}
 use Rattle.def_syntax.specs.declared.component.ComponentOption.TheVariants as component_options
@@ -38,25 +38,25 @@ unfoldable pub units : Form Units
 units = made (λ n. record { number = n }) ("UNITS" ▸ ("DISTANCE" ▸ ("MICRONS" ▸ integer)) ◂ ";")
 
 -- what an orientation's word makes
-unfoldable pub orientation_of : List ℕ → Option Orientation
-orientation_of text =
-    if bytes_eq text (codes "N") then Some orientation.N
-    else (if bytes_eq text (codes "W") then Some orientation.W
-    else (if bytes_eq text (codes "S") then Some orientation.S
-    else (if bytes_eq text (codes "E") then Some orientation.E
-    else (if bytes_eq text (codes "FN") then Some orientation.Fn
-    else (if bytes_eq text (codes "FW") then Some orientation.Fw
-    else (if bytes_eq text (codes "FS") then Some orientation.Fs
-    else (if bytes_eq text (codes "FE") then Some orientation.Fe
+unfoldable pub orient_of : List ℕ → Option Orient
+orient_of text =
+    if bytes_eq text (codes "N") then Some orient.N
+    else (if bytes_eq text (codes "W") then Some orient.W
+    else (if bytes_eq text (codes "S") then Some orient.S
+    else (if bytes_eq text (codes "E") then Some orient.E
+    else (if bytes_eq text (codes "FN") then Some orient.FN
+    else (if bytes_eq text (codes "FW") then Some orient.FW
+    else (if bytes_eq text (codes "FS") then Some orient.FS
+    else (if bytes_eq text (codes "FE") then Some orient.FE
     else None)))))))
 
 -- N    W    S    E    FN    FW    FS    FE
-unfoldable pub turned : Form Orientation
-turned = made_if orientation_of name
+unfoldable pub turned : Form Orient
+turned = made_if orient_of name
 
 -- PLACED ( x y ) orientation    FIXED ( x y ) orientation    COVER ( x y ) orientation
 unfoldable pub placement : Form Placement
-placement = made (λ p. record { x = p.1.0.0; y = p.1.0.1; orientation = p.1.1 }) (placing & ("(" ▸ (integer & integer ◂ ")")) & turned)
+placement = made (λ p. record { x = p.1.0.0; y = p.1.0.1; orient = p.1.1 }) (placing & ("(" ▸ (integer & integer ◂ ")")) & turned)
 
 -- + PLACED ..    + FIXED ..    + COVER ..    + UNPLACED    + tokens
 unfoldable pub component_option : Bool → Form ComponentOption

@@ -35,6 +35,6 @@ pub use frame::SectionKind;
 pub use net::{Connection, Net, NetStatement};
 pub use net_parts::{NetOption, NetParts};
 pub use pin::DesignPin;
-pub use placement::{Orientation, Placement};
+pub use placement::Placement;
 pub use reading::read_design_text;
 pub use units::Units;

@@ -4,9 +4,9 @@ ghost use Rattle.std.specs.Prelude.{◌<◌, ◌^◌, length};
 use base_types::{FileKind, Kind, NoMemory, ReadFault, Span, Spot};
 use def_syntax::{
     Chain, Component, Connection, DesignPin, Element, ElementList, Located, NetParts, NetStatement,
-    Orientation, Placement, SectionKind, Terminal, read_design_text,
+    Placement, SectionKind, Terminal, read_design_text,
 };
-use def_tokens::def_tokens;
+use def_tokens::{Orient, def_tokens};
 use std::alloc::{Alloc, Global};
 use std::process::Abort;
 use std::test::Fail;
@@ -441,15 +441,15 @@ impl<'a> Listing<'a> {
         self.put(b" at")?;
         self.put_word(&place.x)?;
         self.put_word(&place.y)?;
-        self.put(match place.orientation {
-            Orientation::N => b" N",
-            Orientation::W => b" W",
-            Orientation::S => b" S",
-            Orientation::E => b" E",
-            Orientation::Fn => b" FN",
-            Orientation::Fw => b" FW",
-            Orientation::Fs => b" FS",
-            Orientation::Fe => b" FE",
+        self.put(match place.orient {
+            Orient::N => b" N",
+            Orient::W => b" W",
+            Orient::S => b" S",
+            Orient::E => b" E",
+            Orient::FN => b" FN",
+            Orient::FW => b" FW",
+            Orient::FS => b" FS",
+            Orient::FE => b" FE",
         })
     }
 

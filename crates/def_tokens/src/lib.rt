@@ -9,10 +9,12 @@
 mod laws;
 mod lexer;
 mod numbers;
+mod orient;
 mod pieces;
 mod statements;
 
 pub use laws::{split_law, statement_law};
 pub use lexer::{Def, def_lexer, def_tokens};
 pub use numbers::{is_decimal, is_integer, read_decimal, read_integer};
+pub use orient::Orient;
 pub use statements::{Statement, def_statements, is_closed, statement_len};

@@ -6,8 +6,8 @@ use Rattle.std.proofs.lemmas.Int.{ints}
 use Rattle.std.proofs.lemmas.Bool.{cond_both}
 use Rattle.base_types.specs.declared.span.Point.{Point}
 use Rattle.lef_pins.specs.declared.macros.MacroPin.{MacroPin}
-use Rattle.lef_pins.specs.declared.orient.Orient.{Orient}
-use Rattle.lef_pins.specs.declared.orient.Orient.TheVariants.{N, W, S, E, FN, FW, FS, FE}
+use Rattle.def_tokens.specs.declared.orient.Orient.{Orient}
+use Rattle.def_tokens.specs.declared.orient.Orient.TheVariants.{N, W, S, E, FN, FW, FS, FE}
 use Rattle.lef_pins.specs.Places.{turn, rect_of, IsMeasuredOrNone}
 
 -- both coordinates are at most so much in size

@@ -6,8 +6,8 @@ use Rattle.std.specs.Str.{bytes_eq}
 use Rattle.base_types.specs.declared.span.Point.{Point}
 use Rattle.lef_pins.specs.declared.macros.Macro.{Macro}
 use Rattle.lef_pins.specs.declared.macros.MacroPin.{MacroPin}
-use Rattle.lef_pins.specs.declared.orient.Orient.{Orient}
-use Rattle.lef_pins.specs.declared.orient.Orient.TheVariants.{N, W, S, E, FN, FW, FS, FE}
+use Rattle.def_tokens.specs.declared.orient.Orient.{Orient}
+use Rattle.def_tokens.specs.declared.orient.Orient.TheVariants.{N, W, S, E, FN, FW, FS, FE}
 
 -- the floor of v * units / 10^6: a length in database units
 abbrev pub scaled : ℤ → ℤ → ℤ

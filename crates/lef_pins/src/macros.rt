@@ -1,6 +1,10 @@
-//! A macro, as far as places need it.
+//! Macros, as far as places need them.
+ghost use Rattle.std.specs.Prelude.{◌≡◌, option_map};
+ghost use Rattle.lef_pins.specs.Macros.{macro_at};
 
 use base_types::{Name, Rows};
+use indexmap::IndexMap;
+use std::marker::Model;
 
 /// A macro of a LEF: its SIZE, its ORIGIN, which is 0 0 where it has none, and its pins. Lengths are in millionths of a
 /// micron (LEF 5.8, MACRO).
@@ -19,4 +23,28 @@ pub struct Macro {
 pub struct MacroPin {
     pub name: Name,
     pub rect: Option<[i64; 4]>,
+}
+
+/// The macros of a LEF by their names, in file order.
+#[derive(Drop)]
+pub struct Macros {
+    pub(crate) macros: IndexMap<Vec<u8>, Macro>,
+}
+
+impl Model for Macros {
+    ghost use Rattle.std.specs.Prelude.{map};
+    ghost use Rattle.lef_pins.specs.Macros.{NamedMacros};
+
+    ghost Value = { NamedMacros };
+
+    ghost view = { λ m. map (λ e. (e.0.items, e.1)) m.macros.entries };
+}
+
+impl Macros {
+    /// The macro of a name, or None exactly where there is none; takes no memory.
+    pub fn get(&self, name: &Name) -> Option<&Macro>
+        ensures value { option_map (λ m. m.now) result ≡ macro_at name.now self.now }
+    {
+        self.macros.get(name.bytes())
+    }
 }

@@ -1,21 +1,9 @@
-//! Orientations.
+//! Macros that are turned.
 ghost use Rattle.std.specs.Prelude.{◌≡◌};
 ghost use Rattle.lef_pins.specs.Places.{turn, IsShort, IsShortPoint, IsNear};
 
 use base_types::Point;
-
-/// How a component is turned: by quarters of a circle, and behind `F` also mirrored (DEF 5.8, COMPONENTS).
-#[derive(Clone, Copy, Debug, PartialEq, Eq)]
-pub enum Orient {
-    N,
-    W,
-    S,
-    E,
-    FN,
-    FW,
-    FS,
-    FE,
-}
+use def_tokens::Orient;
 
 /// Where a point of a macro of width `w` and height `h` stands once the macro is turned, from its lower left corner. Takes
 /// no memory.

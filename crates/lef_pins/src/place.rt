@@ -3,8 +3,9 @@ ghost use Rattle.std.specs.Prelude.{◌≡◌, ◌*◌, ◌^◌, pos, ◌+ℤ◌
 ghost use Rattle.lef_pins.specs.Places.{scaled, twice, rect_of, point_of, pin_place, IsWithin, IsLength, IsMeasured, IsMeasuredOrNone, IsPlaced, IsShort, IsShortPoint, IsNear};
 
 use crate::macros::{Macro, MacroPin};
-use crate::orient::{Orient, turn};
+use crate::orient::turn;
 use base_types::{Name, Point};
+use def_tokens::Orient;
 
 /// A length in millionths of a micron, in database units, of which there are so many a micron.
 fn scaled(v: i64, units: i64) -> i64

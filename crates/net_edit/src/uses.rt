@@ -1,10 +1,10 @@
 //! How often nets stand in a netlist, counted once for all of them.
-ghost use Rattle.std.specs.Prelude.{◌≡◌, ◌<◌, ◌+◌, ◌||◌, ◌∷◌, [], ℕ, Bool, false, length, IfOk, All};
+ghost use Rattle.std.specs.Prelude.{◌≡◌, ◌<◌, ◌+◌, ◌||◌, ◌==◌, ◌∷◌, [], ℕ, Bool, false, length, IfOk, All};
 ghost use Rattle.std.specs.Prelude.{sum_by};
 ghost use Rattle.std.specs.List.{list_any};
 ghost use Rattle.netlist_core.specs.declared.netlist.NetId.{NetId as Net};
 ghost use Rattle.netlist_core.specs.Netlists.{IsBitWithin, IsAssign, IsInstance, IsNetlist};
-ghost use Rattle.net_edit.specs.Free.{count_in, count_in_assign, count_in_instance, is_assign_of, is_free};
+ghost use Rattle.net_edit.specs.Free.{count_in, count_in_assign, count_in_instance, count_of, is_assign_of, is_free};
 ghost use Rattle.net_edit.specs.Uses.{AreCounts, AreMarks};
 
 use base_types::NoMemory;
@@ -108,6 +108,14 @@ impl<'a> Uses<'a> {
             counts,
             assigned,
         })
+    }
+
+    /// Whether a net bit stands at one place, besides the header and its declarations.
+    pub fn stands_once(&self, net: NetId) -> bool
+        requires within { net.0 < length self.now.nets }
+        ensures value { result ≡ (count_of self.now net == 1) }
+    {
+        self.counts[net.0 as usize] == 1
     }
 
     /// Whether a port is free: besides the header and its declarations its net bit stands at one place, as the whole left side

@@ -3,6 +3,8 @@
 //! Floor: readers, on base_types.
 #![tactic(auto)]
 
+mod head;
 mod statement;
 
+pub use head::{Callee, ScanChainDecl, StilHead};
 pub use statement::{PatternStatement, ScanCall};

@@ -1,7 +1,7 @@
 //! Tests of the Verilog crates: tokens, statements, netlists, faults, and a text that is written.
 //!
-//! Floor: tests, on verilog_syntax, verilog_reader, verilog_writer, text_scan, cell_table, netlist_core, chain_trace,
-//! net_edit, token_forms and base_types.
+//! Floor: tests, on verilog_syntax, verilog_reader, verilog_writer, cell_table, netlist_core, chain_trace, net_edit,
+//! token_forms and base_types.
 #![tactic(auto)]
 
 #[cfg(test)]

@@ -1,9 +1,10 @@
 ghost use Rattle.std.specs.Prelude.{◌<◌, ◌^◌, length};
 
+use base_types::NoMemory;
 use std::alloc::Global;
 use std::test::Fail;
-use text_scan::{NoMemory, verilog_tokens};
 use token_forms::Tokens;
+use verilog_syntax::verilog_tokens;
 
 /// The tokens of a text, with a bar behind each.
 fn barred(alloc: Global, text: &[u8]) -> Result<Vec<u8>, NoMemory>

@@ -3,7 +3,7 @@ use Rattle.std.specs.Prelude.{unsigned_abs}
 use Rattle.std.proofs.lemmas.Int.{ints}
 use Rattle.lef_pins.specs.declared.macros.MacroPin.{MacroPin}
 use Rattle.lef_pins.specs.Places.{rect_of, turn, IsMeasuredOrNone, IsShortPoint}
-use Rattle.lef_pins.specs.declared.orient.Orient.{Orient}
+use Rattle.def_tokens.specs.declared.orient.Orient.{Orient}
 use Rattle.base_types.specs.declared.span.Point.{Point}
 use Rattle.lef_pins.proofs.Turns.{IsInside, rect-measured, turn-inside}
 use Rattle.lef_pins.proofs.place.pin_place.Goals as goal

@@ -1,0 +1,10 @@
+pub mod BadChains
+pub mod ChainSpecs
+pub mod Counts
+pub mod ElementFaults
+pub mod ElementRows
+pub mod FirstPlaces
+pub mod Judged
+pub mod Once
+pub mod SpecElements
+pub mod Stages

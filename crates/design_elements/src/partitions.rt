@@ -1,0 +1,53 @@
+//! The partitions of chains.
+ghost use Rattle.std.specs.Prelude.{◌≡◌, IfOk};
+ghost use Rattle.design_elements.specs.Elements.{partition_number};
+
+use crate::places::firsts;
+use base_types::{Name, NoMemory};
+use def_reader::ScanChainText;
+use std::alloc::Global;
+use std::collections::HashMap;
+use std::marker::Model;
+
+/// Chains with the first of each partition. Contracts see the chains.
+#[derive(Drop)]
+pub(crate) struct Partitions<'d> {
+    chains: &'d [ScanChainText],
+    firsts: HashMap<&'d [u8], usize>,
+}
+
+impl<'d> Model for Partitions<'d> {
+    ghost use Rattle.std.specs.Prelude.{List};
+    ghost use Rattle.def_reader.specs.declared.design.ScanChainText.{ScanChainText};
+    ghost use Rattle.design_elements.specs.Firsts.{AreFirsts};
+
+    ghost Value = { List ScanChainText };
+
+    ghost view = { λ p. p.chains.now };
+
+    ghost invariant = { λ p. AreFirsts (λ c. c.partition) p.firsts p.chains.now };
+}
+
+impl<'d> Partitions<'d> {
+    pub(crate) fn of(alloc: Global, chains: &'d [ScanChainText]) -> Result<Partitions<'d>, NoMemory>
+        ensures value { IfOk result (λ p. p ≡ chains.now) }
+    {
+        Ok(Partitions {
+            chains,
+            firsts: firsts(alloc, chains)?,
+        })
+    }
+
+    /// The partition of the chain of a number: the number of the first chain of it, or its own where it names none.
+    pub(crate) fn number(&self, c: usize, name: &Option<Name>) -> usize
+        ensures value { result ≡ partition_number self.now c name.now }
+    {
+        let Some(name) = name else {
+            return c;
+        };
+        match self.firsts.get(&name.bytes()) {
+            Some(first) => *first,
+            None => c,
+        }
+    }
+}
