@@ -11,4 +11,5 @@ pub mod Noted
 pub mod PinKeys
 pub mod PlainNames
 pub mod RowsMore
+pub mod SoundDesigns
 pub mod Within

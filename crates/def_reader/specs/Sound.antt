@@ -1,6 +1,6 @@
 -- What holds of every design that a DEF text denotes: its numbers are within their limits, and each chain has a list and each list an
 -- element.
-use Rattle.std.specs.Prelude.{◌≤◌, ◌<◌, ◌^◌, ℕ, List, length, All, Option, Some, None, ℤ, pos, ◌≤ℤ◌, unsigned_abs}
+use Rattle.std.specs.Prelude.{◌≤◌, ◌<◌, ◌^◌, List, length, All, Option, Some, None, pos, ◌≤ℤ◌, unsigned_abs}
 use Rattle.base_types.specs.declared.span.Point.{Point}
 use Rattle.def_tokens.specs.declared.orient.Orient.{Orient}
 use Rattle.def_reader.specs.declared.design.Element.{Element}

@@ -12,6 +12,7 @@ ghost use Rattle.def_reader.specs.declared.design.Design.{Design as ghost_design
 ghost use Rattle.def_reader.specs.Designs.{is_chains, chains_span, chain_of, design_of};
 ghost use Rattle.def_reader.specs.Faults.{TwiceAt, HoldsInDesign};
 ghost use Rattle.def_reader.specs.Denoted.{DenotesDesign};
+ghost use Rattle.def_reader.specs.Sound.{IsSound};
 ghost use Rattle.def_reader.specs.Steps.{IsLeast};
 
 use crate::cells::Cells;
@@ -120,6 +121,8 @@ fn fault_at(kind: Kind, line: u64) -> ReadFault
 pub fn read_design(alloc: Global, bytes: &[u8], table: &CellTable) -> Result<Design, ReadFault>
     requires size { length bytes.now < 2 ^ 32 }
     ensures design { IfOk result (DenotesDesign bytes.now table.now) }
+    // Its numbers are within their limits, and each chain has a list with an element.
+    ensures sound { IfOk result IsSound }
     ensures only { IfOk result (λ d. (other : ghost_design) → DenotesDesign bytes.now table.now other → other ≡ d) }
     ensures fault { IfFault result (IsFirstFault (HoldsInDesign bytes.now)) }
     ensures no_fault { OnOk result ((fault : ghost_fault) → HoldsInDesign bytes.now fault → ⊥) }

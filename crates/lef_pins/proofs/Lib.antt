@@ -1,3 +1,15 @@
+pub mod Examples
+pub mod FileGathered
 pub mod Floors
+pub mod FormLaws
+pub mod Gathered
+pub mod Items
+pub mod Leasts
+pub mod LefFaults
+pub mod Loops
 pub mod MacroViews
+pub mod Measured
+pub mod OuterLaws
+pub mod Trees
 pub mod Turns
+pub mod TwiceNames

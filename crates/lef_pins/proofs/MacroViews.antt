@@ -1,9 +1,14 @@
 -- A look-up by bytes among the entries of the map of macros, as they are seen.
-use Rattle.std.proofs.Common.{◌≡◌, ℕ, cond, List, [], ◌∷◌, map, Some, Global, Vec, refl, ap}
+use Rattle.std.proofs.Common.{◌≡◌, ℕ, Bool, true, false, ◌||◌, cond, List, [], ◌∷◌, ◌++◌, map, Bor, Some, Global, Vec, refl, ap, ◌∙◌}
+use Rattle.std.specs.List.{list_any}
 use Rattle.std.specs.Map.{lookup}
+use Rattle.std.proofs.lemmas.List.{map-append}
+use Rattle.indexmap.specs.IndexMap.{insert_entry}
+use Rattle.indexmap.specs.IndexSet.{insert_key}
 use Rattle.std.specs.Str.{bytes_eq}
 use Rattle.lef_pins.specs.declared.macros.Macro.{Macro}
-use Rattle.lef_pins.specs.Macros.{NamedMacros, macro_at}
+use Rattle.lef_pins.specs.Macros.{NamedMacros, macro_at, with_macro}
+use Rattle.lef_pins.specs.Reading.{with_name}
 
 abbrev pub MacroEntry : Type 0
 MacroEntry = Vec ℕ Global × Macro
@@ -14,3 +19,29 @@ macros_view es = map (λ e. (e.0.items, e.1)) es
 pub lookup-macros_view : (q : List ℕ) (es : List MacroEntry) → macro_at q (macros_view es) ≡ lookup (λ k. bytes_eq q k.items) es
 lookup-macros_view q [] = refl
 lookup-macros_view q (e ∷ es) = ap (cond (bytes_eq q e.0.items) (Some e.1)) (lookup-macros_view q es)
+
+-- a choice that is seen
+seen : {X Y : Type 0} (f : X → Y) (b : Bool) (x y : X) → f (cond b x y) ≡ cond b (f x) (f y)
+seen f true x y = refl
+seen f false x y = refl
+
+pub macros_view-insert : (k : Vec ℕ Global) (m : Macro) (es : List MacroEntry) → macros_view (insert_entry (λ x y. bytes_eq x.items y.items) es k m) ≡ with_macro (macros_view es) k.items m
+macros_view-insert k m [] = refl
+macros_view-insert k m (e ∷ es) =
+    seen macros_view (bytes_eq k.items e.0.items) ((e.0, m) ∷ es) (e ∷ insert_entry (λ x y. bytes_eq x.items y.items) es k m)
+    ∙ ap (λ (l : NamedMacros). cond (bytes_eq k.items e.0.items) ((e.0.items, m) ∷ macros_view es) ((e.0.items, e.1) ∷ l)) (macros_view-insert k m es)
+
+-- names as they are seen
+abbrev names_view : List (Bor (List ℕ)) → List (List ℕ)
+names_view ks = map (λ k. k.now) ks
+
+pub list_any-names_view : (k : Bor (List ℕ)) (ks : List (Bor (List ℕ))) → list_any (λ (x : Bor (List ℕ)). bytes_eq k.now x.now) ks ≡ list_any (bytes_eq k.now) (names_view ks)
+list_any-names_view k [] = refl
+list_any-names_view k (x ∷ xs) = ap (λ (b : Bool). bytes_eq k.now x.now || b) (list_any-names_view k xs)
+
+pub names_view-insert : (k : Bor (List ℕ)) (ks : List (Bor (List ℕ))) → names_view (insert_key (λ x y. bytes_eq x.now y.now) ks k) ≡ with_name (names_view ks) k.now
+unfolding with_name
+names_view-insert k ks =
+    seen names_view (list_any (λ (x : Bor (List ℕ)). bytes_eq k.now x.now) ks) ks (ks ++ k ∷ [])
+    ∙ ap (λ (l : List (List ℕ)). cond (list_any (λ (x : Bor (List ℕ)). bytes_eq k.now x.now) ks) (names_view ks) l) (map-append (λ (x : Bor (List ℕ)). x.now) ks (k ∷ []))
+    ∙ ap (λ (b : Bool). cond b (names_view ks) (names_view ks ++ k.now ∷ [])) (list_any-names_view k ks)

@@ -1,9 +1,10 @@
 //! Macros, as far as places need them.
-ghost use Rattle.std.specs.Prelude.{◌≡◌, option_map};
-ghost use Rattle.lef_pins.specs.Macros.{macro_at};
+ghost use Rattle.std.specs.Prelude.{◌≡◌, [], option_map, is_some, IfOk, OnOk};
+ghost use Rattle.lef_pins.specs.Macros.{macro_at, with_macro};
 
-use base_types::{Name, Rows};
+use base_types::{Name, NoMemory, Rows};
 use indexmap::IndexMap;
+use std::alloc::Global;
 use std::marker::Model;
 
 /// A macro of a LEF: its SIZE, its ORIGIN, which is 0 0 where it has none, and its pins. Lengths are in millionths of a
@@ -41,6 +42,24 @@ impl Model for Macros {
 }
 
 impl Macros {
+    /// No macros; takes no memory.
+    pub(crate) fn new(alloc: Global) -> Macros
+        ensures value { result ≡ [] }
+    {
+        Macros {
+            macros: IndexMap::new(alloc),
+        }
+    }
+
+    /// Adds a macro of a name, and tells whether the name is there already: then the later macro has its place.
+    pub(crate) fn add(&mut self, name: Vec<u8>, m: Macro) -> Result<bool, NoMemory>
+        ensures known { IfOk result (λ known. known ≡ is_some (macro_at name.items self.old)) }
+        ensures macros { OnOk result (self.new ≡ with_macro self.old name.items m) }
+    {
+        let before = self.macros.insert(name, m)?;
+        Ok(before.is_some())
+    }
+
     /// The macro of a name, or None exactly where there is none; takes no memory.
     pub fn get(&self, name: &Name) -> Option<&Macro>
         ensures value { option_map (λ m. m.now) result ≡ macro_at name.now self.now }

@@ -25,11 +25,14 @@ request_by verbs.Rewire (a ∷ b ∷ c ∷ d ∷ e ∷ f ∷ g ∷ []) further =
 request_by verbs.Rewire values further = requests.Trace (record { table = []; verilog = []; scan_out = [] })
 request_by verbs.Trace (a ∷ b ∷ c ∷ []) further = requests.Trace (record { table = a; verilog = b; scan_out = c })
 request_by verbs.Trace values further = requests.Trace (record { table = []; verilog = []; scan_out = [] })
+request_by verbs.Check (a ∷ b ∷ c ∷ d ∷ []) further = requests.Check (record { table = a; lef = b; verilog = c; def = d })
+request_by verbs.Check values further = requests.Trace (record { table = []; verilog = []; scan_out = [] })
 
 request_back : (request : Request) → request_by (order_of request).verb (order_of request).values (order_of request).further ≡ request
 unfolding request_by
 request_back (requests.Rewire r) = refl
 request_back (requests.Trace r) = refl
+request_back (requests.Check r) = refl
 
 -- an order is that of one request at most
 pub order_once : (one other : Request) → order_of one ≡ order_of other → one ≡ other
@@ -116,10 +119,30 @@ made_trace values given [] h count =
     }
 made_trace values given (w ∷ ws) h count = let none = zero_is (length (w ∷ ws)) count in absurd (omega (arith, none))
 
+made_check : (values : Values) (given further : List Text) → each_value values (options_of verbs.Check) ≡ Some given → is_count false (length further) ≡ true → IsMade verbs.Check given further
+made_check values given [] h count =
+    let a = first values options.Table _ given h in
+    let b = first values options.Lef _ a.rest a.others in
+    let c = first values options.Verilog _ b.rest b.others in
+    let d = first values options.Def _ c.rest c.others in
+    let last = none_left values d.rest d.others in
+    let same : a.value ∷ b.value ∷ c.value ∷ d.value ∷ [] ≡ given
+    = sym
+    (a.same
+    ∙ ap (λ (xs : List Text). a.value ∷ xs)
+    (b.same ∙ ap (λ (xs : List Text). b.value ∷ xs) (c.same ∙ ap (λ (xs : List Text). c.value ∷ xs) (d.same ∙ ap (λ (xs : List Text). d.value ∷ xs) last)))) in
+    record {
+      request = requests.Check (record { table = a.value; lef = b.value; verilog = c.value; def = d.value });
+      order_is = ap (λ (vs : List Text). record { verb = verbs.Check; values = vs; further = [] }) same;
+      pins = tt;
+    }
+made_check values given (w ∷ ws) h count = let none = zero_is (length (w ∷ ws)) count in absurd (omega (arith, none))
+
 made : (verb : Verb) (values : Values) (given further : List Text) → each_value values (options_of verb) ≡ Some given → are_apart values (options_of verb) ≡ true
     → is_count (takes_further verb) (length further) ≡ true → IsMade verb given further
 made verbs.Rewire values given further each apart count = made_rewire values given further each apart
 made verbs.Trace values given further each apart count = made_trace values given further each count
+made verbs.Check values given further each apart count = made_check values given further each count
 
 abbrev further_in : Values → List Text
 further_in values = values (codes "further")

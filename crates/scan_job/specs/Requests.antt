@@ -17,6 +17,7 @@ order_of (requests.Rewire r) = record {
   further = r.units;
 }
 order_of (requests.Trace r) = record { verb = verbs.Trace; values = r.table ∷ r.verilog ∷ r.scan_out ∷ []; further = [] }
+order_of (requests.Check r) = record { verb = verbs.Check; values = r.table ∷ r.lef ∷ r.verilog ∷ r.def ∷ []; further = [] }
 
 -- the words say this request
 abbrev pub Asks : List (List ℕ) → Request → Type 0
@@ -26,6 +27,7 @@ Asks words request = Says words (order_of request)
 abbrev pub ArePinsApart : Request → Type 0
 ArePinsApart (requests.Rewire r) = r.in_pin ≢ r.out_pin
 ArePinsApart (requests.Trace r) = Unit {0}
+ArePinsApart (requests.Check r) = Unit {0}
 
 -- the order is that of a request whose pins are apart
 pub record IsAsked (order : Order) : Type 0 where
@@ -50,6 +52,16 @@ names_of (requests.Trace r) = record {
   lef = None;
   verilog = Some r.verilog;
   def = None;
+  stil = None;
+  out_verilog = None;
+  out_def = None;
+  out_stil = None;
+}
+names_of (requests.Check r) = record {
+  table = Some r.table;
+  lef = Some r.lef;
+  verilog = Some r.verilog;
+  def = Some r.def;
   stil = None;
   out_verilog = None;
   out_def = None;

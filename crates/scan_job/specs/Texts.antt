@@ -2,7 +2,7 @@
 use Rattle.std.specs.Prelude.{◌≡◌, ℕ, List, [], ◌∷◌, ◌++◌, codes}
 use Rattle.std.specs.Fmt.{decimal}
 use Rattle.desk_io.specs.declared.slot.Slot.{Slot}
-use Rattle.desk_io.specs.declared.slot.Slot.TheVariants.{Table, Verilog}
+use Rattle.desk_io.specs.declared.slot.Slot.TheVariants.{Table, Lef, Verilog, Def}
 use Rattle.desk_io.specs.declared.outputs.Outputs.{Outputs}
 use Rattle.scan_job.specs.declared.request.Request.{Request}
 use Rattle.scan_job.specs.declared.request.RewireRequest.{RewireRequest}
@@ -11,6 +11,7 @@ use Rattle.scan_job.specs.Requests.{rewire_of}
 use Rattle.scan_job.specs.Faults.{HasNoFault, HasNoFaultBefore}
 use Rattle.chain_rewire.specs.Rewiring.{IsRewired, AreErasedAlike, HasPath}
 use Rattle.path_report.specs.Reports.{IsPathText}
+use Rattle.check_report.specs.Checks.{texts_of, IsCheckText}
 
 -- what `rewire` says: how many in pins and ports it edited
 abbrev pub moved_text : ℕ → List ℕ
@@ -30,6 +31,7 @@ pub record AreRewired (r : RewireRequest) (verilog : List ℕ) (outputs : Output
 abbrev pub AreTexts : Request → (Slot → List ℕ) → Outputs → Type 0
 AreTexts (requests.Rewire r) files outputs = AreRewired r (files Verilog) outputs
 AreTexts (requests.Trace r) files outputs = IsPathText (files Table) (files Verilog) r.scan_out outputs.console
+AreTexts (requests.Check r) files outputs = IsCheckText (texts_of (files Table) (files Lef) (files Verilog) (files Def)) outputs.console
 
 -- the files have no fault, and the outputs are those of the command
 pub record AreOutputsOf (request : Request) (files : Slot → List ℕ) (outputs : Outputs) : Type 0 where

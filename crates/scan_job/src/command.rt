@@ -1,5 +1,5 @@
 ghost use Rattle.std.specs.Prelude.{◌≡◌, ◌<◌, ◌^◌, length};
-ghost use Rattle.desk_io.specs.declared.slot.Slot.TheVariants.{Console, Verilog};
+ghost use Rattle.desk_io.specs.declared.slot.Slot.TheVariants.{Console, Lef, Verilog, Def};
 ghost use Rattle.desk_io.specs.Desk.{AllUnopened, IsUnopened};
 ghost use Rattle.desk_io.specs.Names.{AllowsNames};
 ghost use Rattle.desk_io.specs.Inputs.{input_at};
@@ -66,7 +66,9 @@ fn finish<D: Desk>(
 ) -> Result<(), Stop>
     requires named { names.now ≡ names_of request.now }
     requires pins { ArePinsApart request.now }
+    requires small_lef { length (input_at inputs.now Lef) < 2 ^ 32 }
     requires small { length (input_at inputs.now Verilog) < 2 ^ 32 }
+    requires small_def { length (input_at inputs.now Def) < 2 ^ 32 }
     requires unopened { OutputsUnopened (D.state desk.old) }
     requires allowed { AllowsNames (names_of request.now) (D.allows desk.old) }
     ensures ended { HasFinished request.now inputs.now (D.state desk.old) (D.state desk.new) result }

@@ -1,15 +1,16 @@
 ghost use Rattle.std.specs.Prelude.{◌≡◌, ◌≢◌, ◌<◌, ◌^◌, length, IfOk};
 ghost use Rattle.base_types.specs.FirstFault.{IfFault};
-ghost use Rattle.desk_io.specs.declared.slot.Slot.TheVariants.{Verilog};
+ghost use Rattle.desk_io.specs.declared.slot.Slot.TheVariants.{Lef, Verilog, Def};
 ghost use Rattle.desk_io.specs.Inputs.{input_at};
 ghost use Rattle.scan_job.specs.Requests.{ArePinsApart};
 ghost use Rattle.scan_job.specs.Faults.{IsCommandFault, HasNoCommandFault};
 ghost use Rattle.scan_job.specs.Texts.{AreTexts};
 
 use crate::line::moved_line;
-use crate::request::{Request, RewireRequest, TraceRequest, rewire_of};
+use crate::request::{CheckRequest, Request, RewireRequest, TraceRequest, rewire_of};
 use base_types::{ReadFault, Text};
 use chain_rewire::rewire_text;
+use check_report::check_text;
 use desk_io::{Inputs, Outputs, Slot};
 use path_report::path_text;
 use std::alloc::Global;
@@ -55,9 +56,33 @@ fn judge_trace(alloc: Global, request: &TraceRequest, inputs: &Inputs) -> Result
     })
 }
 
+/// The text of `check`, or the first fault of its files.
+fn judge_check(alloc: Global, request: &CheckRequest, inputs: &Inputs) -> Result<Outputs, ReadFault>
+    requires small_lef { length (input_at inputs.now Lef) < 2 ^ 32 }
+    requires small { length (input_at inputs.now Verilog) < 2 ^ 32 }
+    requires small_def { length (input_at inputs.now Def) < 2 ^ 32 }
+    ensures no_fault { IfOk result (λ outputs. HasNoCommandFault (Request.Check request.now) (input_at inputs.now)) }
+    ensures texts { IfOk result (AreTexts (Request.Check request.now) (input_at inputs.now)) }
+    ensures fault { IfFault result (IsCommandFault (Request.Check request.now) (input_at inputs.now)) }
+{
+    let table = inputs.text(Slot::Table);
+    let lef = inputs.text(Slot::Lef);
+    let verilog = inputs.text(Slot::Verilog);
+    let def = inputs.text(Slot::Def);
+    let console = check_text(alloc, table, lef, verilog, def)?;
+    Ok(Outputs {
+        verilog: Text::of(Vec::new(alloc)),
+        def: Text::of(Vec::new(alloc)),
+        stil: Text::of(Vec::new(alloc)),
+        console,
+    })
+}
+
 /// The texts of the command, or the first fault that it finds in its files.
 pub(crate) fn judge(alloc: Global, request: &Request, inputs: &Inputs) -> Result<Outputs, ReadFault>
+    requires small_lef { length (input_at inputs.now Lef) < 2 ^ 32 }
     requires small { length (input_at inputs.now Verilog) < 2 ^ 32 }
+    requires small_def { length (input_at inputs.now Def) < 2 ^ 32 }
     requires pins { ArePinsApart request.now }
     ensures no_fault { IfOk result (λ outputs. HasNoCommandFault request.now (input_at inputs.now)) }
     ensures texts { IfOk result (AreTexts request.now (input_at inputs.now)) }
@@ -66,5 +91,6 @@ pub(crate) fn judge(alloc: Global, request: &Request, inputs: &Inputs) -> Result
     match request {
         Request::Rewire(request) => judge_rewire(alloc, request, inputs),
         Request::Trace(request) => judge_trace(alloc, request, inputs),
+        Request::Check(request) => judge_check(alloc, request, inputs),
     }
 }

@@ -1,8 +1,8 @@
 ghost use Rattle.std.specs.Prelude.{◌≡◌, ◌++◌, IfOk, OnOk};
-ghost use Rattle.scan_job.specs.Faults.{rewire_word, trace_word, file_word, spot_text, fault_text};
+ghost use Rattle.scan_job.specs.Faults.{rewire_word, trace_word, check_word, file_word, spot_text, fault_text};
 ghost use Rattle.scan_job.specs.Texts.{moved_text};
 
-use crate::request::{Request, RewireRequest, TraceRequest};
+use crate::request::{CheckRequest, Request, RewireRequest, TraceRequest};
 use base_types::{Fault, FileKind, NoMemory, Spot, Text};
 use std::alloc::Global;
 
@@ -25,6 +25,18 @@ fn trace_word(request: &TraceRequest, file: FileKind) -> &str
     }
 }
 
+fn check_word(request: &CheckRequest, file: FileKind) -> &str
+    ensures value { result.now ≡ check_word request.now file }
+{
+    match file {
+        FileKind::Table => request.table.as_str(),
+        FileKind::Lef => request.lef.as_str(),
+        FileKind::Verilog => request.verilog.as_str(),
+        FileKind::Def => request.def.as_str(),
+        _ => "words",
+    }
+}
+
 /// The word by which a fault of the command names its file.
 fn file_word(request: &Request, file: FileKind) -> &str
     ensures value { result.now ≡ file_word request.now file }
@@ -32,6 +44,7 @@ fn file_word(request: &Request, file: FileKind) -> &str
     match request {
         Request::Rewire(request) => rewire_word(request, file),
         Request::Trace(request) => trace_word(request, file),
+        Request::Check(request) => check_word(request, file),
     }
 }
 

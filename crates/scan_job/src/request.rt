@@ -41,6 +41,19 @@ pub struct TraceRequest {
     pub scan_out: Name,
 }
 
+/// What the words of `check` ask for, by the names of its options.
+#[derive(Debug, Drop)]
+pub struct CheckRequest {
+    /// The name of the cell table that is read.
+    pub table: Word,
+    /// The name of the LEF file that is read.
+    pub lef: Word,
+    /// The name of the Verilog file that is read.
+    pub verilog: Word,
+    /// The name of the DEF file that is read.
+    pub def: Word,
+}
+
 /// What the words ask for.
 #[derive(Debug, Drop)]
 pub enum Request {
@@ -48,6 +61,8 @@ pub enum Request {
     Rewire(RewireRequest),
     /// To tell the scan path of one scan output.
     Trace(TraceRequest),
+    /// To tell whether a placed design, its scan chains and its netlist agree, and how long the chains are.
+    Check(CheckRequest),
 }
 
 fn name_of(alloc: Global, word: &Word) -> Result<Name, NoMemory>
@@ -118,6 +133,21 @@ fn trace_request(alloc: Global, values: &[Word]) -> Result<TraceRequest, NoMemor
     }
 }
 
+fn check_request(alloc: Global, values: &[Word]) -> Result<CheckRequest, NoMemory>
+    requires count { length values.now ≡ 4 }
+    ensures values { IfOk result (λ r. (order_of (Request.Check r)).values ≡ values.now) }
+{
+    match values {
+        [table, lef, verilog, def] => Ok(CheckRequest {
+            table: word_of(alloc, table)?,
+            lef: word_of(alloc, lef)?,
+            verilog: word_of(alloc, verilog)?,
+            def: word_of(alloc, def)?,
+        }),
+        _ => unreachable!(),
+    }
+}
+
 /// The request that an order's values make. This is the one place at which a value is known by its place.
 pub(crate) fn request_of(alloc: Global, order: &Order) -> Result<Request, NoMemory>
     requires asked { IsAsked order.now }
@@ -130,6 +160,7 @@ pub(crate) fn request_of(alloc: Global, order: &Order) -> Result<Request, NoMemo
             Ok(Request::Rewire(request))
         }
         Verb::Trace => Ok(Request::Trace(trace_request(alloc, values)?)),
+        Verb::Check => Ok(Request::Check(check_request(alloc, values)?)),
     }
 }
 
@@ -153,6 +184,16 @@ pub(crate) fn names_of(alloc: Global, request: &Request) -> Result<Names, NoMemo
             lef: None,
             verilog: Some(word_of(alloc, &request.verilog)?),
             def: None,
+            stil: None,
+            out_verilog: None,
+            out_def: None,
+            out_stil: None,
+        }),
+        Request::Check(request) => Ok(Names {
+            table: Some(word_of(alloc, &request.table)?),
+            lef: Some(word_of(alloc, &request.lef)?),
+            verilog: Some(word_of(alloc, &request.verilog)?),
+            def: Some(word_of(alloc, &request.def)?),
             stil: None,
             out_verilog: None,
             out_def: None,

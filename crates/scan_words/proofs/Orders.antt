@@ -9,7 +9,7 @@ use Rattle.clap.specs.Takes.{takes}
 use Rattle.clap.specs.Walk.{rows_of}
 use Rattle.clap.specs.declared.parser.matches.ArgMatches.{ArgMatches}
 use Rattle.scan_words.specs.declared.verb.Verb.{Verb}
-use Rattle.scan_words.specs.declared.verb.Verb.TheVariants.{Rewire, Trace}
+use Rattle.scan_words.specs.declared.verb.Verb.TheVariants.{Rewire, Trace, Check}
 use Rattle.std.specs.Str.{bytes_eq}
 use Rattle.std.proofs.lemmas.Slice.Eq.{bytes_eq-Decides}
 use Rattle.scan_words.specs.Command.{program, raw_of}
@@ -112,21 +112,23 @@ pub same_words : (words : List Text) → map (λ word. word) words ≡ words
 same_words [] = refl
 same_words (w ∷ ws) = ap (λ (rest : List Text). w ∷ rest) (same_words ws)
 
+-- a word is the name of the first command, or what the others say of it holds
+named_or : (word : Text) (first verb : Verb) (others : Option Verb) → (others ≡ Some verb → word ≡ verb_name verb)
+    → cond (bytes_eq word (verb_name first)) (Some first) others ≡ Some verb → word ≡ verb_name verb
+named_or word first verb others more is =
+    let cases : (b : Bool) → bytes_eq word (verb_name first) ≡ b → cond b (Some first) others ≡ Some verb → word ≡ verb_name verb
+    = λ b. elim b as (λ b. bytes_eq word (verb_name first) ≡ b → cond b (Some first) others ≡ Some verb → word ≡ verb_name verb) [
+      | true ↦ λ f k. let same : first ≡ verb = cc in (bytes_eq-Decides word (verb_name first)).0 f ∙ ap verb_name same
+      | false ↦ λ f k. more k
+    ]
+    in cases (bytes_eq word (verb_name first)) refl is
+
 -- the word that names a command
 pub verb_word : (word : Text) (verb : Verb) → verb_of word ≡ Some verb → word ≡ verb_name verb
 unfolding verb_of
 verb_word word verb is =
-    let second : (b : Bool) → bytes_eq word (codes "trace") ≡ b → cond b (Some Trace) None ≡ Some verb → word ≡ verb_name verb
-    = λ b. elim b as (λ b. bytes_eq word (codes "trace") ≡ b → cond b (Some Trace) None ≡ Some verb → word ≡ verb_name verb) [
-      | true ↦ λ f k. let same : Trace ≡ verb = cc in (bytes_eq-Decides word (codes "trace")).0 f ∙ ap verb_name same
-      | false ↦ λ f k. absurd cc
-    ] in
-    let cases : (b : Bool) → bytes_eq word (codes "rewire") ≡ b → cond b (Some Rewire) (cond (bytes_eq word (codes "trace")) (Some Trace) None) ≡ Some verb → word ≡ verb_name verb
-    = λ b. elim b as (λ b. bytes_eq word (codes "rewire") ≡ b → cond b (Some Rewire) (cond (bytes_eq word (codes "trace")) (Some Trace) None) ≡ Some verb → word ≡ verb_name verb) [
-      | true ↦ λ f k. let same : Rewire ≡ verb = cc in (bytes_eq-Decides word (codes "rewire")).0 f ∙ ap verb_name same
-      | false ↦ λ f k. second (bytes_eq word (codes "trace")) refl k
-    ]
-    in cases (bytes_eq word (codes "rewire")) refl is
+    named_or word Rewire verb (cond (bytes_eq word (codes "trace")) (Some Trace) (cond (bytes_eq word (codes "check")) (Some Check) None))
+    (named_or word Trace verb (cond (bytes_eq word (codes "check")) (Some Check) None) (named_or word Check verb None (λ none. absurd cc))) is
 
 pub no_order : (words : List Text) (command : Text) (behind : List Text) (verb : Verb) → words ≡ command ∷ behind → verb_of command ≡ Some verb → have_parts (option_names verb) (takes_further verb) false behind ≡ false → order_in words ≡ None
 unfolding order_in

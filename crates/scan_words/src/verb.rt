@@ -10,6 +10,8 @@ pub enum Verb {
     Rewire,
     /// Tells the scan path of one scan output.
     Trace,
+    /// Tells whether a placed design, its scan chains and its netlist agree, and the chains' lengths.
+    Check,
 }
 
 static REWIRE: [OptionForm; 7] = [
@@ -58,6 +60,25 @@ static TRACE: [OptionForm; 3] = [
     },
 ];
 
+static CHECK: [OptionForm; 4] = [
+    OptionForm {
+        name: OptionName::Table,
+        need: Need::Needed,
+    },
+    OptionForm {
+        name: OptionName::Lef,
+        need: Need::Needed,
+    },
+    OptionForm {
+        name: OptionName::Verilog,
+        need: Need::Needed,
+    },
+    OptionForm {
+        name: OptionName::Def,
+        need: Need::Needed,
+    },
+];
+
 impl Verb {
     #[tactic(auto, unfolding(crate::specs::Orders::verb_of))]
     pub(crate) fn of(word: &str) -> Option<Verb>
@@ -67,6 +88,8 @@ impl Verb {
             Some(Verb::Rewire)
         } else if word == "trace" {
             Some(Verb::Trace)
+        } else if word == "check" {
+            Some(Verb::Check)
         } else {
             None
         }
@@ -79,6 +102,7 @@ impl Verb {
         match self {
             Verb::Rewire => "rewire",
             Verb::Trace => "trace",
+            Verb::Check => "check",
         }
     }
 
@@ -89,6 +113,7 @@ impl Verb {
         match self {
             Verb::Rewire => REWIRE.as_slice(),
             Verb::Trace => TRACE.as_slice(),
+            Verb::Check => CHECK.as_slice(),
         }
     }
 

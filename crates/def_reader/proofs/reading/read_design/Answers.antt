@@ -6,6 +6,8 @@ use Rattle.def_reader.specs.Designs.{design_of}
 use Rattle.def_reader.specs.Faults.{TwiceAt}
 use Rattle.def_reader.specs.Steps.{IsLeast}
 use Rattle.def_reader.proofs.DesignFaults.{form_stage, number_first, twice_first, no_fault}
+use Rattle.def_reader.specs.Sound.{IsSound}
+use Rattle.def_reader.proofs.SoundDesigns.{sound_design}
 use Rattle.def_reader.proofs.reading.read_design.Goals as goal
 
 pub returns-in_err-text-clause-fault : goal.returns-in_err-text-clause-fault
@@ -32,3 +34,18 @@ returns-clause-no_fault c =
     let text = c.in_ok-text.text in
     let twice = c.in_ok-line.ensures.value c.args.bytes.now c.args.table.now text c.in_ok-design.ensures.value (c.as_slice.ensures.value ∙ c.in_ok-design.ensures.sections) in
     no_fault c.args.bytes.now text c.in_ok-text.ensures.exactly c.in_default.ensures.value (subst (λ (r : Option ℕ). IsLeast (TwiceAt c.args.bytes.now text) r) c.in_default-2.is twice)
+
+pub returns-clause-sound : goal.returns-clause-sound
+returns-clause-sound c = subst IsSound (sym c.in_ok-design.ensures.value) (sound_design c.args.bytes.now c.args.table.now c.in_ok-text.text c.in_ok-text.ensures.exactly.0 c.in_default.ensures.value)
+
+pub returns-clause-design : goal.returns-clause-design
+returns-clause-design c =
+    let text = c.in_ok-text.text in
+    let twice = c.in_ok-line.ensures.value c.args.bytes.now c.args.table.now text c.in_ok-design.ensures.value (c.as_slice.ensures.value ∙ c.in_ok-design.ensures.sections) in
+    record {
+      statements = text;
+      reads = c.in_ok-text.ensures.exactly.0;
+      numbers = c.in_default.ensures.value;
+      once = subst (λ (r : Option ℕ). IsLeast (TwiceAt c.args.bytes.now text) r) c.in_default-2.is twice;
+      is = c.in_ok-design.ensures.value;
+    }

@@ -1,6 +1,6 @@
 use Rattle.std.proofs.Common.{Err, subst, arith}
 use Rattle.base_types.specs.declared.fault.Fault.{Fault}
-use Rattle.desk_io.specs.declared.slot.Slot.TheVariants.{Verilog}
+use Rattle.desk_io.specs.declared.slot.Slot.TheVariants.{Lef, Verilog, Def}
 use Rattle.desk_io.specs.declared.names.Names.{Names}
 use Rattle.desk_io.specs.Prefixes.{IsTooLarge, HasFailedToTake, HasRunOut}
 use Rattle.desk_io.specs.declared.inputs.InputsFault.{InputsFault}
@@ -10,12 +10,28 @@ use Rattle.scan_job.specs.Phases.{HasSaid}
 use Rattle.scan_job.proofs.Phases.{small_input, finished, input_failed, inputs_ran_out, found_large, said_ended}
 use Rattle.scan_job.proofs.command.run_named.Goals as goal
 
+pub finish-requires-clause-small_lef : goal.finish-requires-clause-small_lef
+finish-requires-clause-small_lef g c =
+    let a = g.D.Desk.state c.args.desk.now in
+    let b = g.D.Desk.state c.take_inputs.new.desk in
+    let taken = subst (λ (names : Names). HasTakenInputs names 5 c.in-Ok.inputs a b) c.requires.named c.in-Ok.ensures.ok in
+    let small = small_input c.args.request.now c.in-Ok.inputs a b taken Lef tt in
+    omega (arith, small)
+
 pub finish-requires-clause-small : goal.finish-requires-clause-small
 finish-requires-clause-small g c =
     let a = g.D.Desk.state c.args.desk.now in
     let b = g.D.Desk.state c.take_inputs.new.desk in
     let taken = subst (λ (names : Names). HasTakenInputs names 5 c.in-Ok.inputs a b) c.requires.named c.in-Ok.ensures.ok in
     let small = small_input c.args.request.now c.in-Ok.inputs a b taken Verilog tt in
+    omega (arith, small)
+
+pub finish-requires-clause-small_def : goal.finish-requires-clause-small_def
+finish-requires-clause-small_def g c =
+    let a = g.D.Desk.state c.args.desk.now in
+    let b = g.D.Desk.state c.take_inputs.new.desk in
+    let taken = subst (λ (names : Names). HasTakenInputs names 5 c.in-Ok.inputs a b) c.requires.named c.in-Ok.ensures.ok in
+    let small = small_input c.args.request.now c.in-Ok.inputs a b taken Def tt in
     omega (arith, small)
 
 pub returns-in-Ok : goal.returns-in-Ok

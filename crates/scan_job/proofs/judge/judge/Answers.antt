@@ -5,3 +5,6 @@ returns-in-Rewire-clause-no_fault c = rw c.in-Rewire.is c.judge_rewire.ensures.n
 
 pub returns-in-Trace-clause-no_fault : goal.returns-in-Trace-clause-no_fault
 returns-in-Trace-clause-no_fault c = rw c.in-Trace.is c.judge_trace.ensures.no_fault
+
+pub returns-in-Check-clause-no_fault : goal.returns-in-Check-clause-no_fault
+returns-in-Check-clause-no_fault c = rw c.in-Check.is c.judge_check.ensures.no_fault

@@ -1,14 +1,27 @@
-use Rattle.std.proofs.Common.{◌≡◌, ℕ, List, None, refl, sym, ◌∙◌, subst}
+use Rattle.std.proofs.Common.{◌≡◌, ℕ, List, None, Result, Ok, Err, inr, refl, sym, ◌∙◌, subst}
 use Rattle.scan_words.specs.declared.order.Order.{Order}
 use Rattle.scan_words.specs.Orders.{order_in}
 use Rattle.scan_words.specs.Written.{Says}
 use Rattle.scan_job.specs.declared.request.Request.{Request}
+use Rattle.scan_job.specs.declared.stop.Stop.{Stop}
+use Rattle.scan_job.specs.declared.stop.Stop.TheVariants.{NoForm, Refused, InputFailed, OutputFailed, NoMemory}
 use Rattle.scan_job.specs.Requests.{Asks, order_of}
+use Rattle.scan_job.specs.TopCall.{Slots}
+use Rattle.scan_job.specs.Ended.{HasEnded, HasRun}
 use Rattle.scan_job.proofs.Asked.{asked, pins_apart}
 use Rattle.scan_job.proofs.top.run_words.Goals as goal
 
 asks : (words : List (List ℕ)) (order : Order) (request : Request) → Says words order → order_of request ≡ order → Asks words request
 asks words order request says is = subst (Says words) (sym is) says
+
+has_run : (words : List (List ℕ)) (request : Request) (old new : Slots) (result : Result (Unit {0}) Stop)
+    → Asks words request → HasEnded request old new result → HasRun words old new result
+has_run words request old new (Ok done) asks is = (request, asks, is)
+has_run words request old new (Err NoForm) asks is = absurd is
+has_run words request old new (Err Refused) asks is = (request, asks, is)
+has_run words request old new (Err InputFailed) asks is = (request, asks, is)
+has_run words request old new (Err OutputFailed) asks is = (request, asks, is)
+has_run words request old new (Err NoMemory) asks is = inr (request, asks, is)
 
 pub request_of-requires : goal.request_of-requires
 request_of-requires g c =
@@ -39,3 +52,13 @@ returns-in-Ok-None g c = record {
     λ slot. refl,
   );
 }
+
+pub returns-in-Ok : goal.returns-in-Ok
+returns-in-Ok g c =
+    let order = c.in-Ok-Some.order in
+    let request = c.in-Ok.request in
+    let says = (c.read_words.ensures.form order).1 (sym c.in-Ok-Some.ensures.value ∙ c.in-Ok-Some.field-0-is) in
+    let asked = asks c.args.words.now order request says c.in-Ok.ensures.value in
+    let old = g.D.Desk.state c.args.desk.now in
+    let new = g.D.Desk.state c.run_request.new.desk in
+    record { ended = has_run c.args.words.now request old new c.run_request.result asked c.run_request.ensures.ended }

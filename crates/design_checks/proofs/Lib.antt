@@ -1,0 +1,4 @@
+pub mod Belong
+pub mod FewUnits
+pub mod Measured
+pub mod Placed

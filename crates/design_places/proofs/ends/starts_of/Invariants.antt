@@ -1,0 +1,10 @@
+use Rattle.std.proofs.Common.{◌≡◌, map, take}
+use Rattle.design_places.specs.Ends.{source_on}
+use Rattle.design_places.specs.Layouts.{AreNearOrNowhere}
+use Rattle.design_places.proofs.ends.starts_of.Given as goal
+
+abbrev pub invariant-loop-chain : goal.invariant-loop-chain
+invariant-loop-chain l = record {
+  value : l.rows ≡ map (λ r. source_on l.layout.netlist l.layout.cells l.layout.macros l.layout.design l.paths r.path r.first) (take l.chain-index l.chains);
+  near : AreNearOrNowhere l.rows;
+}

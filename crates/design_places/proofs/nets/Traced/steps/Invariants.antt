@@ -1,0 +1,7 @@
+use Rattle.std.proofs.Common.{take}
+use Rattle.def_reader.specs.Steps.{IsLeast}
+use Rattle.design_places.specs.Lines.{ForOne, StepLacks}
+use Rattle.design_places.proofs.nets.Traced.steps.Given as goal
+
+abbrev pub invariant-loop-step : goal.invariant-loop-step
+invariant-loop-step l = IsLeast (ForOne (StepLacks l.self) (take l.step-index l.steps)) l.least

@@ -1,0 +1,44 @@
+//! Names, of which each stands once.
+ghost use Rattle.std.specs.Prelude.{◌≡◌, [], IfOk, OnOk};
+ghost use Rattle.std.specs.List.{list_any};
+ghost use Rattle.std.specs.Str.{bytes_eq};
+ghost use Rattle.lef_pins.specs.Reading.{with_name};
+
+use base_types::NoMemory;
+use indexmap::IndexSet;
+use std::alloc::Global;
+use std::marker::Model;
+
+/// Names of a text, which contracts see as their list.
+#[derive(Drop)]
+pub(crate) struct Names<'a> {
+    names: IndexSet<&'a [u8]>,
+}
+
+impl<'a> Model for Names<'a> {
+    ghost use Rattle.std.specs.Prelude.{List, ℕ, map};
+
+    ghost Value = { List (List ℕ) };
+
+    ghost view = { λ n. map (λ name. name.now) n.names.keys };
+}
+
+impl<'a> Names<'a> {
+    /// No names; takes no memory.
+    pub(crate) fn new(alloc: Global) -> Names<'a>
+        ensures value { result ≡ [] }
+    {
+        Names {
+            names: IndexSet::new(alloc),
+        }
+    }
+
+    /// Adds a name, and tells whether it is there already.
+    #[tactic(auto, unfolding(crate::specs::Reading::with_name))]
+    pub(crate) fn add(&mut self, name: &'a [u8]) -> Result<bool, NoMemory>
+        ensures known { IfOk result (λ known. known ≡ list_any (bytes_eq name.now) self.old) }
+        ensures names { OnOk result (self.new ≡ with_name self.old name.now) }
+    {
+        Ok(!self.names.insert(name)?)
+    }
+}

@@ -1,0 +1,4 @@
+pub mod NewPaths
+pub mod Numbered
+pub mod Owners
+pub mod Laws

@@ -1,0 +1,15 @@
+//! The paths after a plan of a design's chains (LEF/DEF 5.8, SCANCHAINS), and the laws that join plans with the edits between paths.
+//!
+//! Floor: paths, on several_paths, chain_rules, net_edit, chain_trace, netlist_core, cell_table and base_types.
+//! Contract: `new_paths` gives the paths that `specs/NewPaths.antt` says. `plan_law` says that they are the read ones rearranged, as
+//! several_paths asks it, and that at most one legal plan gives them. Begin with `paths.rt`.
+#![tactic(auto)]
+
+mod filling;
+mod laws;
+mod owners;
+mod paths;
+mod runs;
+
+pub use laws::plan_law;
+pub use paths::new_paths;

@@ -1,0 +1,11 @@
+//! Several paths put into another order at once, where outputs that an out pin drives directly are freed by tails: the edits of a
+//! netlist, and the laws of what they make of it.
+//!
+//! Floor: paths, on cell_table, netlist_core, chain_trace, net_edit and base_types.
+//! Contract: `edits_law` says that the edited netlist has the new paths, is a netlist, is the read one but for the scan wiring, and
+//! agrees with a design whose sinks were moved. Begin with `specs/Laws.antt`.
+#![tactic(auto)]
+
+mod laws;
+
+pub use laws::edits_law;

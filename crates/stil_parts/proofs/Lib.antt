@@ -1,0 +1,15 @@
+pub mod BytesKept
+pub mod Choices
+pub mod Comings
+pub mod EndLaw
+pub mod Ends
+pub mod GapLemmas
+pub mod HeadStable
+pub mod PartStable
+pub mod Resumed
+pub mod Runs
+pub mod Scans
+pub mod Searches
+pub mod ShownLaw
+pub mod TokenEnds
+pub mod Turns

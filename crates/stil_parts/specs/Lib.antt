@@ -1,0 +1,10 @@
+pub mod Coming
+pub mod Deciding
+pub mod Ending
+pub mod Gaps
+pub mod Heads
+pub mod Laws
+pub mod Parts
+pub mod Resuming
+pub mod Scanner
+pub mod Words

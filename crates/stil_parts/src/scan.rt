@@ -1,0 +1,271 @@
+//! Where a statement ends, found byte by byte.
+ghost use Rattle.std.specs.Prelude.{◌≡◌, ◌≤◌, ◌<◌, ◌+◌, ◌^◌, ◌&&◌, true, false, length, drop};
+ghost use Rattle.std.specs.List.{prefix_len};
+ghost use Rattle.stil_tokens.specs.StilTokens.{is_run, is_quote, is_blank, other_mark};
+ghost use Rattle.stil_parts.specs.Words.{is_known};
+ghost use Rattle.stil_parts.specs.Scanner.{mark_step, run_step, free_step, block_step, inside, mode_step, step, is_in_run, at_brace, ScannedOn};
+
+use crate::word::{Word, mark_word, names_pattern, quote_word, word_byte, word_ends, word_settled};
+use stil_tokens::{is_blank, is_quote, run_len};
+
+/// What the last byte belongs to.
+#[derive(Clone, Copy, Debug)]
+pub enum Mode {
+    /// A token may begin.
+    Free,
+    /// A run, which goes on with other bytes than blanks, quotes and marks.
+    Run,
+    /// A slash where a token would begin: a comment or a run.
+    Slash,
+    /// A text in this quote.
+    Quoted(u8),
+    /// A comment to the line's end.
+    Line,
+    /// A comment in `/*`; a `*` that may begin its end came just before.
+    Block(bool),
+    /// An opening brace, which may begin an annotation.
+    Brace,
+    /// An annotation in `{*`; a `*` that may begin its end came just before.
+    Note(bool),
+}
+
+/// What was read of a part of the text.
+#[derive(Clone, Copy, Debug)]
+pub struct Scan {
+    pub mode: Mode,
+    /// How many blocks are open.
+    pub depth: usize,
+    /// What is known of its first word: the brace behind the word `Pattern` ends the part.
+    pub word: Word,
+}
+
+/// What one byte makes of a part.
+#[derive(Clone, Copy, Debug)]
+pub enum After {
+    /// It goes on.
+    Goes(Scan),
+    /// The byte ends it.
+    Ends,
+    /// The brace before the byte opened a Pattern.
+    Opens,
+}
+
+/// The first bytes of a text, up to an end or up to and with the brace that opens a Pattern.
+#[derive(Clone, Copy, Debug)]
+pub struct Found {
+    pub len: usize,
+    pub opens: bool,
+}
+
+/// What a scan found, or what it has come to.
+#[derive(Clone, Copy, Debug)]
+pub enum Scanned {
+    Found(Found),
+    Reached(Scan),
+}
+
+#[inline(always)]
+fn other_mark(b: u8) -> bool
+    ensures { result ≡ other_mark b }
+{
+    b == b'=' || b == b':' || b == b'!'
+}
+
+#[inline(always)]
+#[tactic(auto, unfolding(crate::specs::Scanner::mark_step))]
+fn mark_step(word: Word, depth: usize, b: u8) -> After
+    ensures { result ≡ mark_step word depth b }
+{
+    if b == b';' {
+        if depth == 0 {
+            After::Ends
+        } else {
+            goes(Mode::Free, depth, word_settled(word))
+        }
+    } else if b == b'}' {
+        if depth == 1 {
+            After::Ends
+        } else {
+            goes(Mode::Free, depth.saturating_sub(1), word_settled(word))
+        }
+    } else if b == b'{' {
+        goes(Mode::Brace, depth, word_settled(word))
+    } else if other_mark(b) {
+        goes(Mode::Free, depth, mark_word(b, word))
+    } else {
+        goes(Mode::Run, depth, word_byte(b, word))
+    }
+}
+
+#[inline(always)]
+fn goes(mode: Mode, depth: usize, word: Word) -> After
+    ensures { result ≡ After.Goes (record { mode = mode; depth = depth; word = word }) }
+{
+    After::Goes(Scan { mode, depth, word })
+}
+
+#[inline(always)]
+#[tactic(auto, unfolding(crate::specs::Scanner::run_step))]
+fn run_step(word: Word, depth: usize, b: u8) -> After
+    ensures { result ≡ run_step word depth b }
+{
+    if is_blank(b) {
+        goes(Mode::Free, depth, word_ends(word))
+    } else if is_quote(b) {
+        goes(Mode::Quoted(b), depth, quote_word(b, word))
+    } else {
+        mark_step(word, depth, b)
+    }
+}
+
+#[inline(always)]
+#[tactic(auto, unfolding(crate::specs::Scanner::free_step))]
+fn free_step(word: Word, depth: usize, b: u8) -> After
+    ensures { result ≡ free_step word depth b }
+{
+    if b == b'/' {
+        goes(Mode::Slash, depth, word)
+    } else {
+        run_step(word, depth, b)
+    }
+}
+
+/// Behind a brace a block opens, or at the top a Pattern.
+#[inline(always)]
+fn block_step(word: Word, depth: usize, b: u8) -> After
+    requires { depth + 1 < 2 ^ 64 }
+    ensures { result ≡ block_step word depth b }
+{
+    if names_pattern(word) && depth == 0 {
+        After::Opens
+    } else {
+        free_step(word, depth + 1, b)
+    }
+}
+
+#[inline(always)]
+#[tactic(auto, unfolding(crate::specs::Scanner::mode_step))]
+fn slash_step(word: Word, depth: usize, b: u8) -> After
+    ensures { result ≡ mode_step Mode.Slash word depth b }
+{
+    if b == b'/' {
+        goes(Mode::Line, depth, word_ends(word))
+    } else if b == b'*' {
+        goes(Mode::Block(false), depth, word_ends(word))
+    } else {
+        run_step(word_byte(b'/', word), depth, b)
+    }
+}
+
+#[inline(always)]
+#[tactic(auto, unfolding(crate::specs::Scanner::mode_step))]
+fn note_step(star: bool, word: Word, depth: usize, b: u8) -> After
+    ensures { result ≡ mode_step (Mode.Note star) word depth b }
+{
+    if star && b == b'}' {
+        if depth == 0 {
+            After::Ends
+        } else {
+            goes(Mode::Free, depth, word)
+        }
+    } else {
+        goes(Mode::Note(b == b'*'), depth, word)
+    }
+}
+
+/// Inside a token or a comment of one form, which such a byte ends.
+#[inline(always)]
+fn inside(ends: bool, mode: Mode, word: Word, depth: usize) -> After
+    ensures { result ≡ inside ends mode word depth }
+{
+    if ends {
+        goes(Mode::Free, depth, word)
+    } else {
+        goes(mode, depth, word)
+    }
+}
+
+/// What a byte makes of what was read before it.
+#[inline(always)]
+#[tactic(auto, unfolding(crate::specs::Scanner::step, crate::specs::Scanner::mode_step))]
+fn step(scan: Scan, b: u8) -> After
+    requires { scan.depth + 1 < 2 ^ 64 }
+    ensures { result ≡ step scan b }
+{
+    let Scan { mode, depth, word } = scan;
+    match mode {
+        Mode::Free => free_step(word, depth, b),
+        Mode::Run => run_step(word, depth, b),
+        Mode::Slash => slash_step(word, depth, b),
+        Mode::Quoted(quote) => inside(b == quote, Mode::Quoted(quote), word, depth),
+        Mode::Line => inside(b == b'\n', Mode::Line, word, depth),
+        Mode::Block(star) => inside(star && b == b'/', Mode::Block(b == b'*'), word, depth),
+        Mode::Brace => {
+            if b == b'*' {
+                goes(Mode::Note(false), depth, word)
+            } else {
+                block_step(word, depth, b)
+            }
+        }
+        Mode::Note(star) => note_step(star, word, depth, b),
+    }
+}
+
+/// Whether a Pattern opens where the text ends.
+fn at_brace(scan: Scan) -> bool
+    ensures { result ≡ at_brace scan }
+{
+    names_pattern(scan.word) && scan.depth == 0 && matches!(scan.mode, Mode::Brace)
+}
+
+/// How many bytes behind a place a run goes on for; 0 where the scan is in no run, or the word isn't known.
+#[inline(always)]
+fn run_on(scan: Scan, bytes: &[u8], at: usize) -> usize
+    requires within { at ≤ length bytes.now }
+    ensures within { at + result ≤ length bytes.now }
+    ensures none { (is_in_run scan.mode && is_known scan.word) ≡ false → result ≡ 0 }
+    ensures value { (is_in_run scan.mode && is_known scan.word) ≡ true → result ≡ prefix_len is_run (drop at bytes.now) }
+{
+    match (scan.mode, scan.word) {
+        (Mode::Run, Word::Known(_is)) => run_len(&bytes[at..]),
+        _ => 0,
+    }
+}
+
+/// Goes on with a scan, of which the bytes before `from` are done. Where the text ends, `last` tells whether more may
+/// follow.
+pub fn scan_on(last: bool, bytes: &[u8], from: usize, scan: Scan) -> Scanned
+    requires within { from ≤ length bytes.now }
+    requires shallow { scan.depth ≤ from }
+    ensures value { ScannedOn last bytes.now from scan result }
+{
+    let mut now = scan;
+    let mut at = from;
+    while at < bytes.len() {
+        match step(now, bytes[at]) {
+            After::Goes(next) => {
+                now = next;
+                at += 1 + run_on(now, bytes, at + 1);
+            }
+            After::Ends => {
+                return Scanned::Found(Found {
+                    len: at + 1,
+                    opens: false,
+                });
+            }
+            After::Opens => {
+                return Scanned::Found(Found {
+                    len: at,
+                    opens: true,
+                });
+            }
+        }
+    }
+    if last && at_brace(now) {
+        return Scanned::Found(Found {
+            len: at,
+            opens: true,
+        });
+    }
+    Scanned::Reached(now)
+}

@@ -1,0 +1,6 @@
+pub mod ByteKinds
+pub mod StilCuts
+pub mod StilPieces
+pub mod StilSplitLaw
+pub mod StilUnique
+pub mod Taken

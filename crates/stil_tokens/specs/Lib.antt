@@ -1,0 +1,3 @@
+pub mod StilSplit
+pub mod StilStatements
+pub mod StilTokens

@@ -1,0 +1,10 @@
+pub mod ExtraNames
+pub mod FirstMet
+pub mod LacksLines
+pub mod Lasts
+pub mod OnceNames
+pub mod PathsFaults
+pub mod PortNames
+pub mod SharedLines
+pub mod Shares
+pub mod Wanted

@@ -1,0 +1,6 @@
+use Rattle.std.proofs.Common.{map, take}
+use Rattle.traced_paths.specs.Steps.{told, HaveOutputs}
+use Rattle.traced_paths.proofs.outputs.outputs_of.Given as goal
+
+abbrev pub invariant-loop-ask : goal.invariant-loop-ask
+invariant-loop-ask l = HaveOutputs l.ports (map told (take l.ask-index l.asks)) l.nets.items l.seen

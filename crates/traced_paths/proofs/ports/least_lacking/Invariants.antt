@@ -1,0 +1,8 @@
+use Rattle.std.proofs.Common.{map, take}
+use Rattle.def_reader.specs.Steps.{IsLeast}
+use Rattle.traced_paths.specs.Traced.{LacksPort}
+use Rattle.traced_paths.specs.Steps.{told}
+use Rattle.traced_paths.proofs.ports.least_lacking.Given as goal
+
+abbrev pub invariant-loop-ask : goal.invariant-loop-ask
+invariant-loop-ask l = IsLeast (LacksPort l.ports (map told (take l.ask-index l.asks))) l.least

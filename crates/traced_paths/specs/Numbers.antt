@@ -1,0 +1,101 @@
+-- Paths as numbers: their bits, and which of their outputs are free to get another source.
+use Rattle.std.specs.Prelude.{◌≡◌, ◌<◌, ℕ, Bool, false, true, ◌&&◌, ◌||◌, not, ◌==◌, List, ◌++◌, length, map, sum_by, take, codes, Option, Some, None}
+use Rattle.std.specs.List.{list_any}
+use Rattle.std.specs.Str.{bytes_eq}
+use Rattle.base_types.specs.Faults.{at_line}
+use Rattle.base_types.specs.declared.fault.Fault.{Fault}
+use Rattle.base_types.specs.declared.fault.FileKind.TheVariants.{Verilog}
+use Rattle.base_types.specs.declared.kind.Kind.TheVariants.{TooManyBits}
+use Rattle.netlist_core.specs.declared.netlist.NetId.{NetId}
+use Rattle.netlist_core.specs.declared.netlist.Direction.{Direction}
+use Rattle.netlist_core.specs.declared.netlist.Direction.TheVariants.{Input, Output, Inout}
+use Rattle.netlist_core.specs.declared.netlist.Netlist.{Netlist}
+use Rattle.netlist_core.specs.Netlists.{plain_of}
+use Rattle.cell_table.specs.declared.paths.ScanPath.{ScanPath}
+use Rattle.cell_table.specs.Cells.{Cells}
+use Rattle.chain_trace.specs.declared.path.Path.{Path}
+use Rattle.chain_trace.specs.declared.path.Step.{Step}
+use Rattle.chain_trace.specs.declared.path.Source.{Source}
+use Rattle.chain_trace.specs.declared.path.Source.TheVariants as sources
+use Rattle.chain_trace.specs.Paths.{has_port, scan_path_at, source_net}
+use Rattle.net_edit.specs.Free.{count_of, is_free as is_assigned}
+use Rattle.net_edit.specs.Reordered.{last_of}
+use Rattle.def_reader.specs.declared.design.Design.{Design}
+use Rattle.chain_rules.specs.declared.spec.PathSpec.{PathSpec}
+use Rattle.chain_rules.specs.declared.spec.StepSpec.{StepSpec}
+
+-- how many bits a scan path has
+abbrev pub length_of : Option ScanPath → ℕ
+length_of None = 0
+length_of (Some path) = length path.bits
+
+-- how many bits a step has
+abbrev pub step_bits : Netlist → Cells → Step → ℕ
+step_bits n cells step = length_of (scan_path_at n cells step.instance step.path)
+
+-- how many bits a path has
+abbrev pub path_bits : Netlist → Cells → Path → ℕ
+path_bits n cells path = sum_by (step_bits n cells) path.steps
+
+-- how many bits the paths have together
+abbrev pub all_bits : Netlist → Cells → List Path → ℕ
+all_bits n cells paths = sum_by (path_bits n cells) paths
+
+-- the paths have more than 262144 bits: TooManyBits, at the line of the module
+pub record HaveTooManyBits (n : Netlist) (cells : Cells) (paths : List Path) (fault : Fault) : Type 0 where
+  pub many : 262144 < all_bits n cells paths
+  pub is : fault ≡ at_line TooManyBits Verilog n.line
+
+-- an output port, which isn't inout
+abbrev pub is_output : Direction → Bool
+is_output Input = false
+is_output Output = true
+is_output Inout = false
+
+-- the net is that of the number
+abbrev pub is_net : NetId → Option NetId → Bool
+is_net net None = false
+is_net net (Some other) = other.0 == net.0
+
+-- the source is an out pin that stands on the net, as its whole expression
+abbrev pub is_left_at : Netlist → Cells → NetId → Source → Bool
+is_left_at n cells net (sources.Port port) = false
+is_left_at n cells net (sources.Out step) = is_net net (source_net n cells (sources.Out step))
+
+-- the output is direct: an output port whose net bit stands at one place, the whole expression at the out pin of the path's last step
+abbrev pub is_direct : Netlist → Cells → Path → Bool
+is_direct n cells path = has_port is_output n path.output && (count_of n path.output == 1) && is_left_at n cells path.output (last_of path)
+
+-- the name begins with these bytes
+abbrev pub begins_with : List ℕ → List ℕ → Bool
+begins_with front name = bytes_eq front (take (length front) name)
+
+-- a design pin besides stands for the port: its name begins with that of the port and `.extra`
+abbrev pub has_extra : Option Design → List ℕ → Bool
+has_extra None name = false
+has_extra (Some d) name = list_any (λ pin. begins_with (name ++ codes ".extra") pin.name) d.pins
+
+-- the output of the path is free: assigned or direct, and without such a pin
+abbrev pub is_free_output : Netlist → Cells → Option Design → Path → Bool
+is_free_output n cells d path = (is_assigned n path.output || is_direct n cells path) && not (has_extra d (plain_of n.nets path.output))
+
+-- a step as numbers
+abbrev pub step_spec : Netlist → Cells → Step → StepSpec
+step_spec n cells step = record { instance = step.instance; path = step.path; out = step.out; bits = step_bits n cells step }
+
+-- a path as numbers
+abbrev pub path_spec : Netlist → Cells → Option Design → Path → PathSpec
+path_spec n cells d path = record {
+  input = path.input.0;
+  output = path.output.0;
+  free_out = is_free_output n cells d path;
+  steps = map (step_spec n cells) path.steps;
+}
+
+-- paths as numbers
+abbrev pub path_specs : Netlist → Cells → Option Design → List Path → List PathSpec
+path_specs n cells d paths = map (path_spec n cells d) paths
+
+-- how many steps paths have together
+abbrev pub step_count : List PathSpec → ℕ
+step_count specs = sum_by (λ path. length path.steps) specs
