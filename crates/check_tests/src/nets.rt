@@ -11,9 +11,9 @@ const QC: &str = "- qc ( c Q ) ( PIN so ) ;";
 
 const CLOCK: &str = "- clk ( PIN clk ) ( a CK ) ( b CK ) ( c CK ) ;";
 
-const D1: &str = "- d1 ( PIN d1 ) ( b D ) ;";
+const FIRST_DATA: &str = "- d1 ( PIN d1 ) ( b D ) ;";
 
-const D2: &str = "- d2 ( PIN d2 ) ( c D ) ;";
+const SECOND_DATA: &str = "- d2 ( PIN d2 ) ( c D ) ;";
 
 const IN: &str = "- si ( PIN si ) ( a SI ) ;";
 
@@ -123,7 +123,7 @@ const FORMS: [Row; 20] = [
     ),
     (
         "the first of two nets of no form",
-        &[(Def, QB, "- qb b ;"), (Def, D2, "- d2 d2 ;")],
+        &[(Def, QB, "- qb b ;"), (Def, SECOND_DATA, "- d2 d2 ;")],
         "d.def:26: DefSyntax",
     ),
 ];
@@ -141,7 +141,7 @@ const AGREEMENT: [Row; 20] = [
     ),
     (
         "a pin in two nets",
-        &[(Def, D2, "- d2 ( PIN d2 ) ( b D ) ;")],
+        &[(Def, SECOND_DATA, "- d2 ( PIN d2 ) ( b D ) ;")],
         "d.def:26: DefTwice",
     ),
     (
@@ -151,35 +151,35 @@ const AGREEMENT: [Row; 20] = [
     ),
     (
         "a pin twice, once with a backslash",
-        &[(Def, D2, "- d2 ( PIN d2 ) ( \\b D ) ;")],
+        &[(Def, SECOND_DATA, "- d2 ( PIN d2 ) ( \\b D ) ;")],
         "d.def:26: DefTwice",
     ),
     (
         "a port in two nets",
-        &[(Def, D2, "- d2 ( PIN d1 ) ( c D ) ;")],
+        &[(Def, SECOND_DATA, "- d2 ( PIN d1 ) ( c D ) ;")],
         "d.def:26: DefTwice",
     ),
     (
         "a pin of an unknown component twice",
         &[
-            (Def, D1, "- d1 ( PIN d1 ) ( b D ) ( x A ) ;"),
-            (Def, D2, "- d2 ( PIN d2 ) ( c D ) ( x A ) ;"),
+            (Def, FIRST_DATA, "- d1 ( PIN d1 ) ( b D ) ( x A ) ;"),
+            (Def, SECOND_DATA, "- d2 ( PIN d2 ) ( c D ) ( x A ) ;"),
         ],
         "d.def:26: DefTwice",
     ),
     (
         "a net with pins of two classes",
         &[
-            (Def, D1, "- d1 ( PIN d1 ) ( b D ) ( c D ) ;"),
-            (Def, D2, "- d2 ( PIN d2 ) ;"),
+            (Def, FIRST_DATA, "- d1 ( PIN d1 ) ( b D ) ( c D ) ;"),
+            (Def, SECOND_DATA, "- d2 ( PIN d2 ) ;"),
         ],
         "d.def:25: NetDiffers",
     ),
     (
         "a net with a port of another class",
         &[
-            (Def, D1, "- d1 ( PIN d2 ) ( b D ) ;"),
-            (Def, D2, "- d2 ( PIN d1 ) ( c D ) ;"),
+            (Def, FIRST_DATA, "- d1 ( PIN d2 ) ( b D ) ;"),
+            (Def, SECOND_DATA, "- d2 ( PIN d1 ) ( c D ) ;"),
         ],
         "d.def:25: NetDiffers",
     ),
@@ -356,8 +356,8 @@ const PINS: [Row; 16] = [
         "a net that differs before a missing pin",
         &[
             (Def, QB, "- qb ( b Q ) ;"),
-            (Def, D1, "- d1 ( PIN d1 ) ( b D ) ( c D ) ;"),
-            (Def, D2, "- d2 ( PIN d2 ) ;"),
+            (Def, FIRST_DATA, "- d1 ( PIN d1 ) ( b D ) ( c D ) ;"),
+            (Def, SECOND_DATA, "- d2 ( PIN d2 ) ;"),
         ],
         "d.def:25: NetDiffers",
     ),
@@ -432,7 +432,7 @@ const ACCEPTED: [Row; 14] = [
     (
         "pins of data and clock in no net",
         &[
-            (Def, D1, "- d1 ( PIN d1 ) ;"),
+            (Def, FIRST_DATA, "- d1 ( PIN d1 ) ;"),
             (Def, CLOCK, "- clk ( PIN clk ) ;"),
         ],
         FINE,

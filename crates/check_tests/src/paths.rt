@@ -18,7 +18,7 @@ const QB: &str = "- qb ( b Q ) ( c SI ) ;";
 
 const QC: &str = "- qc ( c Q ) ( PIN so ) ;";
 
-const D2: &str = "- d2 ( PIN d2 ) ( c D ) ;";
+const SECOND_DATA: &str = "- d2 ( PIN d2 ) ( c D ) ;";
 
 const IN: &str = "- si ( PIN si ) ( a SI ) ;";
 
@@ -124,7 +124,11 @@ const TRACES: [Row; 26] = [
         "an in pin of a flop and an input",
         &[
             (Verilog, ASSIGN, "  assign so = qc;\n  assign qb = d2;\n"),
-            (Def, D2, "- d2 ( PIN d2 ) ( c D ) ( b Q ) ( c SI ) ;"),
+            (
+                Def,
+                SECOND_DATA,
+                "- d2 ( PIN d2 ) ( c D ) ( b Q ) ( c SI ) ;",
+            ),
             (Def, "- qb ( b Q ) ( c SI ) ;\n", ""),
         ],
         "v.v:7: TwoDrivers",
@@ -239,7 +243,7 @@ const TRACES: [Row; 26] = [
         "a net before a path",
         &[
             (Verilog, ".SI(qb)", ".SI(1'b0)"),
-            (Def, D2, "- d2 ( PIN d2 ) ;\n- d3 ( c D ) ;"),
+            (Def, SECOND_DATA, "- d2 ( PIN d2 ) ;\n- d3 ( c D ) ;"),
         ],
         "d.def:27: NetDiffers",
     ),

@@ -172,6 +172,7 @@ fn words_of_no_form_open_nothing(rt: HostRuntime) -> Result<(), Fail> {
         "trace --table t.toml --verilog v.v",
         "trace --table t.toml --verilog t.toml --scan-out so",
         "trace --table t.toml --verilog v.v --scan-out so a",
+        "check --table t.toml --verilog v.v --def d.def",
     ] {
         let mut desk = desk(alloc, "", THREE_FLOPS, 0, 0)?;
         let words = words(alloc, line)?;
