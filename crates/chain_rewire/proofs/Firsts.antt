@@ -24,7 +24,7 @@ use Rattle.chain_trace.proofs.Unique.{path_unique}
 use Rattle.chain_trace.proofs.Meeting.{no_path}
 use Rattle.chain_trace.proofs.OneFault.{one_fault}
 use Rattle.chain_trace.proofs.TraceKinds.{trace_late, trace_early}
-use Rattle.net_edit.specs.Free.{is_free}
+use Rattle.path_links.specs.Free.{is_free}
 use Rattle.chain_rewire.specs.declared.rewire.Rewire.{Rewire}
 use Rattle.chain_rewire.specs.Rewiring.{cells_of, instance_names, IsTraced}
 use Rattle.chain_rewire.specs.Faults.{HasPorts, AreInstances, last_name, IsOfOutput, IsPortFault, IsOutputFault, IsInputFault, IsOrderFault, IsLastFault, HoldsInRewire, OfVerilog, OfPort, OfOutput, OfInput, OfOrder, OfLast}

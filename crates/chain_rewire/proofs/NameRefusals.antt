@@ -10,7 +10,7 @@ use Rattle.chain_trace.specs.declared.path.Path.{Path}
 use Rattle.base_types.specs.declared.fault.Fault.{Fault}
 use Rattle.base_types.specs.Faults.{of_words}
 use Rattle.base_types.specs.FirstFault.{IfFault}
-use Rattle.net_edit.specs.Free.{is_free}
+use Rattle.path_links.specs.Free.{is_free}
 use Rattle.chain_rewire.specs.declared.rewire.Rewire.{Rewire}
 use Rattle.chain_rewire.specs.Rewiring.{instance_names, IsTraced}
 use Rattle.chain_rewire.specs.Faults.{AreInstances, last_name, IsRewireFault}

@@ -11,11 +11,11 @@ use Rattle.chain_trace.specs.declared.path.Path.{Path}
 use Rattle.chain_trace.specs.Paths.{IsScanPath}
 use Rattle.chain_trace.specs.Named.{HasSamePath, NamesLaw}
 use Rattle.chain_trace.proofs.NamedNets.{turned_wiring}
-use Rattle.net_edit.specs.declared.edits.PinEdit.{PinEdit}
-use Rattle.net_edit.specs.declared.edits.Edits.{Edits}
-use Rattle.net_edit.specs.Edited.{edited, edited_instance, map_from}
-use Rattle.net_edit.specs.Erasure.{erased_netlist}
-use Rattle.net_edit.specs.Reordered.{sinks_of}
+use Rattle.path_links.specs.declared.edits.PinEdit.{PinEdit}
+use Rattle.path_links.specs.declared.edits.Edits.{Edits}
+use Rattle.path_links.specs.Edited.{edited, edited_instance, map_from}
+use Rattle.path_links.specs.Erasure.{erased_netlist}
+use Rattle.path_links.specs.Reordered.{sinks_of}
 use Rattle.verilog_reader.specs.Denoted.{DeclareAlike}
 use Rattle.verilog_writer.specs.Written.{IsWrittenFrom, DenotesAlike}
 use Rattle.chain_rewire.specs.declared.rewire.Rewire.{Rewire}

@@ -15,8 +15,8 @@ use Rattle.chain_trace.specs.declared.path.Source.{Source}
 use Rattle.chain_trace.specs.declared.path.Source.TheVariants as sources
 use Rattle.chain_trace.specs.declared.path.Sink.TheVariants as sinks
 use Rattle.chain_trace.specs.Paths.{StandOnce}
-use Rattle.net_edit.specs.Free.{is_free}
-use Rattle.net_edit.specs.Reordered.{last_source, ArePinsApart, IsReordered}
+use Rattle.path_links.specs.Free.{is_free}
+use Rattle.path_links.specs.Reordered.{last_source, ArePinsApart, IsReordered}
 use Rattle.chain_rewire.specs.declared.rewire.Rewire.{Rewire}
 use Rattle.chain_rewire.specs.Rewiring.{cells_of, name_of, instance_name, instance_names, step_named, ordered, IsTraced}
 use Rattle.chain_rewire.specs.Faults.{last_from, last_name, AreInstances}

@@ -15,7 +15,7 @@ use Rattle.chain_trace.specs.declared.path.Path.{Path}
 use Rattle.chain_trace.specs.Paths.{drives, is_driven, IsScanPath}
 use Rattle.chain_trace.specs.Faults.{IsTraceFault}
 use Rattle.chain_trace.specs.Named.{IsPortNamed}
-use Rattle.net_edit.specs.Free.{is_free}
+use Rattle.path_links.specs.Free.{is_free}
 use Rattle.chain_rewire.specs.declared.rewire.Rewire.{Rewire}
 use Rattle.chain_rewire.specs.Rewiring.{cells_of, instance_names}
 

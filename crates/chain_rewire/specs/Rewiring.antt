@@ -12,10 +12,10 @@ use Rattle.chain_trace.specs.declared.path.Step.{Step}
 use Rattle.chain_trace.specs.declared.path.Path.{Path}
 use Rattle.chain_trace.specs.Paths.{is_driven, IsScanPath}
 use Rattle.chain_trace.specs.Named.{IsPortNamed}
-use Rattle.net_edit.specs.declared.edits.Edits.{Edits}
-use Rattle.net_edit.specs.Edits.{edits_between}
-use Rattle.net_edit.specs.Erasure.{erased_netlist}
-use Rattle.net_edit.specs.Reordered.{sinks_of}
+use Rattle.path_links.specs.declared.edits.Edits.{Edits}
+use Rattle.path_links.specs.Edits.{edits_between}
+use Rattle.path_links.specs.Erasure.{erased_netlist}
+use Rattle.path_links.specs.Reordered.{sinks_of}
 use Rattle.verilog_writer.specs.Written.{IsWritten}
 use Rattle.chain_rewire.specs.declared.rewire.Rewire.{Rewire}
 

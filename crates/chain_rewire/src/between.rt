@@ -2,7 +2,7 @@
 ghost use Rattle.std.specs.Prelude.{◌≡◌, ◌<◌, ℕ, List, length, IfOk};
 ghost use Rattle.netlist_core.specs.Netlists.{IsNetlist};
 ghost use Rattle.verilog_reader.specs.Denoted.{DenotesNetlist};
-ghost use Rattle.net_edit.specs.Free.{is_free};
+ghost use Rattle.path_links.specs.Free.{is_free};
 ghost use Rattle.base_types.specs.FirstFault.{IfFault};
 ghost use Rattle.chain_rewire.specs.Rewiring.{cells_of, IsTraced};
 ghost use Rattle.chain_rewire.specs.Faults.{IsRewireFault};
@@ -11,8 +11,8 @@ use crate::rewire::Rewire;
 use base_types::{Fault, Kind, NoMemory, ReadFault};
 use cell_table::CellTable;
 use chain_trace::{Path, input_named, output_named, plain_of, trace};
-use net_edit::Uses;
 use netlist_core::{Netlist, classes_of};
+use path_links::Uses;
 use std::alloc::Global;
 
 /// The scan path from the scan-in to the scan-out of a netlist.

@@ -6,7 +6,7 @@ ghost use Rattle.std.specs.Str.{bytes_eq};
 ghost use Rattle.std.specs.HashMap.{get};
 ghost use Rattle.chain_trace.specs.declared.path.Step.{Step};
 ghost use Rattle.base_types.specs.FirstFault.{IfFault};
-ghost use Rattle.net_edit.specs.Free.{is_free};
+ghost use Rattle.path_links.specs.Free.{is_free};
 ghost use Rattle.chain_rewire.specs.Rewiring.{instance_name, instance_names, step_named, ordered, IsTraced};
 ghost use Rattle.chain_rewire.specs.Faults.{AreInstances, last_name, IsRewireFault};
 

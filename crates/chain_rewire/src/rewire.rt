@@ -10,7 +10,7 @@ use crate::order::ordered_path;
 use base_types::{Name, ReadFault, Rows, Text};
 use cell_table::CellTable;
 use chain_trace::names_law;
-use net_edit::edits_for;
+use path_links::edits_for;
 use std::alloc::Global;
 use verilog_reader::read_netlist;
 use verilog_writer::verilog_text;

@@ -1,24 +1,11 @@
-//! The edits that make other paths of a netlist's paths, and netlists with the scan wiring erased, by which a read netlist
-//! and a written one are compared.
+//! Several paths put into another order at once, where outputs that an out pin drives directly are freed by tails: the edits of a
+//! netlist, and the laws of what they make of it.
 //!
-//! Floor: paths, on cell_table, netlist_core, chain_trace and base_types.
-//! Contract: `edits_for` gives the edits that `specs/Edits.antt` says, `Uses` tells the free ports of `specs/Free.antt`, and
-//! `erased` gives the netlist that `specs/Erasure.antt` says, blank at the scan sinks.
+//! Floor: paths, on cell_table, netlist_core, chain_trace, path_links and base_types.
+//! Contract: `edits_law` says that the edited netlist has the new paths, is a netlist, is the read one but for the scan wiring, and
+//! agrees with a design whose sinks were moved. Begin with `specs/Laws.antt`.
 #![tactic(auto)]
 
-mod assigns;
-mod between;
-mod edits;
-mod erasure;
-mod free;
-mod instances;
-mod links;
-mod nets;
-mod sinks;
-mod uses;
+mod laws;
 
-pub use between::edits_for;
-pub use edits::{Edits, PinEdit, PortEdit};
-pub use erasure::erased;
-pub use sinks::{SinkPin, Sinks};
-pub use uses::Uses;
+pub use laws::edits_law;

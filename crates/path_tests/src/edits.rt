@@ -2,11 +2,11 @@
 use base_types::{Name, Rows, Span};
 use cell_table::CellTable;
 use chain_trace::{Path, Step};
-use net_edit::{Edits, PinEdit, PortEdit, SinkPin, Sinks, Uses, edits_for, erased};
 use netlist_core::{
     Assign, Bit, Bits, Connection, Direction, Expr, Instance, NetId, NetName, Netlist, Port,
     is_netlist,
 };
+use path_links::{Edits, PinEdit, PortEdit, SinkPin, Sinks, Uses, edits_for, erased};
 use std::alloc::Global;
 use std::test::Fail;
 

@@ -25,14 +25,14 @@ use Rattle.chain_rules.specs.declared.plan.Plan.{Plan}
 use Rattle.chain_rules.specs.Legality.{unit_at, rule_at, chain_at, last_of as last_unit, IsLegal}
 use Rattle.chain_rules.specs.Stretches.{path_at, step_at, spec_at, no_path as no_path_spec, no_step as no_step_spec, EndsAt, StepsOnce, IsOf}
 use Rattle.chain_rules.specs.Rules.{IsPort, PinsLast, AreRulesOf}
-use Rattle.net_edit.specs.Free.{is_free}
-use Rattle.net_edit.specs.Reordered.{last_source, last_of}
-use Rattle.net_edit.proofs.PathLists.{Has, has, contains, flat_from, flat_has}
-use Rattle.net_edit.proofs.PathLinks.{Once}
-use Rattle.several_paths.specs.Changes.{is_direct_from}
-use Rattle.several_paths.specs.Rearranged.{ArePinsOnce, steps_of, IsAligned, AreAligned, AreOutputsApart, AreRearranged}
-use Rattle.several_paths.proofs.Links.{has_get, stand_once}
-use Rattle.several_paths.proofs.NewAssigns.{has_index}
+use Rattle.path_links.specs.Free.{is_free}
+use Rattle.path_links.specs.Reordered.{last_source, last_of}
+use Rattle.path_links.proofs.PathLists.{Has, has, contains, flat_from, flat_has}
+use Rattle.path_links.proofs.PathLinks.{Once}
+use Rattle.net_edit.specs.Changes.{is_direct_from}
+use Rattle.net_edit.specs.Rearranged.{ArePinsOnce, steps_of, IsAligned, AreAligned, AreOutputsApart, AreRearranged}
+use Rattle.net_edit.proofs.Links.{has_get, stand_once}
+use Rattle.net_edit.proofs.NewAssigns.{has_index}
 use Rattle.plan_paths.specs.NewPaths.{Site, run_places, runs_places, chain_on, filling, places_at, new_places, absent_path, absent_step, path_in, step_in, new_path, new_paths}
 use Rattle.plan_paths.specs.Numbered.{PathNumbers, numbered_path, numbered_paths}
 use Rattle.plan_paths.proofs.Places.{NoTwice, range_in, map_has, InRange, IsOn, Fixed, Moved, on, AreRuns, IsPlaceOf, all_places, all_once, all_in, all_there, run_there}

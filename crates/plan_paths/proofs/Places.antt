@@ -9,10 +9,10 @@ use Rattle.chain_rules.specs.declared.unit.ChainRule.{ChainRule}
 use Rattle.chain_rules.specs.declared.unit.Rules.{Rules}
 use Rattle.chain_rules.specs.declared.plan.Plan.{Plan}
 use Rattle.chain_rules.specs.Legality.{unit_at, rule_at, chain_at}
-use Rattle.net_edit.proofs.PathLists.{Has, has_split, flat_from, flat_has}
-use Rattle.net_edit.proofs.PathSame.{and_left, and_right}
-use Rattle.several_paths.proofs.Links.{has_get}
-use Rattle.several_paths.proofs.NewEdits.{position_some, position_not}
+use Rattle.path_links.proofs.PathLists.{Has, has_split, flat_from, flat_has}
+use Rattle.path_links.proofs.PathSame.{and_left, and_right}
+use Rattle.net_edit.proofs.Links.{has_get}
+use Rattle.net_edit.proofs.NewEdits.{position_some, position_not}
 use Rattle.plan_paths.specs.NewPaths.{Site, run_places, runs_places, lies_in, chain_on, filling, places_at, new_places}
 
 -- lists without a member twice

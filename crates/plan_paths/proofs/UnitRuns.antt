@@ -16,8 +16,8 @@ use Rattle.chain_rules.specs.Legality.{unit_at, rule_at, chain_at, IsLegal}
 use Rattle.chain_rules.specs.Stretches.{path_at, step_at, spec_at, IsInside, EndsAt, IsEndStep}
 use Rattle.chain_rules.specs.Rules.{Cover, IsReadChain, AreRulesOf}
 use Rattle.chain_rules.proofs.Distinct.{distinct_from_permutation, Contains-concat, only_chain}
-use Rattle.net_edit.proofs.PathLists.{Has, has, contains, has_left, has_split}
-use Rattle.several_paths.proofs.Links.{has_get}
+use Rattle.path_links.proofs.PathLists.{Has, has, contains, has_left, has_split}
+use Rattle.net_edit.proofs.Links.{has_get}
 use Rattle.plan_paths.specs.NewPaths.{Site}
 use Rattle.plan_paths.proofs.Places.{NoTwice, range_in, range_has, InRun, InRange, AreRuns}
 

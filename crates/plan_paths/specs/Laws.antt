@@ -9,10 +9,10 @@ use Rattle.chain_rules.specs.declared.unit.Rules.{Rules}
 use Rattle.chain_rules.specs.declared.plan.Plan.{Plan}
 use Rattle.chain_rules.specs.Legality.{IsLegal}
 use Rattle.chain_rules.specs.Rules.{AreRulesOf}
-use Rattle.net_edit.specs.Free.{is_free}
-use Rattle.net_edit.specs.Reordered.{last_of}
-use Rattle.several_paths.specs.Changes.{is_direct_from}
-use Rattle.several_paths.specs.Rearranged.{ArePinsOnce, AreOutputsApart, AreRearranged}
+use Rattle.path_links.specs.Free.{is_free}
+use Rattle.path_links.specs.Reordered.{last_of}
+use Rattle.net_edit.specs.Changes.{is_direct_from}
+use Rattle.net_edit.specs.Rearranged.{ArePinsOnce, AreOutputsApart, AreRearranged}
 use Rattle.plan_paths.specs.NewPaths.{new_paths}
 use Rattle.plan_paths.specs.Numbered.{PathNumbers, numbered_paths}
 

@@ -14,7 +14,7 @@ use Rattle.chain_trace.specs.declared.path.Source.{Source}
 use Rattle.chain_trace.specs.declared.path.Source.TheVariants as sources
 use Rattle.chain_trace.specs.Paths.{is_driven, has_port}
 use Rattle.chain_trace.proofs.Ranges.{port_within}
-use Rattle.net_edit.specs.Reordered.{last_source}
+use Rattle.path_links.specs.Reordered.{last_source}
 use Rattle.def_reader.specs.declared.design.Design.{Design}
 use Rattle.chain_rules.specs.declared.spec.PathSpec.{PathSpec}
 use Rattle.traced_paths.specs.Numbers.{step_spec, path_spec, step_count}

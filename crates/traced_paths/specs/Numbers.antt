@@ -18,8 +18,8 @@ use Rattle.chain_trace.specs.declared.path.Step.{Step}
 use Rattle.chain_trace.specs.declared.path.Source.{Source}
 use Rattle.chain_trace.specs.declared.path.Source.TheVariants as sources
 use Rattle.chain_trace.specs.Paths.{has_port, scan_path_at, source_net}
-use Rattle.net_edit.specs.Free.{count_of, is_free as is_assigned}
-use Rattle.net_edit.specs.Reordered.{last_of}
+use Rattle.path_links.specs.Free.{count_of, is_free as is_assigned}
+use Rattle.path_links.specs.Reordered.{last_of}
 use Rattle.def_reader.specs.declared.design.Design.{Design}
 use Rattle.chain_rules.specs.declared.spec.PathSpec.{PathSpec}
 use Rattle.chain_rules.specs.declared.spec.StepSpec.{StepSpec}

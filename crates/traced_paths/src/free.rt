@@ -1,6 +1,6 @@
 //! Which outputs of paths are free to get another source.
 ghost use Rattle.std.specs.Prelude.{◌≡◌, ◌<◌, length, IfOk};
-ghost use Rattle.net_edit.specs.Reordered.{last_of};
+ghost use Rattle.path_links.specs.Reordered.{last_of};
 ghost use Rattle.traced_paths.specs.Numbers.{is_net, is_left_at, is_direct, is_free_output};
 
 use crate::extras::Extras;
@@ -8,8 +8,8 @@ use crate::marks::OutputMarks;
 use base_types::NoMemory;
 use cell_table::CellTable;
 use chain_trace::{Path, Source, plain_of, source_net};
-use net_edit::Uses;
 use netlist_core::{NetId, Netlist};
+use path_links::Uses;
 use std::alloc::Global;
 
 fn is_net(net: NetId, other: Option<NetId>) -> bool

@@ -13,8 +13,8 @@ use cell_table::CellTable;
 use chain_rules::{PathSpec, StepSpec};
 use chain_trace::{Path, Step};
 use def_reader::Design;
-use net_edit::Uses;
 use netlist_core::Netlist;
+use path_links::Uses;
 use std::alloc::Global;
 
 /// A step whose bits have no number of 32 bits counts as want of memory.

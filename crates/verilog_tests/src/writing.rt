@@ -1,12 +1,12 @@
 //! A small text that is read and written.
 ghost use Rattle.std.specs.Prelude.{◌≡◌, ◌<◌, length, IsTrue, IfOk};
 ghost use Rattle.netlist_core.specs.Netlists.{single_net};
-ghost use Rattle.net_edit.specs.Edited.{IsPinEdit, IsPortEdit, AreEdits};
+ghost use Rattle.path_links.specs.Edited.{IsPinEdit, IsPortEdit, AreEdits};
 
 use base_types::{NoMemory, Rows, Text};
 use cell_table::{CellTable, read_table, small_table};
-use net_edit::{Edits, PinEdit, PortEdit};
 use netlist_core::{Bit, NetId, Netlist};
+use path_links::{Edits, PinEdit, PortEdit};
 use std::alloc::{Alloc, Global};
 use std::process::Abort;
 use std::test::Fail;

@@ -18,10 +18,10 @@ use Rattle.netlist_core.specs.declared.netlist.Netlist.{Netlist}
 use Rattle.netlist_core.specs.Netlists.{plain_of as net_plain, single_net, IsInstance}
 use Rattle.cell_table.specs.Cells.{Cells}
 use Rattle.chain_trace.specs.Paths.{scan_path_at}
-use Rattle.net_edit.specs.declared.edits.PinEdit.{PinEdit}
-use Rattle.net_edit.specs.declared.edits.PortEdit.{PortEdit}
-use Rattle.net_edit.specs.declared.edits.Edits.{Edits}
-use Rattle.net_edit.specs.Edited.{input_of, is_edit_of_pin, pin_source, assign_source, IsPinEdit, IsPortEdit, AreEdits}
+use Rattle.path_links.specs.declared.edits.PinEdit.{PinEdit}
+use Rattle.path_links.specs.declared.edits.PortEdit.{PortEdit}
+use Rattle.path_links.specs.declared.edits.Edits.{Edits}
+use Rattle.path_links.specs.Edited.{input_of, is_edit_of_pin, pin_source, assign_source, IsPinEdit, IsPortEdit, AreEdits}
 use Rattle.verilog_syntax.specs.declared.statement.Item.{Item}
 use Rattle.verilog_syntax.specs.declared.reading.Placed.{Placed}
 use Rattle.verilog_reader.specs.Denoted.{DenotesNetlist}

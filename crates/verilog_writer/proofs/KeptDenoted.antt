@@ -14,8 +14,8 @@ use Rattle.netlist_core.specs.declared.netlist.Port.{Port}
 use Rattle.netlist_core.specs.declared.netlist.Netlist.{Netlist}
 use Rattle.netlist_core.specs.Netlists.{NamedPort, NamedInstance, named_port, named_instance, named_assign}
 use Rattle.cell_table.specs.Cells.{Cells}
-use Rattle.net_edit.specs.declared.edits.Edits.{Edits}
-use Rattle.net_edit.specs.Edited.{map_from, edited_instance, edited_assign, edited, AreEdits}
+use Rattle.path_links.specs.declared.edits.Edits.{Edits}
+use Rattle.path_links.specs.Edited.{map_from, edited_instance, edited_assign, edited, AreEdits}
 use Rattle.verilog_syntax.specs.declared.statement.Statement.{Statement}
 use Rattle.verilog_syntax.specs.declared.reading.Placed.{Placed}
 use Rattle.verilog_syntax.specs.Laws.{bare}

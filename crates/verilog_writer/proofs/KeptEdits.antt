@@ -19,10 +19,10 @@ use Rattle.netlist_core.specs.Netlists.{single_net, connection_at, AreDistinct}
 use Rattle.cell_table.specs.Cells.{Cells}
 use Rattle.cell_table.specs.declared.paths.ScanPath.{ScanPath}
 use Rattle.chain_trace.specs.Paths.{scan_path_at}
-use Rattle.net_edit.specs.declared.edits.PinEdit.{PinEdit}
-use Rattle.net_edit.specs.declared.edits.PortEdit.{PortEdit}
-use Rattle.net_edit.specs.declared.edits.Edits.{Edits}
-use Rattle.net_edit.specs.Edited.{input_of, in_connection, pin_place, IsPinEdit, IsPortEdit, AreEdits}
+use Rattle.path_links.specs.declared.edits.PinEdit.{PinEdit}
+use Rattle.path_links.specs.declared.edits.PortEdit.{PortEdit}
+use Rattle.path_links.specs.declared.edits.Edits.{Edits}
+use Rattle.path_links.specs.Edited.{input_of, in_connection, pin_place, IsPinEdit, IsPortEdit, AreEdits}
 use Rattle.verilog_reader.proofs.Checked.{each_from}
 use Rattle.verilog_reader.proofs.Distinct.{Distinct, IsApartFrom, each_weaker, each_both, each_append}
 use Rattle.verilog_reader.proofs.Places.{same_bytes}

@@ -17,9 +17,9 @@ use Rattle.netlist_core.specs.declared.netlist.Instance.{Instance}
 use Rattle.netlist_core.specs.declared.netlist.Netlist.{Netlist}
 use Rattle.netlist_core.specs.Netlists.{NamedBit, Named, NamedInstance, pairs, named_bit, named_pin, named_instance, named_assign}
 use Rattle.cell_table.specs.Cells.{Cells}
-use Rattle.net_edit.specs.declared.edits.PinEdit.{PinEdit}
-use Rattle.net_edit.specs.declared.edits.PortEdit.{PortEdit}
-use Rattle.net_edit.specs.Edited.{edited_expr, pin_source, edited_instance, map_from, assign_source, edited_assign}
+use Rattle.path_links.specs.declared.edits.PinEdit.{PinEdit}
+use Rattle.path_links.specs.declared.edits.PortEdit.{PortEdit}
+use Rattle.path_links.specs.Edited.{edited_expr, pin_source, edited_instance, map_from, assign_source, edited_assign}
 use Rattle.verilog_syntax.specs.declared.statement.Item.{Item}
 use Rattle.verilog_syntax.specs.declared.statement.Item.TheVariants as items
 use Rattle.verilog_syntax.specs.declared.statement.Expression.{Expression}

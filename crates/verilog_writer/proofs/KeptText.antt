@@ -7,8 +7,8 @@ use Rattle.splice.specs.declared.Edit.{Edit}
 use Rattle.splice.specs.Spliced.{AreRising}
 use Rattle.netlist_core.specs.declared.netlist.Netlist.{Netlist}
 use Rattle.cell_table.specs.Cells.{Cells}
-use Rattle.net_edit.specs.declared.edits.Edits.{Edits}
-use Rattle.net_edit.specs.Edited.{AreEdits}
+use Rattle.path_links.specs.declared.edits.Edits.{Edits}
+use Rattle.path_links.specs.Edited.{AreEdits}
 use Rattle.verilog_syntax.specs.Laws.{module_parts}
 use Rattle.verilog_syntax.proofs.SpelledLaw.{spelled_law}
 use Rattle.verilog_names.specs.Declarations.{declarations}

@@ -9,10 +9,10 @@ use Rattle.netlist_core.specs.declared.netlist.Connection.{Connection}
 use Rattle.netlist_core.specs.declared.netlist.Netlist.{Netlist}
 use Rattle.netlist_core.specs.Netlists.{named, AreWiredAlike}
 use Rattle.cell_table.specs.Cells.{Cells}
-use Rattle.net_edit.specs.declared.edits.PinEdit.{PinEdit}
-use Rattle.net_edit.specs.declared.edits.PortEdit.{PortEdit}
-use Rattle.net_edit.specs.declared.edits.Edits.{Edits}
-use Rattle.net_edit.specs.Edited.{in_connection}
+use Rattle.path_links.specs.declared.edits.PinEdit.{PinEdit}
+use Rattle.path_links.specs.declared.edits.PortEdit.{PortEdit}
+use Rattle.path_links.specs.declared.edits.Edits.{Edits}
+use Rattle.path_links.specs.Edited.{in_connection}
 use Rattle.verilog_reader.specs.Denoted.{DenotesNetlist}
 
 -- the Verilog text of a net

@@ -1,15 +1,15 @@
 //! The text of a netlist with edits.
 ghost use Rattle.std.specs.Prelude.{◌≡◌, [], ◌++◌, option_map, slice_get, IfOk, OnOk};
 ghost use Rattle.netlist_core.specs.Netlists.{connection_at};
-ghost use Rattle.net_edit.specs.Edited.{in_connection, edited, AreEdits};
+ghost use Rattle.path_links.specs.Edited.{in_connection, edited, AreEdits};
 ghost use Rattle.verilog_reader.specs.Denoted.{DenotesNetlist, DeclareAlike};
 ghost use Rattle.verilog_writer.specs.Written.{text_of, pin_text, port_text, edit_texts, IsWritten, DenotesAlike};
 
 use base_types::{Name, NoMemory, Text};
 use cell_table::CellTable;
 use chain_trace::scan_path;
-use net_edit::{Edits, PinEdit, PortEdit};
 use netlist_core::{Assign, Connection, NetId, Netlist};
+use path_links::{Edits, PinEdit, PortEdit};
 use splice::{Edit, spliced};
 use std::alloc::Global;
 

@@ -4,7 +4,7 @@ use Rattle.std.proofs.lemmas.Result.{IfOk-weaker}
 use Rattle.std.proofs.lemmas.List.Sorted.{IsNonDecreasingBy-from_sort_by_key}
 use Rattle.splice.specs.declared.Edit.{Edit}
 use Rattle.verilog_reader.specs.Denoted.{DeclareAlike}
-use Rattle.net_edit.specs.Edited.{edited}
+use Rattle.path_links.specs.Edited.{edited}
 use Rattle.verilog_writer.specs.Written.{DenotesAlike}
 use Rattle.splice.specs.Spliced.{AreRising, spliced}
 use Rattle.verilog_writer.proofs.KeptDenoted.{written_denotes, written_declares}
