@@ -1,8 +1,10 @@
 //! The cells of components, and the scan paths that the table gives them.
 ghost use Rattle.std.specs.Prelude.{◌≡◌, option_map, slice_get, IfOk};
 ghost use Rattle.def_reader.specs.Designs.{cell_of, scan_paths};
+ghost use Rattle.def_reader.specs.Faults.{StandsAgain, component_rows};
+ghost use Rattle.def_reader.specs.Steps.{IsLeast};
 
-use crate::by_name::places_by_name;
+use crate::by_name::note_names;
 use crate::design::Component;
 use base_types::{Name, NoMemory};
 use cell_table::{CellTable, ScanPath};
@@ -39,14 +41,25 @@ fn cell_at(components: &[Component], place: usize) -> Option<&Name>
 }
 
 impl<'d> Components<'d> {
+    /// The components of a design, and the least line at which one's name stands that stood before.
+    fn noted(
+        alloc: Global,
+        components: &'d [Component],
+    ) -> Result<(Components<'d>, Option<u64>), NoMemory>
+        ensures value { IfOk result (λ r. r.0 ≡ components.now) }
+        ensures least { IfOk result (λ r. IsLeast (StandsAgain (component_rows components.now)) r.1) }
+    {
+        let noted = note_names(alloc, components)?;
+        let places = noted.places;
+        Ok((Components { components, places }, noted.least))
+    }
+
     /// The components of a design.
     pub(crate) fn of(alloc: Global, components: &'d [Component]) -> Result<Components<'d>, NoMemory>
         ensures value { IfOk result (λ c. c ≡ components.now) }
     {
-        Ok(Components {
-            components,
-            places: places_by_name(alloc, components)?,
-        })
+        let (components, _) = Components::noted(alloc, components)?;
+        Ok(components)
     }
 
     /// The cell of the component of a name.
@@ -78,18 +91,17 @@ impl<'d> Model for Cells<'d> {
 }
 
 impl<'d> Cells<'d> {
-    /// The components of a design, beside a table.
+    /// The components of a design, beside a table; and the least line at which one's name stands that stood before.
     pub(crate) fn of(
         alloc: Global,
         table: &'d CellTable,
         components: &'d [Component],
-    ) -> Result<Cells<'d>, NoMemory>
-        ensures value { IfOk result (λ cells. cells ≡ (table.now, components.now)) }
+    ) -> Result<(Cells<'d>, Option<u64>), NoMemory>
+        ensures value { IfOk result (λ r. r.0 ≡ (table.now, components.now)) }
+        ensures least { IfOk result (λ r. IsLeast (StandsAgain (component_rows components.now)) r.1) }
     {
-        Ok(Cells {
-            table,
-            components: Components::of(alloc, components)?,
-        })
+        let (components, least) = Components::noted(alloc, components)?;
+        Ok((Cells { table, components }, least))
     }
 
     /// The scan paths of the cell of the component of a name; none where no component has it, or the table no cell.

@@ -1,5 +1,5 @@
 //! Connections that stand a second time.
-ghost use Rattle.std.specs.Prelude.{◌≡◌, ◌∷◌, ◌++◌, [], ℕ, List, IfOk, OnOk};
+ghost use Rattle.std.specs.Prelude.{◌≡◌, ◌∷◌, ◌++◌, ◌-◌, ◌^◌, [], ℕ, List, length, min, IfOk, OnOk};
 ghost use Rattle.def_reader.specs.declared.design.NetPin.{NetPin as ghost_pin};
 ghost use Rattle.def_reader.specs.Faults.{StandsAgain, connections_of, connection_rows};
 ghost use Rattle.def_reader.specs.Steps.{IsLeast, pin_of_key};
@@ -29,14 +29,14 @@ fn key_of(pin: &NetPin) -> (Option<&[u8]>, &[u8])
 }
 
 impl<'a> SeenPins<'a> {
-    /// Nothing yet.
-    fn new(alloc: Global) -> SeenPins<'a>
-        ensures value { IsSeenPins result [] }
+    /// Nothing yet, and room for so many connections; or want of memory.
+    fn with_room(alloc: Global, count: usize) -> Result<SeenPins<'a>, NoMemory>
+        ensures value { IfOk result (λ seen. IsSeenPins seen []) }
     {
-        SeenPins {
-            pins: HashSet::new(alloc),
+        Ok(SeenPins {
+            pins: HashSet::with_capacity(alloc, count)?,
             least: None,
-        }
+        })
     }
 
     /// Adds a connection on a line.
@@ -59,11 +59,22 @@ impl<'a> SeenPins<'a> {
     }
 }
 
+/// How many connections nets have; of more than a `usize` holds, the greatest of them.
+fn count_connections(nets: &[Net]) -> usize
+    ensures value { result ≡ min (length (connection_rows nets.now)) (2 ^ 64 - 1) }
+{
+    let mut count: usize = 0;
+    for net in nets {
+        count = count.saturating_add(net.pins.as_slice().len());
+    }
+    count
+}
+
 /// The least line of a net one of whose connections stood before, in it or in another net.
 pub(crate) fn least_connection(alloc: Global, nets: &[Net]) -> Result<Option<u64>, NoMemory>
     ensures value { IfOk result (IsLeast (StandsAgain (connection_rows nets.now))) }
 {
-    let mut seen = SeenPins::new(alloc);
+    let mut seen = SeenPins::with_room(alloc, count_connections(nets))?;
     for net in nets {
         seen.add_net(net)?;
     }

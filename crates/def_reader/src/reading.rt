@@ -10,7 +10,7 @@ ghost use Rattle.cell_table.specs.Cells.{Cells as ghost_cells};
 ghost use Rattle.def_syntax.specs.declared.design.DesignText.{DesignText as ghost_text};
 ghost use Rattle.def_reader.specs.declared.design.Design.{Design as ghost_design};
 ghost use Rattle.def_reader.specs.Designs.{is_chains, chains_span, chain_of, design_of};
-ghost use Rattle.def_reader.specs.Faults.{TwiceAt, HoldsInDesign};
+ghost use Rattle.def_reader.specs.Faults.{StandsAgain, component_rows, TwiceAt, HoldsInDesign};
 ghost use Rattle.def_reader.specs.Denoted.{DenotesDesign};
 ghost use Rattle.def_reader.specs.Sound.{IsSound};
 ghost use Rattle.def_reader.specs.Steps.{IsLeast};
@@ -48,35 +48,39 @@ fn chains_span(sections: &[Section]) -> Option<Span>
     }
 }
 
-/// The chains of their statements, beside the components and the table.
+/// The chains of their statements, beside the components and the table; and the least line at which a component's name stands
+/// that stood before.
 fn chains_beside(
     alloc: Global,
     table: &CellTable,
     components: &[Component],
     statements: Rows<Located<Chain<'_>>>,
-) -> Result<Rows<ScanChainText>, NoMemory>
-    ensures value { IfOk result (λ chains. chains ≡ map (chain_of table.now components.now) statements.entry) }
+) -> Result<(Rows<ScanChainText>, Option<u64>), NoMemory>
+    ensures value { IfOk result (λ r. r.0 ≡ map (chain_of table.now components.now) statements.entry) }
+    ensures least { IfOk result (λ r. IsLeast (StandsAgain (component_rows components.now)) r.1) }
 {
-    let cells = Cells::of(alloc, table, components)?;
-    chains_of(alloc, &cells, statements)
+    let (cells, least) = Cells::of(alloc, table, components)?;
+    Ok((chains_of(alloc, &cells, statements)?, least))
 }
 
-/// The design that statements make, which are let go but for the sections.
+/// The design that statements make, which are let go but for the sections; and the least line at which a component's name
+/// stands that stood before.
 #[tactic(auto, unfolding(crate::specs::Designs::design_of))]
 fn design_of(
     alloc: Global,
     bytes: &[u8],
     table: &CellTable,
     text: DesignText<'_>,
-) -> Result<(Design, Rows<Section>), NoMemory>
+) -> Result<(Design, Rows<Section>, Option<u64>), NoMemory>
     ensures value { IfOk result (λ r. r.0 ≡ design_of bytes.now table.now text.entry) }
     ensures sections { IfOk result (λ r. r.1 ≡ text.entry.sections) }
+    ensures least { IfOk result (λ r. IsLeast (StandsAgain (component_rows r.0.components)) r.2) }
 {
     let units = units(text.units.statement.number.text()).unwrap_or(0);
     let components = components_of(alloc, text.components)?;
     let pins = pins_of(alloc, text.pins)?;
     let nets = nets_of(alloc, bytes, text.nets)?;
-    let chains = chains_beside(alloc, table, components.as_slice(), text.chains)?;
+    let (chains, least) = chains_beside(alloc, table, components.as_slice(), text.chains)?;
     let design = Design {
         units: i64::from(units),
         components,
@@ -85,18 +89,19 @@ fn design_of(
         chains,
         chains_span: chains_span(text.sections.as_slice()),
     };
-    Ok((design, text.sections))
+    Ok((design, text.sections, least))
 }
 
-/// The least line at which something of a design stands a second time.
+/// The least line at which something of a design stands a second time; of its components it is given.
 fn least_twice(
     alloc: Global,
     design: &Design,
     sections: &[Section],
+    components: Option<u64>,
 ) -> Result<Option<u64>, NoMemory>
+    requires components { IsLeast (StandsAgain (component_rows design.now.components)) components }
     ensures value { IfOk result (λ least. (text : List ℕ) (cells : ghost_cells) (t : ghost_text) → design.now ≡ design_of text cells t → sections.now ≡ t.sections → IsLeast (TwiceAt text t) least) }
 {
-    let components = least_again(alloc, design.components.as_slice())?;
     let pins = least_again(alloc, design.pins.as_slice())?;
     let nets = least_again(alloc, design.nets.as_slice())?;
     let chains = least_again(alloc, design.chains.as_slice())?;
@@ -131,8 +136,8 @@ pub fn read_design(alloc: Global, bytes: &[u8], table: &CellTable) -> Result<Des
     if let Some(line) = bad_number(&text) {
         return Err(fault_at(Kind::DefNumber, line));
     }
-    let (design, sections) = design_of(alloc, bytes, table, text)?;
-    if let Some(line) = least_twice(alloc, &design, sections.as_slice())? {
+    let (design, sections, components) = design_of(alloc, bytes, table, text)?;
+    if let Some(line) = least_twice(alloc, &design, sections.as_slice(), components)? {
         return Err(fault_at(Kind::DefTwice, line));
     }
     Ok(design)

@@ -132,14 +132,14 @@ pub(crate) struct SeenNames<'a> {
 }
 
 impl<'a> SeenNames<'a> {
-    /// Nothing yet.
-    fn new(alloc: Global) -> SeenNames<'a>
-        ensures value { IsSeenNames result [] }
+    /// Nothing yet, and room for so many names; or want of memory.
+    fn with_room(alloc: Global, count: usize) -> Result<SeenNames<'a>, NoMemory>
+        ensures value { IfOk result (λ seen. IsSeenNames seen []) }
     {
-        SeenNames {
-            names: HashSet::new(alloc),
+        Ok(SeenNames {
+            names: HashSet::with_capacity(alloc, count)?,
             least: None,
-        }
+        })
     }
 
     /// Adds a name on a line.
@@ -156,7 +156,7 @@ impl<'a> SeenNames<'a> {
 pub(crate) fn least_again<T: Named>(alloc: Global, rows: &[T]) -> Result<Option<u64>, NoMemory>
     ensures value { IfOk result (IsLeast (StandsAgain (map (λ r. (T.name_of r, T.line_of r)) rows.now))) }
 {
-    let mut seen = SeenNames::new(alloc);
+    let mut seen = SeenNames::with_room(alloc, rows.len())?;
     for row in rows {
         seen.add(row.name(), row.line())?;
     }

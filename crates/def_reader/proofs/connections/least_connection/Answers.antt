@@ -9,7 +9,7 @@ use Rattle.def_reader.proofs.RowsMore.{flat_next}
 use Rattle.def_reader.proofs.connections.least_connection.Goals as goal
 
 pub loop-net-init : goal.loop-net-init
-loop-net-init c = c.new-seen.ensures.value
+loop-net-init c = c.in_ok-seen.ensures.value
 
 pub loop-net-preserved : goal.loop-net-preserved
 loop-net-preserved c =

@@ -6,7 +6,7 @@ use Rattle.def_reader.proofs.RowsMore.{row_next, rows_all}
 use Rattle.def_reader.proofs.twice.least_again.Goals as goal
 
 pub loop-row-init : goal.loop-row-init
-loop-row-init g c = c.new-seen.ensures.value
+loop-row-init g c = c.in_ok-seen.ensures.value
 
 pub loop-row-preserved : goal.loop-row-preserved
 loop-row-preserved g c =
