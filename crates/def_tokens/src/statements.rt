@@ -1,5 +1,5 @@
 //! The statements of a LEF or DEF text.
-ghost use Rattle.std.specs.Prelude.{◌≡◌, ◌<◌, ◌≤◌, ◌^◌, length, map, IfOk, All};
+ghost use Rattle.std.specs.Prelude.{◌≡◌, ◌<◌, ◌≤◌, ◌^◌, codes, length, map, IfOk, All};
 ghost use Rattle.token_forms.specs.Tokens.{tokens_of, AreSpansOf};
 ghost use Rattle.def_tokens.specs.DefStatements.{is_closed, statement_len, def_statements, count_with, ends_with, IsStatementSplit};
 ghost use Rattle.def_tokens.specs.DefTokens.{tokens_in};
@@ -31,6 +31,21 @@ fn count_with(word: &[u8], mut tokens: Tokens<'_, '_>) -> usize
     count
 }
 
+/// How many tokens stand up to and with the first semicolon; all where there is none.
+fn count_to_end(mut tokens: Tokens<'_, '_>) -> usize
+    ensures value { result ≡ count_with (codes ";") tokens.entry }
+    ensures within { result ≤ length tokens.entry }
+{
+    let mut count = 0;
+    while let Some(token) = tokens.next() {
+        count += 1;
+        if let [b';'] = token.text {
+            break;
+        }
+    }
+    count
+}
+
 /// How many tokens the first statement has, which is 0 only where no token is left: `END` and one token more,
 /// `PROPERTYDEFINITIONS` by itself, an extension from `BEGINEXT` up to `ENDEXT`, or else the tokens up to and with the
 /// first `;`; of a rest without its end, all. Takes no memory.
@@ -51,7 +66,7 @@ pub fn statement_len(tokens: &Tokens<'_, '_>) -> usize
     } else if first.text == b"BEGINEXT".as_slice() {
         1 + count_with(b"ENDEXT", rest)
     } else {
-        count_with(b";", tokens.again())
+        count_to_end(tokens.again())
     }
 }
 
