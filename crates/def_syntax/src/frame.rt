@@ -50,6 +50,9 @@ pub(crate) fn opened_by(tokens: &Tokens<'_, '_>) -> Option<SectionKind>
 pub(crate) fn is_end(word: &[u8], tokens: &Tokens<'_, '_>) -> bool
     ensures value { result ≡ is_end word.now tokens.now }
 {
+    if tokens.len() != 2 {
+        return false;
+    }
     let mut rest = tokens.again();
     let Some(first) = rest.next() else {
         return false;
@@ -57,7 +60,7 @@ pub(crate) fn is_end(word: &[u8], tokens: &Tokens<'_, '_>) -> bool
     let Some(second) = rest.next() else {
         return false;
     };
-    rest.is_empty() && first.text == b"END".as_slice() && second.text == word
+    first.text == b"END".as_slice() && second.text == word
 }
 
 /// Whether a statement is a word, any token and `;`.

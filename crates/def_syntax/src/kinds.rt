@@ -157,12 +157,11 @@ impl Pass for InStatement {
     ghost passing = { in_statement };
 
     fn depth_behind(depth: usize, text: &[u8]) -> Option<usize> {
-        if text.is_empty() {
-            Some(depth + 1)
-        } else if depth == 0 && text != b";".as_slice() {
-            Some(0)
-        } else {
-            None
+        match text {
+            [] => Some(depth + 1),
+            [b';'] => None,
+            _ if depth == 0 => Some(0),
+            _ => None,
         }
     }
 }

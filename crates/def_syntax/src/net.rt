@@ -135,7 +135,7 @@ impl<'a> Read<'a> for Net<'a> {
     #[tactic(auto, unfolding(crate::specs::Grammar::net_body))]
     fn read(parser: &mut Parser<'a, '_>) -> Result<Net<'a>, Stop> {
         let name = parser.text::<NetName>()?;
-        let connections = parser.many()?;
+        let connections = parser.many_more(Vec::with_capacity(parser.alloc, 2)?)?;
         any_options(parser)?;
         Ok(Net { name, connections })
     }
