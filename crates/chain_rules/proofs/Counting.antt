@@ -1,10 +1,10 @@
 -- Sums over a part of a list.
-use Rattle.std.proofs.Common.{◌≡◌, ℕ, ◌+◌, ◌<◌, ◌≤◌, Bool, true, false, cond, nat_eq, List, [], ◌∷◌, length, get_or, take, sum_by, filter, Option, Some, None, unwrap_or, refl, sym, ap, ◌∙◌, subst, arith, eqb-true, eq-eqb}
+use Rattle.std.proofs.Common.{◌≡◌, ℕ, ◌+◌, ◌<◌, ◌≤◌, Bool, true, false, cond, nat_eq, List, [], ◌∷◌, length, get_or, take, sum_by, filter, Option, Some, unwrap_or, refl, sym, ap, ◌∙◌, subst, arith, eqb-true, eq-eqb}
 use Rattle.std.proofs.lemmas.List.Sums.{sum_by-cons, sum_by_more, sum_by_more_le, sum_by-take-le}
 use Rattle.std.specs.HashMap.{HashMap, get}
 use Rattle.chain_rules.specs.declared.spec.ChainSpec.{ChainSpec}
 use Rattle.chain_rules.specs.Stretches.{groups_of, spec_at, no_chain}
-use Rattle.chain_rules.specs.ChainFaults.{units_so_far, IsTooManyUnits}
+use Rattle.chain_rules.specs.ChainFaults.{units_so_far}
 
 sum_by-chosen : {X : Type 0} (f : X → ℕ) (b : Bool) (x : X) (xs : List X) → sum_by f (cond b (x ∷ xs) xs) ≤ f x + sum_by f xs
 sum_by-chosen f true x xs = omega (arith, sum_by-cons f x xs)

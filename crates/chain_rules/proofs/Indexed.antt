@@ -1,12 +1,12 @@
 -- Places that are looked up by their scan paths.
-use Rattle.std.proofs.Common.{◌≡◌, ℕ, ◌+◌, ◌<◌, ◌⊎◌, inl, inr, ⊎_elim, ◌==◌, ◌&&◌, Bool, true, false, cond, List, [], ◌∷◌, length, Option, Some, None, IsSome, refl, sym, ap, subst, ◌∙◌, arith, eqb, eqb-true, eq-eqb}
+use Rattle.std.proofs.Common.{◌≡◌, ℕ, ◌+◌, ◌<◌, inl, inr, ⊎_elim, ◌==◌, ◌&&◌, Bool, true, false, cond, List, length, Option, Some, None, IsSome, refl, sym, ap, subst, ◌∙◌, arith, eqb-true, eq-eqb}
 use Rattle.std.proofs.lemmas.Bool.{cases_eq, and_parts, false≢true}
 use Rattle.std.specs.HashMap.{HashMap, get}
 use Rattle.chain_rules.specs.declared.index.Place.{Place}
 use Rattle.chain_rules.specs.declared.spec.StepSpec.{StepSpec}
 use Rattle.chain_rules.specs.declared.spec.PathSpec.{PathSpec}
 use Rattle.chain_rules.specs.Stretches.{path_at, step_at, IsOf, IsPlace}
-use Rattle.chain_rules.specs.Indexes.{same_key, key_of, IsBefore, AreFirstPlaces}
+use Rattle.chain_rules.specs.Indexes.{same_key, key_of, AreFirstPlaces}
 
 key_self : (a b : ℕ) → same_key (a, b) (a, b) ≡ true
 key_self a b = λ i. eq-eqb a a refl i && eq-eqb b b refl i

@@ -27,3 +27,4 @@ pub mod Indexed
 pub mod Totals
 pub mod Overlaps
 pub mod Spread
+pub mod Owned

@@ -1,5 +1,5 @@
 -- Chains disturb one another exactly where their spans have a number in common.
-use Rattle.std.proofs.Common.{◌≡◌, ◌≢◌, ℕ, ◌+◌, ◌-◌, ◌<◌, ◌≤◌, ◌⊎◌, zero, suc, List, [], ◌∷◌, ◌++◌, length, get_or, take, sum_by, Option, Some, None, All, Contains, IfSome, inl, inr, ⊎_elim, refl, sym, ap, subst, ◌∙◌, arith}
+use Rattle.std.proofs.Common.{◌≡◌, ◌≢◌, ℕ, ◌+◌, ◌-◌, ◌<◌, ◌≤◌, ◌⊎◌, zero, suc, List, [], ◌∷◌, ◌++◌, length, sum_by, Option, Some, None, All, IfSome, inl, inr, ⊎_elim, sym, ap, subst, ◌∙◌, arith}
 use Rattle.std.proofs.lemmas.Bool.{cases_lt, cases_eq}
 use Rattle.std.proofs.lemmas.List.{get_or_append_left, get_or_push, length_push, get_or_default}
 use Rattle.std.proofs.lemmas.List.Sums.{sum_by_more_le, sum_by_more}
@@ -11,7 +11,7 @@ use Rattle.chain_rules.specs.declared.spec.PathSpec.{PathSpec}
 use Rattle.chain_rules.specs.declared.spec.EndSpec.{EndSpec}
 use Rattle.chain_rules.specs.declared.spec.EndSpec.TheVariants.{Port, Cell}
 use Rattle.chain_rules.specs.declared.spec.ChainSpec.{ChainSpec}
-use Rattle.chain_rules.specs.Stretches.{path_at, step_at, spec_at, no_path, no_chain, elements_of, IsOf, IsPlace, IsInside, BeginsAt, EndsAt, StandsIn, IsEndStep, Stretch, IsStretch, HasStretch, HasEndIn, ShareStep, Disturbs, StepsOnce, HasElements, AreChainSpecs}
+use Rattle.chain_rules.specs.Stretches.{path_at, step_at, spec_at, no_path, no_chain, elements_of, IsPlace, IsInside, BeginsAt, EndsAt, StandsIn, IsEndStep, Stretch, IsStretch, HasEndIn, ShareStep, Disturbs, StepsOnce, HasElements, AreChainSpecs}
 use Rattle.chain_rules.specs.ChainFaults.{Meet}
 use Rattle.chain_rules.specs.Indexes.{steps_before}
 use Rattle.chain_rules.specs.Runs.{stretch, run_at, IsRunOf, AreRunsOf}

@@ -1,5 +1,5 @@
 -- The places of the steps, looked up by their scan paths, and numbered one path behind the other.
-use Rattle.std.specs.Prelude.{◌≡◌, ℕ, ◌+◌, ◌<◌, ◌⊎◌, ◌==◌, ◌&&◌, Bool, List, length, take, sum_by, slice_index_or, Some, IsSome}
+use Rattle.std.specs.Prelude.{◌≡◌, ℕ, ◌<◌, ◌⊎◌, ◌==◌, ◌&&◌, Bool, List, length, take, sum_by, slice_index_or, Some, IsSome}
 use Rattle.std.specs.HashMap.{HashMap, get}
 use Rattle.chain_rules.specs.declared.index.Place.{Place}
 use Rattle.chain_rules.specs.declared.spec.StepSpec.{StepSpec}

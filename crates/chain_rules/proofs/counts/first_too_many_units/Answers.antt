@@ -1,4 +1,4 @@
-use Rattle.std.proofs.Common.{◌+◌, arith}
+use Rattle.std.proofs.Common.{arith}
 use borrow.Author.Count.{below_more}
 use Rattle.chain_rules.specs.ChainFaults.{IsTooManyUnits}
 use Rattle.chain_rules.proofs.Counting.{with_next, so_far-le, count_units_more}

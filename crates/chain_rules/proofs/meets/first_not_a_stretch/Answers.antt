@@ -1,11 +1,11 @@
-use Rattle.std.proofs.Common.{◌≡◌, ℕ, ◌<◌, inl, inr, ⊎_elim, length, arith}
+use Rattle.std.proofs.Common.{ℕ, ◌<◌, inr, ⊎_elim, length, arith}
 use Rattle.std.proofs.lemmas.Bool.{iff_false}
 use borrow.Author.Count.{below_more}
 use Rattle.chain_rules.specs.Stretches.{spec_at, HasStretch, IsStretch}
 use Rattle.chain_rules.specs.ChainFaults.{Meet, IsNotAStretch}
 use Rattle.chain_rules.specs.Runs.{run_at, stretch}
-use Rattle.chain_rules.proofs.Meeting.{no_stretch_of_run, stretch_of_run}
-use Rattle.chain_rules.proofs.Spread.{IsSet, clash_of_met, met_of_clash, own_some, end_empty}
+use Rattle.chain_rules.proofs.Meeting.{stretch_of_run}
+use Rattle.chain_rules.proofs.Spread.{IsSet, clash_of_met, met_of_clash, own_some}
 use Rattle.chain_rules.proofs.meets.first_not_a_stretch.Goals as goal
 
 pub loop-chain-preserved : goal.loop-chain-preserved

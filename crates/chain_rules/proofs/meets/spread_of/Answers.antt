@@ -1,4 +1,4 @@
-use Rattle.std.proofs.Common.{◌≡◌, ℕ, ◌+◌, ◌<◌, List, length, sym, subst, arith}
+use Rattle.std.proofs.Common.{◌≡◌, ℕ, ◌+◌, List, length, sym, subst, arith}
 use Rattle.std.proofs.lemmas.List.{get_or_default}
 use Rattle.chain_rules.specs.declared.spans.Span.{Span}
 use Rattle.chain_rules.specs.declared.spec.ChainSpec.{ChainSpec}

@@ -1,4 +1,3 @@
-use Rattle.std.proofs.Common.{ℕ}
 use Rattle.chain_rules.specs.Stretches.{spec_at}
 use Rattle.chain_rules.specs.Runs.{run_at}
 use Rattle.chain_rules.specs.Spreading.{AreSpansOf, IsSpanOfRun, IsSpanOfEnd}

@@ -1,6 +1,8 @@
 use Rattle.std.proofs.Common.{◌∙◌, arith, length, ap, sym}
 use Rattle.std.proofs.lemmas.Bool.{iff_false}
 use Rattle.chain_rules.proofs.LegalParts.{legal_from_chains, chain_of_legal, members_of_legal, length_of_legal}
+use Rattle.std.specs.List.{concat}
+use Rattle.chain_rules.proofs.Members.{permutation_from_members}
 use Rattle.chain_rules.proofs.Outcomes.{says_no}
 use Rattle.chain_rules.proofs.plain.is_legal.Goals as goal
 
@@ -23,3 +25,11 @@ returns c =
         λ legal. c.are_legal_chains.ensures.value.1 (chain_of_legal c.args.rules.now c.args.plan.now legal),
       );
     }
+
+pub are_own-requires-clause-once : goal.are_own-requires-clause-once
+are_own-requires-clause-once c =
+    let units = ap length c.as_slice-units.ensures.value in
+    permutation_from_members (length c.args.rules.now.units) (concat c.args.plan.now.chains) (c.has_as_many.ensures.value.0 c.if-not-has_as_many.false ∙ units) (λ u below. c.all_stand.ensures.value.0 c.if-not-all_stand.false u (omega arith))
+
+pub are_legal_chains-requires-clause-own : goal.are_legal_chains-requires-clause-own
+are_legal_chains-requires-clause-own c = λ d h. c.are_own.ensures.value.0 c.if-not-are_own.false d h

@@ -1,4 +1,4 @@
-use Rattle.std.proofs.Common.{List, length, subst, sym, arith, inr, ◌≡◌, ℕ, ◌<◌}
+use Rattle.std.proofs.Common.{List, length, subst, sym, arith, inr}
 use Rattle.std.proofs.lemmas.List.Sums.{get_or-le-sum_by}
 use Rattle.base_types.specs.declared.fault.ReadFault.{ReadFault}
 use Rattle.base_types.specs.declared.kind.Kind.TheVariants.{NotAStretch, UnlistedBits, OrderBroken, OverMaxBits, TooManyUnits}
