@@ -14,12 +14,7 @@ use Rattle.chain_trace.specs.Paths.{source_net, has_port}
 use Rattle.path_links.specs.Free.{count_of}
 use Rattle.path_links.specs.Edits.{same_source}
 use Rattle.path_links.specs.Reordered.{last_of}
-
--- an output, its source as read, and its new one
-pub record Change : Type 0 where
-  pub port : NetId
-  pub was : Source
-  pub now : Source
+pub use Rattle.net_edit.specs.declared.changes.Change.{Change}
 
 -- the change of a path's output, if its source is another
 abbrev pub changes_of : Path × Path → List Change

@@ -6,6 +6,10 @@
 //! agrees with a design whose sinks were moved. Begin with `specs/Laws.antt`.
 #![tactic(auto)]
 
+mod changes;
+mod edits;
 mod laws;
+mod names;
 
+pub use edits::{Edits, PinEdit, PortEdit, TailEdit, Wire};
 pub use laws::edits_law;
