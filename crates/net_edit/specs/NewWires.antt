@@ -1,25 +1,29 @@
 -- What is edited between several paths, with wires: a tail by its place among the freed ports.
-use Rattle.std.specs.Prelude.{◌≡◌, ℕ, ◌==◌, ◌&&◌, Bool, List, [], ◌∷◌, ◌++◌, Option, Some, None, option_map, ◌<◌, ◌^◌}
-use Rattle.std.specs.List.{position_from}
+use Rattle.std.specs.Prelude.{◌≡◌, ℕ, ◌+◌, ◌<◌, ◌^◌, ◌==◌, ◌&&◌, Bool, false, List, [], ◌∷◌, length, slice_index_or, Option, Some, None, option_map}
+use Rattle.std.specs.List.{flat_map, list_any, position_from, zip}
+use Rattle.std.specs.Borrow.{Bor}
 use Rattle.std.specs.Option.{option_eq}
 use Rattle.std.specs.HashMap.{HashMap, get}
 use Rattle.netlist_core.specs.declared.netlist.NetId.{NetId}
+use Rattle.netlist_core.specs.declared.netlist.Port.{Port}
 use Rattle.netlist_core.specs.declared.netlist.Netlist.{Netlist}
 use Rattle.cell_table.specs.declared.paths.OutPin.{OutPin}
 use Rattle.cell_table.specs.Cells.{Cells}
-use Rattle.chain_trace.specs.declared.path.Step.{Step}
+use Rattle.chain_trace.specs.declared.path.Path.{Path}
 use Rattle.chain_trace.specs.declared.path.Source.{Source}
 use Rattle.chain_trace.specs.declared.path.Source.TheVariants as sources
 use Rattle.chain_trace.specs.declared.path.Sink.TheVariants as sinks
 use Rattle.chain_trace.specs.Paths.{source_net, out_pin_at}
-use Rattle.path_links.specs.Edits.{Link, same_source, assign_at}
+use Rattle.path_links.specs.Edits.{Link, same_source, moved, assign_at}
 use Rattle.net_edit.specs.declared.edits.Wire.{Wire}
 use Rattle.net_edit.specs.declared.edits.Wire.TheVariants.{Net, Tail}
 use Rattle.net_edit.specs.declared.edits.PinEdit.{PinEdit}
 use Rattle.net_edit.specs.declared.edits.PortEdit.{PortEdit}
 use Rattle.net_edit.specs.declared.edits.TailEdit.{TailEdit}
-use Rattle.net_edit.specs.Changes.{Change}
-use Rattle.net_edit.specs.TailNames.{tail_name}
+use Rattle.net_edit.specs.declared.edits.Edits.{Edits}
+use Rattle.net_edit.specs.Changes.{Change, is_output}
+use Rattle.net_edit.specs.Tails.{freed_between}
+use Rattle.net_edit.specs.TailNames.{tail_name, AreLeastFree}
 
 -- a tail, or else the net
 abbrev pub wire_or : Option ℕ → Option NetId → Option Wire
@@ -86,3 +90,21 @@ same_key a b = option_eq (λ x y. x.0 == y.0 && x.1 == y.1) a.0 b.0 && a.1 == b.
 -- the map has of each source the place of the port that it drove
 abbrev pub HasPlaces : {S : Type 0} → List Change → HashMap SourceKey ℕ S → Type 0
 HasPlaces fs places = (source : Source) → get same_key places (source_key source) ≡ place_of fs source
+
+-- the name is that of the out pin, where there is one
+abbrev pub IsNameOf : Option (Bor (List ℕ)) → Option OutPin → Type 0
+IsNameOf name out = option_map (λ n. n.now) name ≡ option_map (λ o. o.pin) out
+
+-- the nets that are bits of output ports are marked, and no others
+pub record AreMarked (ports : List Port) (marks : List Bool) : Type 0 where
+  pub each : (k : ℕ) → k < length marks → slice_index_or marks k false ≡ list_any (λ port. port.net.0 == k && is_output port.direction) ports
+
+-- the edits between the paths with wires: the tails have the least numbers that are free, one for each freed port
+pub record AreWired (n : Netlist) (cells : Cells) (old new : List Path) (edits : Edits) : Type 0 where
+  pub pins : edits.pins ≡ flat_map (wired_pin n cells (freed_between n cells old new)) (moved old new)
+  pub ports : edits.ports ≡ flat_map (wired_port n cells (freed_between n cells old new)) (moved old new)
+  pub numbers : List ℕ
+  pub count : length numbers ≡ length (freed_between n cells old new)
+  pub few : length n.nets + length numbers < 2 ^ 32
+  pub free : AreLeastFree n 0 numbers
+  pub tails : edits.tails ≡ flat_map (wired_tail n cells (freed_between n cells old new)) (zip (freed_between n cells old new) numbers)

@@ -6,10 +6,15 @@
 //! agrees with a design whose sinks were moved. Begin with `specs/Laws.antt`.
 #![tactic(auto)]
 
+mod between;
 mod changes;
 mod edits;
 mod laws;
+mod marks;
+mod moved;
 mod names;
+mod nets;
+mod wires;
 
 pub use edits::{Edits, PinEdit, PortEdit, TailEdit, Wire};
 pub use laws::edits_law;
