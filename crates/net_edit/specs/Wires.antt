@@ -1,8 +1,9 @@
 -- The edits between several paths as the code has them, with wires in place of the numbers of nets and of tails.
-use Rattle.std.specs.Prelude.{◌≡◌, ℕ, ◌+◌, ◌<◌, List, [], ◌∷◌, length, map, Some}
+use Rattle.std.specs.Prelude.{◌≡◌, ℕ, ◌+◌, ◌<◌, Bool, List, [], ◌∷◌, length, map, Some}
 use Rattle.std.specs.List.{AllByRecursion as Each}
 use Rattle.netlist_core.specs.declared.netlist.NetId.{NetId}
 use Rattle.netlist_core.specs.declared.netlist.Netlist.{Netlist}
+use Rattle.netlist_core.specs.Netlists.{named}
 use Rattle.cell_table.specs.declared.paths.OutPin.{OutPin}
 use Rattle.cell_table.specs.Cells.{Cells}
 use Rattle.chain_trace.specs.declared.path.Step.{Step}
@@ -11,6 +12,7 @@ use Rattle.chain_trace.specs.declared.path.Source.TheVariants as sources
 use Rattle.chain_trace.specs.Paths.{out_pin_at}
 use Rattle.path_links.specs.declared.edits.PinEdit.{PinEdit as NumberedPinEdit}
 use Rattle.path_links.specs.declared.edits.PortEdit.{PortEdit as NumberedPortEdit}
+use Rattle.path_links.specs.Erasure.{erased_netlist}
 use Rattle.net_edit.specs.declared.edits.Wire.{Wire}
 use Rattle.net_edit.specs.declared.edits.Wire.TheVariants.{Net, Tail}
 use Rattle.net_edit.specs.declared.edits.PinEdit.{PinEdit}
@@ -18,7 +20,8 @@ use Rattle.net_edit.specs.declared.edits.PortEdit.{PortEdit}
 use Rattle.net_edit.specs.declared.edits.TailEdit.{TailEdit}
 use Rattle.net_edit.specs.declared.edits.Edits.{Edits}
 use Rattle.net_edit.specs.Changes.{Change, new_net}
-use Rattle.net_edit.specs.Tails.{freed_between, pin_edits, port_edits}
+use Rattle.net_edit.specs.Tails.{freed_between, pin_edits, port_edits, rewired}
+use Rattle.net_edit.specs.Erased.{without_tails, tails_of, scan_sinks}
 use Rattle.net_edit.specs.TailNames.{AreLeastNames}
 
 -- the number of a wire's net; the tails stand behind the nets of the netlist
@@ -71,3 +74,9 @@ pub record AreEditsFor (n : Netlist) (cells : Cells) (old new : List Path) (edit
   pub pin_wires : Each (λ e. IsWire n (length edits.tails) e.source) edits.pins
   pub port_wires : Each (λ e. IsWire n (length edits.tails) e.source) edits.ports
   pub tail_wires : Each (λ t. IsWire n (length edits.tails) t.source) edits.tails
+
+-- but for the scan sinks of the old paths and the tails, the netlist with the edits is the one that was read
+abbrev pub IsErasedAlike : Netlist → Cells → (NetId → Bool) → List Path → List Path → List (List ℕ) → Type 0
+IsErasedAlike n cells free old new names =
+    erased_netlist (scan_sinks n cells free old) (without_tails (tails_of n cells (freed_between n cells old new) names) (named (rewired n cells names old new)))
+    ≡ erased_netlist (scan_sinks n cells free old) (named n)

@@ -1,5 +1,13 @@
 //! The edits between paths.
-ghost use Rattle.std.specs.Prelude.{◌≡◌, ◌++◌, [], ◌∷◌, List, ℕ, IfOk, OnOk};
+ghost use Rattle.std.specs.Prelude.{◌≡◌, ◌++◌, [], ◌∷◌, List, Bool, true, Contains, IfOk, OnOk};
+ghost use Rattle.netlist_core.specs.declared.netlist.NetId.{NetId as of_net};
+ghost use Rattle.chain_trace.specs.declared.path.Path.{Path as one_path};
+ghost use Rattle.net_edit.specs.Changes.{changes};
+ghost use Rattle.net_edit.specs.Rearranged.{AreRearranged};
+ghost use Rattle.net_edit.specs.Tails.{freed_between, rewired, AreTailNames};
+ghost use Rattle.net_edit.specs.Agreement.{Placing, AgreeOnPins, AreMoved};
+ghost use Rattle.net_edit.specs.Laws.{HasPath};
+ghost use Rattle.net_edit.specs.Wires.{names_of, AreEditsFor, IsErasedAlike};
 ghost use Rattle.std.specs.List.{flat_map, zip};
 ghost use Rattle.netlist_core.specs.Netlists.{IsNetlist};
 ghost use Rattle.chain_trace.specs.declared.path.Sink.{Sink as of_sink};
@@ -206,4 +214,33 @@ fn wired(
         ports: edits.ports,
         tails,
     })
+}
+
+/// The edits that make the new paths of the old ones: each in pin whose source changed gets the wire of its new source, each
+/// assigned output whose source changed gets it as its assign's right side, and each output whose source changed and which an
+/// out pin drives directly is freed by a tail. They are in the order of the new paths, the tails in that of the old ones; or want
+/// of memory, as which a place or a number beyond 32 bits counts too.
+pub fn edits_for(
+    alloc: Global,
+    netlist: &Netlist,
+    table: &CellTable,
+    paths: &[Path],
+    new: &[Path],
+) -> Result<Edits, NoMemory>
+    requires netlist { IsNetlist netlist.now }
+    // Where the new paths have the steps of the old ones, and only outputs that are assigned or direct get another source, these
+    // are the edits between both,
+    ensures value { AreRearranged netlist.now table.now paths.now new.now → IfOk result (AreEditsFor netlist.now table.now paths.now new.now) }
+    // each freed port has a name for its tail,
+    ensures names { AreRearranged netlist.now table.now paths.now new.now → IfOk result (λ edits. AreTailNames netlist.now (freed_between netlist.now table.now paths.now new.now) (names_of edits)) }
+    // with the edits it is a netlist,
+    ensures netlist { AreRearranged netlist.now table.now paths.now new.now → IfOk result (λ edits. IsNetlist (rewired netlist.now table.now (names_of edits) paths.now new.now)) }
+    // in which the outputs have the new paths and no others,
+    ensures paths { AreRearranged netlist.now table.now paths.now new.now → IfOk result (λ edits. (path : one_path) → Contains new.now path → HasPath (rewired netlist.now table.now (names_of edits) paths.now new.now) table.now path) }
+    // but for the scan sinks and the tails it is the one that was read,
+    ensures erased { (free : of_net → Bool) → AreRearranged netlist.now table.now paths.now new.now → ((c : one_change) → Contains (changes paths.now new.now) c → free c.port ≡ true) → IfOk result (λ edits. IsErasedAlike netlist.now table.now free paths.now new.now (names_of edits)) }
+    // and it agrees with a design whose moved sinks stand in the nets of their new sources.
+    ensures agrees { (before after : Placing) → AreRearranged netlist.now table.now paths.now new.now → AreMoved netlist.now table.now paths.now new.now before after → AgreeOnPins netlist.now before → IfOk result (λ edits. AgreeOnPins (rewired netlist.now table.now (names_of edits) paths.now new.now) after) }
+{
+    wired(alloc, netlist, table, paths, new)
 }

@@ -16,5 +16,6 @@ mod names;
 mod nets;
 mod wires;
 
+pub use between::edits_for;
 pub use edits::{Edits, PinEdit, PortEdit, TailEdit, Wire};
 pub use laws::edits_law;
