@@ -1,5 +1,5 @@
 -- The names that edits have for their tails.
-use Rattle.std.proofs.Common.{◌≡◌, ℕ, ◌+◌, ◌<◌, ◌^◌, List, ◌++◌, length, map, sym, ap, ◌∙◌, subst, arith}
+use Rattle.std.proofs.Common.{ℕ, List, ◌++◌, map, sym, subst, arith}
 use Rattle.std.proofs.lemmas.List.{length-map}
 use Rattle.netlist_core.specs.declared.netlist.NetName.{NetName}
 use Rattle.netlist_core.specs.declared.netlist.Netlist.{Netlist}
@@ -10,7 +10,7 @@ use Rattle.net_edit.specs.declared.edits.TailEdit.{TailEdit}
 use Rattle.net_edit.specs.declared.edits.Edits.{Edits}
 use Rattle.net_edit.specs.Rearranged.{AreRearranged}
 use Rattle.net_edit.specs.Tails.{freed_between, AreTailNames}
-use Rattle.net_edit.specs.Wires.{names_of, AreEditsFor}
+use Rattle.net_edit.specs.Wires.{names_of}
 use Rattle.net_edit.specs.NewWires.{AreWired}
 use Rattle.net_edit.proofs.WiredEdits.{are_edits, names_count}
 use Rattle.net_edit.proofs.LeastNames.{are_apart}

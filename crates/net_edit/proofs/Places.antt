@@ -1,5 +1,5 @@
 -- The places of freed ports by their old sources.
-use Rattle.std.proofs.Common.{◌≡◌, ℕ, suc, ◌+◌, ◌<◌, ◌==◌, Bool, true, false, cond, List, [], ◌∷◌, ◌++◌, length, take, get_or, Option, Some, None, refl, sym, ap, ap₂, ◌∙◌, arith}
+use Rattle.std.proofs.Common.{◌≡◌, ℕ, suc, ◌+◌, ◌<◌, ◌==◌, Bool, true, false, cond, List, [], ◌∷◌, ◌++◌, length, take, get_or, Option, Some, None, refl, sym, ap, ◌∙◌, arith}
 use Rattle.std.specs.List.{position_from}
 use Rattle.std.specs.Option.{option_or, is_some}
 use Rattle.std.proofs.lemmas.Bool.{false≢true}
@@ -9,8 +9,7 @@ use Rattle.chain_trace.specs.declared.path.Source.{Source}
 use Rattle.chain_trace.specs.declared.path.Source.TheVariants as sources
 use Rattle.path_links.specs.Edits.{same_source}
 use Rattle.path_links.proofs.PathSame.{source_true}
-use Rattle.net_edit.specs.Changes.{Change}
-use Rattle.net_edit.specs.NewWires.{SourceKey, source_key, same_key, place_of}
+use Rattle.net_edit.specs.NewWires.{SourceKey, source_key, same_key}
 
 turned : (a b : ℕ) → (a == b) ≡ (b == a)
 turned a b = nat_eq_equiv.symm a b

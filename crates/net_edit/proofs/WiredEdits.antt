@@ -1,5 +1,5 @@
 -- The edits with wires are those by the numbers of nets.
-use Rattle.std.proofs.Common.{◌≡◌, ℕ, ◌+◌, ◌<◌, ◌^◌, Bool, true, false, cond, List, [], ◌∷◌, ◌++◌, length, map, Option, Some, None, option_map, inl, inr, refl, sym, ap, ◌∙◌, subst, arith}
+use Rattle.std.proofs.Common.{◌≡◌, ℕ, ◌+◌, ◌<◌, Bool, true, false, cond, List, [], ◌∷◌, ◌++◌, length, map, Option, Some, None, option_map, inl, inr, refl, sym, ap, ◌∙◌, subst, arith}
 use Rattle.std.specs.List.{flat_map, zip, position_from, AllByRecursion as Each}
 use Rattle.std.proofs.lemmas.List.{map-append}
 use Rattle.std.proofs.lemmas.Option.{same_Some, none-some, slice_get_within}
@@ -10,12 +10,9 @@ use Rattle.cell_table.specs.declared.paths.OutPin.{OutPin}
 use Rattle.cell_table.specs.Cells.{Cells}
 use Rattle.chain_trace.specs.declared.path.Path.{Path}
 use Rattle.chain_trace.specs.declared.path.Source.{Source}
-use Rattle.chain_trace.specs.declared.path.Source.TheVariants as sources
 use Rattle.chain_trace.specs.declared.path.Sink.TheVariants as sinks
-use Rattle.chain_trace.specs.Paths.{source_net, out_pin_at}
+use Rattle.chain_trace.specs.Paths.{source_net}
 use Rattle.chain_trace.proofs.Ranges.{source_within}
-use Rattle.path_links.specs.declared.edits.PinEdit.{PinEdit as NumberedPinEdit}
-use Rattle.path_links.specs.declared.edits.PortEdit.{PortEdit as NumberedPortEdit}
 use Rattle.path_links.specs.Edits.{Link, same_source, moved, pin_edit_of, port_edit_of, assign_at}
 use Rattle.path_links.proofs.PathLists.{Has}
 use Rattle.path_links.proofs.EditEach.{each_append}
@@ -25,11 +22,11 @@ use Rattle.net_edit.specs.declared.edits.PinEdit.{PinEdit}
 use Rattle.net_edit.specs.declared.edits.PortEdit.{PortEdit}
 use Rattle.net_edit.specs.declared.edits.TailEdit.{TailEdit}
 use Rattle.net_edit.specs.declared.edits.Edits.{Edits}
-use Rattle.net_edit.specs.Changes.{Change, tail_or, tail_of, new_net}
+use Rattle.net_edit.specs.Changes.{Change, tail_or, new_net}
 use Rattle.net_edit.specs.Rearranged.{AreRearranged}
-use Rattle.net_edit.specs.Tails.{new_pin_edit, new_port_edit, freed_between, pin_edits, port_edits}
+use Rattle.net_edit.specs.Tails.{new_pin_edit, new_port_edit, freed_between}
 use Rattle.net_edit.specs.TailNames.{tail_name}
-use Rattle.net_edit.specs.Wires.{net_of_wire, IsWire, numbered_pin, numbered_port, IsTailOf, AreTailsOf, names_of, AreEditsFor}
+use Rattle.net_edit.specs.Wires.{net_of_wire, IsWire, numbered_pin, numbered_port, IsTailOf, AreTailsOf, AreEditsFor}
 use Rattle.net_edit.specs.NewWires.{wire_or, place_of, new_wire, pin_with, wired_pin, port_with, wired_port, tail_with, tail_at_source, wired_tail, AreWired}
 use Rattle.net_edit.proofs.NewEdits.{position_some}
 use Rattle.net_edit.proofs.Links.{change_from}

@@ -6,6 +6,7 @@
 //! agrees with a design whose sinks were moved. Begin with `specs/Laws.antt`.
 #![tactic(auto)]
 
+mod applied;
 mod between;
 mod changes;
 mod edits;
@@ -14,8 +15,10 @@ mod marks;
 mod moved;
 mod names;
 mod nets;
+mod puts;
 mod wires;
 
+pub use applied::apply;
 pub use between::edits_for;
 pub use edits::{Edits, PinEdit, PortEdit, TailEdit, Wire};
 pub use laws::edits_law;

@@ -1,4 +1,4 @@
-use Rattle.std.proofs.Common.{◌≡◌, ◌∙◌, ◌+◌, get_or, take}
+use Rattle.std.proofs.Common.{◌∙◌, ◌+◌, get_or, take}
 use Rattle.std.proofs.lemmas.List.{take_more}
 use Rattle.chain_trace.specs.declared.path.Source.TheVariants as sources
 use Rattle.chain_trace.specs.declared.path.Sink.TheVariants as sinks

@@ -1,4 +1,4 @@
-use Rattle.std.proofs.Common.{◌≡◌, ◌∙◌, ◌+◌, ◌<◌, length, get_or, take, ap, arith}
+use Rattle.std.proofs.Common.{◌∙◌, ◌+◌, ◌<◌, length, get_or, take, ap, arith}
 use Rattle.std.specs.List.{flat_map, zip}
 use Rattle.chain_trace.specs.declared.path.Source.TheVariants as sources
 use Rattle.net_edit.specs.Changes.{Change}

@@ -1,7 +1,7 @@
-use Rattle.std.proofs.Common.{◌≡◌, ◌∙◌, ◌+◌, ◌<◌, ◌^◌, ℕ, List, length, ap, ap₂, sym, subst, arith}
+use Rattle.std.proofs.Common.{◌≡◌, ◌∙◌, ◌+◌, ◌<◌, ◌^◌, ℕ, List, length, ap, ap₂, subst, arith}
 use Rattle.std.specs.List.{flat_map, zip}
 use Rattle.netlist_core.specs.declared.netlist.NetName.{NetName}
-use Rattle.path_links.specs.Edits.{Link, moved}
+use Rattle.path_links.specs.Edits.{moved}
 use Rattle.net_edit.specs.Changes.{Change, freed}
 use Rattle.net_edit.specs.Tails.{freed_between}
 use Rattle.net_edit.specs.NewWires.{HasPlaces, wired_pin, wired_port, wired_tail}

@@ -1,4 +1,4 @@
-use Rattle.std.proofs.Common.{◌≡◌, ◌∙◌, ◌+◌, ◌++◌, ◌∷◌, [], ◌<◌, List, min, take, length, get_or, ap, ap₂, sym, arith}
+use Rattle.std.proofs.Common.{◌≡◌, ◌∙◌, ◌+◌, ◌++◌, ◌∷◌, [], ◌<◌, take, length, ap, ap₂, sym, arith}
 use Rattle.std.specs.List.{flat_map}
 use Rattle.netlist_core.specs.Netlists.{pairs}
 use Rattle.netlist_core.proofs.Sides.{pairs_more}

@@ -1,4 +1,4 @@
-use Rattle.std.proofs.Common.{◌≡◌, ◌∙◌, ◌<◌, length, ap, sym, subst}
+use Rattle.std.proofs.Common.{◌∙◌, ◌<◌, length, ap, sym, subst}
 use Rattle.netlist_core.specs.declared.netlist.Netlist.{Netlist}
 use Rattle.chain_trace.specs.Paths.{has_port}
 use Rattle.chain_trace.proofs.Ranges.{port_within}

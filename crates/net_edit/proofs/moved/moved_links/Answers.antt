@@ -1,4 +1,4 @@
-use Rattle.std.proofs.Common.{◌≡◌, ◌∙◌, true, false, not, List, ap, sym, subst}
+use Rattle.std.proofs.Common.{◌∙◌, true, false, not, List, ap, sym, subst}
 use Rattle.std.specs.List.{flat_map, filter, list_any}
 use Rattle.std.proofs.lemmas.List.{take_all}
 use Rattle.path_links.specs.Edits.{Link, links, same_link}

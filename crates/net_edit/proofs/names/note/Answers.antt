@@ -1,4 +1,4 @@
-use Rattle.std.proofs.Common.{◌∙◌, List, ℕ, Bor, ap, sym, refl}
+use Rattle.std.proofs.Common.{◌∙◌, List, ℕ, Bor}
 use Rattle.std.specs.Str.{bytes_eq}
 use Rattle.net_edit.specs.TailNames.{tail_name}
 use Rattle.net_edit.specs.TakenNames.{has_name}

@@ -1,4 +1,4 @@
-use Rattle.std.proofs.Common.{◌≡◌, ◌∙◌, ◌||◌, Bool, ap}
+use Rattle.std.proofs.Common.{◌∙◌, ◌||◌, Bool, ap}
 use Rattle.net_edit.specs.TailNames.{tail_name, is_bit_of_vector}
 use Rattle.net_edit.specs.TakenNames.{has_name}
 use Rattle.net_edit.proofs.TailTexts.{or_false, no_bracket}

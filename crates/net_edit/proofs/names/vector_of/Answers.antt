@@ -1,4 +1,4 @@
-use Rattle.std.proofs.Common.{◌<◌, arith}
+use Rattle.std.proofs.Common.{arith}
 use Rattle.net_edit.proofs.TailTexts.{front_is, no_front}
 use Rattle.net_edit.proofs.names.vector_of.Goals as goal
 

@@ -1,4 +1,4 @@
-use Rattle.std.proofs.Common.{◌≡◌, ◌∙◌, Option, ℕ, Some, None, cond, ap, sym, get_or}
+use Rattle.std.proofs.Common.{◌∙◌, Option, ℕ, Some, None, cond, ap, sym, get_or}
 use Rattle.std.specs.Option.{option_or}
 use Rattle.chain_trace.specs.declared.path.Source.TheVariants as sources
 use Rattle.path_links.specs.Edits.{same_source}

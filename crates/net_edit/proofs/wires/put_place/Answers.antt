@@ -1,8 +1,6 @@
-use Rattle.std.proofs.Common.{◌≡◌, ◌∙◌, ap, sym, subst, Some, None, cond, arith}
+use Rattle.std.proofs.Common.{◌≡◌, ◌∙◌, ap, sym, Some, cond, arith}
 use Rattle.std.specs.HashMap.{get}
-use Rattle.std.specs.Option.{option_or}
-use Rattle.path_links.specs.Edits.{same_source}
-use Rattle.net_edit.specs.NewWires.{SourceKey, source_key, same_key}
+use Rattle.net_edit.specs.NewWires.{source_key, same_key}
 use Rattle.net_edit.proofs.Places.{place_put, place_kept}
 use Rattle.net_edit.proofs.wires.put_place.Goals as goal
 
