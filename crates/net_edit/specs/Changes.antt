@@ -14,6 +14,7 @@ use Rattle.chain_trace.specs.Paths.{source_net, has_port}
 use Rattle.path_links.specs.Free.{count_of}
 use Rattle.path_links.specs.Edits.{same_source}
 use Rattle.path_links.specs.Reordered.{last_of}
+-- an output, its source as read, and its new one
 pub use Rattle.net_edit.specs.declared.changes.Change.{Change}
 
 -- the change of a path's output, if its source is another
