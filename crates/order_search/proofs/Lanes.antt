@@ -136,7 +136,7 @@ ready w us xs ys ts from until r n few p q =
     }
 
 -- a link by the coordinates of its ends
-link_by : (p : Point) (o : Option Point) → o ≢ None → link_of (Some p) o ≡ distance p.x (x_of o) + distance p.y (y_of o)
+pub link_by : (p : Point) (o : Option Point) → o ≢ None → link_of (Some p) o ≡ distance p.x (x_of o) + distance p.y (y_of o)
 link_by p None h = absurd (h refl)
 link_by p (Some q) h = refl
 
@@ -206,25 +206,6 @@ at_unit (p ∷ ps) (suc u) l = at_unit ps u (omega arith)
 
 pub next_is_somewhere : (w : ChainEnds) (us : List ℕ) (j : ℕ) → AreWithin us (length w.entry) → j < length us → next_at w us j ≢ None
 next_is_somewhere w us j g l = λ e. at_unit w.entry (get_or us j 0) (g j l) (sym (ap (first_of w.entry w.stop) (drop_more us j 0 l)) ∙ e)
-
--- one lane's answer is that of the chain
-pub found_in_rows : (w : ChainEnds) (us : List ℕ) (xs ys ts : List ℤ) (p q : Point) (i until k : ℕ) (limit : ℤ) → AreLent w us xs ys ts → IsAim w us i p q limit → AreWithin us (length w.entry) → until ≤ length us
-    → ((j : ℕ) → i < j → j < until → next_at w us (j + 1) ≢ None) → i + 1 + k < until
-    → sum_at p.x p.y q.x q.y (part (i + 1) until xs) (part (i + 1) until ys) (part (i + 1 + 1) (until + 1) xs) (part (i + 1 + 1) (until + 1) ys) (part (i + 1) until ts) k <ℤ limit
-    → length_of w (reversed_run us i (k + 2)) < length_of w us
-found_in_rows w us xs ys ts p q i until k limit r a g h some l less =
-    let m : i + 1 + k + 1 - i ≡ k + 2 = omega arith in
-    let e = lane_sum w us xs ys ts p q (i + 1) until k (i + 1 + k) r h l refl (next_is_somewhere w us (i + 1 + k) g (omega arith)) (some (i + 1 + k) (omega arith) l) in
-    subst (λ (n : ℕ). length_of w (reversed_run us i n) < length_of w us) m (lane_gain w us i (i + 1 + k) p q limit _ a (omega arith) (omega arith) e less)
-
-pub least_in_rows : (w : ChainEnds) (us : List ℕ) (xs ys ts : List ℤ) (p q : Point) (i until : ℕ) (limit : ℤ) → AreLent w us xs ys ts → IsAim w us i p q limit → AreWithin us (length w.entry) → until ≤ length us
-    → ((j : ℕ) → i < j → j < until → next_at w us (j + 1) ≢ None)
-    → ((k : ℕ) → k < length (part (i + 1) until xs) → limit ≤ℤ sum_at p.x p.y q.x q.y (part (i + 1) until xs) (part (i + 1) until ys) (part (i + 1 + 1) (until + 1) xs) (part (i + 1 + 1) (until + 1) ys) (part (i + 1) until ts) k)
-    → (j : ℕ) → i + 1 ≤ j → j < until → length_of w us ≤ length_of w (reversed_run us i (j + 1 - i))
-least_in_rows w us xs ys ts p q i until limit r a g h some least j b l =
-    let long : length (part (i + 1) until xs) ≡ until - (i + 1) = part_long (length us + 1) (λ (n : ℕ). x_of (next_at w us n)) xs (i + 1) (until - (i + 1)) r.x (omega arith) in
-    let e = lane_sum w us xs ys ts p q (i + 1) until (j - (i + 1)) j r h (omega arith) (omega arith) (next_is_somewhere w us j g (omega arith)) (some j (omega arith) l) in
-    lane_least w us i j p q limit _ a (omega arith) (omega arith) e (least (j - (i + 1)) (omega (arith, long)))
 
 -- a signed number as the code hands it over
 abbrev pub over : ℤ → ℤ

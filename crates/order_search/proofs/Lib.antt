@@ -8,3 +8,4 @@ pub mod Settling
 pub mod Placing
 pub mod Trials
 pub mod Unique
+pub mod Blocked

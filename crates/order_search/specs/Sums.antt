@@ -2,7 +2,7 @@
 use Rattle.std.specs.Prelude.{◌≡◌, ℕ, pos, ◌+◌, ◌≤◌, List, length, slice_index_or}
 use Rattle.wire_cost.specs.Filled.{Filled}
 use Rattle.wire_cost.specs.Lengths.{ChainEnds, backward_sum, forward_sum}
-use Rattle.wire_cost.specs.Rows.{AreRowsOf}
+use Rattle.wire_cost.specs.Rows.{AreBlocksOf, AreRowsOf}
 
 -- the sums and the rows are those of the chain with these units
 pub record IsFilledWith (w : ChainEnds) (us : List ℕ) (f : Filled) : Type 0 where
@@ -11,3 +11,4 @@ pub record IsFilledWith (w : ChainEnds) (us : List ℕ) (f : Filled) : Type 0 wh
   pub backward_count : length f.backward ≡ length us + 2
   pub backward : (k : ℕ) → k ≤ length us + 1 → slice_index_or f.backward k (pos 0) ≡ pos (backward_sum w us k)
   pub rows : AreRowsOf w us f.rows
+  pub blocks : AreBlocksOf w us f.rows

@@ -1,7 +1,7 @@
 //! Tests reversed runs of one chain by the sums of its links.
 //!
 //! A run is tested in constant time: its inner links are the difference of two sums. Where the chain comes from a point, the
-//! runs from one place on are tested four at a time over the rows. A place behind which the stop stands nowhere, and every
+//! runs from one place on are tested over the rows, block by block. A place behind which the stop stands nowhere, and every
 //! place where the start does, is tested by itself, since the rows hold no point there.
 ghost use Rattle.std.specs.Prelude.{◌≡◌, ◌≢◌, ℕ, pos, ◌+◌, ◌-◌, ◌-ℤ◌, ◌^◌, ◌<◌, ◌≤◌, length, None, Some, IfSome, IfNone, slice_get, slice_index_or, unsigned_abs, true, false};
 ghost use Rattle.wire_cost.specs.Lengths.{ArePlaced, IsChainAt, IsNear, backward_sum, chain_ends, chain_length_of, forward_sum, link_of};
@@ -10,8 +10,8 @@ ghost use Rattle.order_search.specs.Runs.{IsSettledAt, IsSettledBetween};
 ghost use Rattle.order_search.specs.Steps.{reversed_run};
 ghost use Rattle.order_search.specs.Sums.{IsFilledWith};
 
+use crate::blocks::{Aim, first_place};
 use base_types::Point;
-use lane_kernels::first_gain;
 use wire_cost::{Ends, Sums, entry_of, exit_of, point_after, point_before, wire};
 
 /// The sum of the first k links of a chain, whose sums are filled in.
@@ -136,8 +136,8 @@ fn turn_limit(ends: &Ends, chain: u32, units: &[u32], sums: &Sums, before: Point
     (first + turned) as i64 - straight as i64
 }
 
-/// The length of the shortest run from place i to a place before `until` whose reversal makes the chain shorter, four at a
-/// time. The chain comes from the point `before`, and has a point behind each of these places.
+/// The length of the shortest run from place i to a place before `until` whose reversal makes the chain shorter, by blocks
+/// and lanes. The chain comes from the point `before`, and has a point behind each of these places.
 fn shorter_in_rows(
     ends: &Ends,
     chain: u32,
@@ -158,23 +158,13 @@ fn shorter_in_rows(
     ensures found { IfSome result (λ m. (i + m ≤ until) × (chain_length_of ends.now chain (reversed_run units.now i m) < chain_length_of ends.now chain units.now)) }
     ensures none { IfNone result (IsSettledBetween ends.now chain units.now i (i + 1) until) }
 {
-    let exit = exit_of(ends, units[i]);
-    let limit = turn_limit(ends, chain, units, sums, before, i);
-    let rows = sums.rows();
-    let from = i + 1;
-    let places = first_gain(
-        before.x,
-        before.y,
-        exit.x,
-        exit.y,
-        &rows.entry_x[from..until],
-        &rows.entry_y[from..until],
-        &rows.entry_x[from + 1..until + 1],
-        &rows.entry_y[from + 1..until + 1],
-        &rows.turned[from..until],
-        limit,
-    )?;
-    Some(places + 2)
+    let aim = Aim {
+        before,
+        exit: exit_of(ends, units[i]),
+        limit: turn_limit(ends, chain, units, sums, before, i),
+    };
+    let place = first_place(ends, chain, units, sums, &aim, i + 1, until)?;
+    Some(place + 1 - i)
 }
 
 /// The length of a run from place i on, among the first `limit` places, whose reversal makes the chain shorter.

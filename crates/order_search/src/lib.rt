@@ -5,6 +5,7 @@
 //! every search of this and of the crates above. Begin with `reversals.rt`.
 #![tactic(auto)]
 
+mod blocks;
 mod effort;
 mod gains;
 mod nearest;

@@ -11,6 +11,10 @@ pub record RowLists : Type 0 where
   pub exit_y : List ℤ
   pub turned : List ℤ
   pub gaps : List ℤ
+  -- the middle of each block of units, and the least that its units come to
+  pub middle_x : List ℤ
+  pub middle_y : List ℤ
+  pub slack : List ℤ
 
 -- the sums and rows of the chain last filled in; before the first filling there are no links
 pub record Filled : Type 0 where

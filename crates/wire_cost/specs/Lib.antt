@@ -1,3 +1,4 @@
+pub mod Blocks
 pub mod Filled
 pub mod Lengths
 pub mod Rows

@@ -4,6 +4,7 @@
 //! Contract: every number is the one that `specs/Lengths.antt` defines. Begin with `ends.rt`.
 #![tactic(auto)]
 
+mod blocks;
 mod ends;
 mod lengths;
 mod links;
@@ -11,6 +12,7 @@ mod ranges;
 mod rows;
 mod sums;
 
+pub use blocks::BLOCK;
 pub use ends::Ends;
 pub use lengths::{chain_length, plan_length, wire_of};
 pub use links::{entry_of, exit_of, link, point_after, point_before, wire};

@@ -21,6 +21,13 @@ pub struct Rows<'a> {
     pub turned: &'a [i64],
     /// The negative of the link at each of the n + 1 places.
     pub gaps: &'a [i64],
+    /// For each block of 32 units, where one goes to at its middle place, or at the last place of the chain before that.
+    pub middle_x: &'a [i64],
+    /// The same upward.
+    pub middle_y: &'a [i64],
+    /// For each block the least, over its units, of `turned` less the ways from the middle to the places before and behind
+    /// the unit.
+    pub slack: &'a [i64],
 }
 
 /// Writes the coordinates of the points of some units, from a place on.

@@ -1,8 +1,9 @@
 //! The sums of a chain's first links, as it is read and as it is turned round, and the rows that lanes read.
 ghost use Rattle.std.specs.Prelude.{◌≡◌, ℕ, ℤ, pos, ◌+◌, ◌*◌, ◌^◌, ◌<◌, ◌≤◌, [], ◌∷◌, length, take, drop, slice_get, slice_index_or, IfOk};
 ghost use Rattle.wire_cost.specs.Lengths.{ArePlaced, AreNear, AreWithin, ChainEnds, IsChainAt, IsNearOrNowhere, backward_sum, chain_ends, forward_sum};
-ghost use Rattle.wire_cost.specs.Rows.{AreRowsOf};
+ghost use Rattle.wire_cost.specs.Rows.{AreBlocksOf, AreRowsOf};
 
+use crate::blocks::{BLOCK, fill_least, fill_middles};
 use crate::ends::Ends;
 use crate::links::wire;
 use crate::rows::{Rows, fill_gaps, fill_places, fill_turned, set_place};
@@ -22,11 +23,14 @@ pub struct Sums {
     exit_y: Vec<i64>,
     turned: Vec<i64>,
     gaps: Vec<i64>,
+    middle_x: Vec<i64>,
+    middle_y: Vec<i64>,
+    slack: Vec<i64>,
     links: usize,
 }
 
 impl Model for Sums {
-    ghost use Rattle.std.specs.Prelude.{◌≡◌, ◌+◌, ◌-◌, ◌<◌, ◌≤◌, length, take};
+    ghost use Rattle.std.specs.Prelude.{◌≡◌, ◌+◌, ◌-◌, ◌/◌, ◌<◌, ◌≤◌, length, take};
     ghost use Rattle.wire_cost.specs.Filled.{Filled};
 
     ghost Value = { Filled };
@@ -42,6 +46,9 @@ impl Model for Sums {
         exit_y = take s.links s.exit_y.items;
         turned = take (s.links - 1) s.turned.items;
         gaps = take s.links s.gaps.items;
+        middle_x = take ((s.links + 30) / 32) s.middle_x.items;
+        middle_y = take ((s.links + 30) / 32) s.middle_y.items;
+        slack = take ((s.links + 30) / 32) s.slack.items;
       };
     } };
 
@@ -50,6 +57,8 @@ impl Model for Sums {
         × (length s.entry_x.items ≡ length s.forward.items) × (length s.entry_y.items ≡ length s.forward.items)
         × (length s.exit_x.items ≡ length s.forward.items) × (length s.exit_y.items ≡ length s.forward.items)
         × (length s.turned.items ≡ length s.forward.items) × (length s.gaps.items ≡ length s.forward.items)
+        × (length s.middle_x.items ≡ length s.forward.items / 32 + 1) × (length s.middle_y.items ≡ length s.forward.items / 32 + 1)
+        × (length s.slack.items ≡ length s.forward.items / 32 + 1)
         × (s.links < length s.forward.items) × (2 ≤ length s.forward.items) };
 }
 
@@ -71,12 +80,15 @@ impl Sums {
             exit_y: vec![in alloc; 0; places]?,
             turned: vec![in alloc; 0; places]?,
             gaps: vec![in alloc; 0; places]?,
+            middle_x: vec![in alloc; 0; places / BLOCK + 1]?,
+            middle_y: vec![in alloc; 0; places / BLOCK + 1]?,
+            slack: vec![in alloc; 0; places / BLOCK + 1]?,
             links: 0,
         })
     }
 
-    /// Fills in the sums and the rows of a chain with these units; takes no memory.
-    pub fn fill(&mut self, ends: &Ends, chain: u32, units: &[u32])
+    /// Fills in the sums and the rows of a chain with these units, those of its blocks left out.
+    fn fill_links(&mut self, ends: &Ends, chain: u32, units: &[u32])
         requires placed { ArePlaced ends.now }
         requires chain { IsChainAt ends.now chain units.now }
         requires room { length units.now ≤ self.old.room }
@@ -111,6 +123,45 @@ impl Sums {
         self.links = n + 1;
     }
 
+    /// Fills in the rows of the blocks of the chain that is filled in.
+    fn fill_blocks(&mut self, ends: &Ends, chain: u32, units: &[u32])
+        requires placed { ArePlaced ends.now }
+        requires chain { IsChainAt ends.now chain units.now }
+        requires forward { length self.old.forward ≡ length units.now + 2 }
+        requires rows { AreRowsOf (chain_ends ends.now chain) units.now self.old.rows }
+        ensures forward { self.new.forward ≡ self.old.forward }
+        ensures backward { self.new.backward ≡ self.old.backward }
+        ensures rows { AreRowsOf (chain_ends ends.now chain) units.now self.new.rows }
+        ensures blocks { AreBlocksOf (chain_ends ends.now chain) units.now self.new.rows }
+        ensures room { self.new.room ≡ self.old.room }
+    {
+        let n = units.len();
+        let xs = &self.entry_x[..n + 1];
+        let ys = &self.entry_y[..n + 1];
+        let turned = &self.turned[..n];
+        let middle_x = self.middle_x.as_mut_slice();
+        let middle_y = self.middle_y.as_mut_slice();
+        fill_middles(middle_x, middle_y, xs, ys, n);
+        fill_least(self.slack.as_mut_slice(), xs, ys, turned);
+    }
+
+    /// Fills in the sums and the rows of a chain with these units; takes no memory.
+    pub fn fill(&mut self, ends: &Ends, chain: u32, units: &[u32])
+        requires placed { ArePlaced ends.now }
+        requires chain { IsChainAt ends.now chain units.now }
+        requires room { length units.now ≤ self.old.room }
+        ensures forward_count { length self.new.forward ≡ length units.now + 2 }
+        ensures forward { (k : ℕ) → k ≤ length units.now + 1 → slice_index_or self.new.forward k (pos 0) ≡ pos (forward_sum (chain_ends ends.now chain) units.now k) }
+        ensures backward_count { length self.new.backward ≡ length units.now + 2 }
+        ensures backward { (k : ℕ) → k ≤ length units.now + 1 → slice_index_or self.new.backward k (pos 0) ≡ pos (backward_sum (chain_ends ends.now chain) units.now k) }
+        ensures rows { AreRowsOf (chain_ends ends.now chain) units.now self.new.rows }
+        ensures blocks { AreBlocksOf (chain_ends ends.now chain) units.now self.new.rows }
+        ensures room { self.new.room ≡ self.old.room }
+    {
+        self.fill_links(ends, chain, units);
+        self.fill_blocks(ends, chain, units);
+    }
+
     /// The sum of the first k links of the chain last filled in.
     pub fn forward(&self, k: usize) -> i64
         requires within { k < length self.now.forward }
@@ -135,8 +186,12 @@ impl Sums {
         ensures exit_y { result.exit_y.now ≡ self.now.rows.exit_y }
         ensures turned { result.turned.now ≡ self.now.rows.turned }
         ensures gaps { result.gaps.now ≡ self.now.rows.gaps }
+        ensures middle_x { result.middle_x.now ≡ self.now.rows.middle_x }
+        ensures middle_y { result.middle_y.now ≡ self.now.rows.middle_y }
+        ensures slack { result.slack.now ≡ self.now.rows.slack }
     {
         let links = self.links;
+        let blocks = (links + BLOCK - 2) / BLOCK;
         Rows {
             entry_x: &self.entry_x[..links],
             entry_y: &self.entry_y[..links],
@@ -144,6 +199,9 @@ impl Sums {
             exit_y: &self.exit_y[..links],
             turned: &self.turned[..links.saturating_sub(1)],
             gaps: &self.gaps[..links],
+            middle_x: &self.middle_x[..blocks],
+            middle_y: &self.middle_y[..blocks],
+            slack: &self.slack[..blocks],
         }
     }
 }

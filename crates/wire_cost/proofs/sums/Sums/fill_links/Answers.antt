@@ -1,11 +1,11 @@
 use Rattle.std.proofs.Common.{rules, None, ◌≡◌, ℕ, ℤ, pos, ◌+◌, ◌-◌, ◌<◌, ◌≤◌, List, length, get_or, refl, ap, ◌∙◌, arith, subst}
-use Rattle.std.specs.Prelude.{◌-ℤ◌}
+use Rattle.std.specs.Prelude.{◌-ℤ◌, unsigned_abs}
 use Rattle.std.specs.List.{slice_get}
 use Rattle.base_types.specs.declared.span.Point.{Point}
 use Rattle.wire_cost.specs.Lengths.{ChainEnds, chain_ends, forward_sum, backward_sum}
 use Rattle.wire_cost.specs.Rows.{x_of, y_of, next_at, before_at}
 use Rattle.wire_cost.proofs.Places.{kept_at, row_is, next_x, next_y, before_x, before_y}
-use Rattle.wire_cost.proofs.sums.Sums.fill.Goals as goal
+use Rattle.wire_cost.proofs.sums.Sums.fill_links.Goals as goal
 
 pub returns-clause-rows : goal.returns-clause-rows
 returns-clause-rows c =
@@ -51,3 +51,13 @@ returns-clause-rows c =
       gaps = row_is (length us + 1) (length us + 1) c.self.inside.gaps.len (λ (k : ℕ). pos (forward_sum w us k) -ℤ pos (forward_sum w us (k + 1))) c.fill_gaps.new.gaps c.self.inside.gaps.items refl (search rules) (search rules)
           (λ k l. c.fill_gaps.ensures.each k (omega arith) ∙ (λ t. forward k (omega arith) t -ℤ forward (k + 1) (omega arith) t));
     }
+
+pub fill_turned-requires-clause-small : goal.fill_turned-requires-clause-small
+fill_turned-requires-clause-small c = λ k l.
+    let e = ap (λ (xs : List ℤ). get_or xs k (pos 0)) c.as_slice-forward.ensures.value ∙ kept_at c.self.inside.forward.len c.fill_row.new.row c.self.inside.forward.items k (search rules) (search rules) ∙ c.fill_row.ensures.sums k l in
+    omega (arith, ap unsigned_abs e, c.fill_row.ensures.small k l, c.requires.chain.few)
+
+pub fill_turned-requires-clause-small_back : goal.fill_turned-requires-clause-small_back
+fill_turned-requires-clause-small_back c = λ k l.
+    let e = ap (λ (xs : List ℤ). get_or xs k (pos 0)) c.as_slice-backward.ensures.value ∙ kept_at c.self.inside.backward.len c.fill_row-2.new.row c.self.inside.backward.items k (search rules) (search rules) ∙ c.fill_row-2.ensures.sums k l in
+    omega (arith, ap unsigned_abs e, c.fill_row-2.ensures.small k l, c.requires.chain.few)
