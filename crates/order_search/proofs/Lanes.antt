@@ -1,5 +1,5 @@
 -- What the sums of a chain's links say of its reversed runs, and the rows of four places at a time.
-use Rattle.std.proofs.Common.{◌≡◌, ◌≢◌, ℕ, zero, suc, ℤ, pos, ◌+◌, ◌-◌, ◌<◌, ◌≤◌, ◌^◌, List, [], ◌∷◌, length, take, drop, get_or, Option, Some, None, slice_get, refl, sym, ap, ◌∙◌, arith, subst, inl, inr, to_z, of_z, w64}
+use Rattle.std.proofs.Common.{◌≡◌, ◌≢◌, ℕ, zero, suc, ℤ, pos, ◌+◌, ◌-◌, ◌<◌, ◌≤◌, ◌^◌, List, [], ◌∷◌, length, take, drop, get_or, Option, Some, None, IfNone, slice_get, refl, sym, ap, ◌∙◌, arith, subst, inl, inr, to_z, of_z, w64}
 use Rattle.std.specs.Prelude.{◌+ℤ◌, ◌-ℤ◌, ◌<ℤ◌, ◌≤ℤ◌, unsigned_abs}
 use Rattle.std.proofs.lemmas.Bool.{cases_lt}
 use Rattle.std.proofs.lemmas.Int.{ints}
@@ -206,6 +206,11 @@ at_unit (p ∷ ps) (suc u) l = at_unit ps u (omega arith)
 
 pub next_is_somewhere : (w : ChainEnds) (us : List ℕ) (j : ℕ) → AreWithin us (length w.entry) → j < length us → next_at w us j ≢ None
 next_is_somewhere w us j g l = λ e. at_unit w.entry (get_or us j 0) (g j l) (sym (ap (first_of w.entry w.stop) (drop_more us j 0 l)) ∙ e)
+
+-- what holds in any case
+pub in_any_case : (o : Option ℕ) (P : Type 0) → P → IfNone o P
+in_any_case None P h = h
+in_any_case (Some m) P h = tt
 
 -- a signed number as the code hands it over
 abbrev pub over : ℤ → ℤ

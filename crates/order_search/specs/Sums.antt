@@ -11,4 +11,4 @@ pub record IsFilledWith (w : ChainEnds) (us : List ℕ) (f : Filled) : Type 0 wh
   pub backward_count : length f.backward ≡ length us + 2
   pub backward : (k : ℕ) → k ≤ length us + 1 → slice_index_or f.backward k (pos 0) ≡ pos (backward_sum w us k)
   pub rows : AreRowsOf w us f.rows
-  pub blocks : AreBlocksOf w us f.rows
+  pub block_rows : AreBlocksOf w us f.rows

@@ -118,7 +118,7 @@ pub(crate) fn first_place(
 {
     let last = (until + BLOCK - 1) / BLOCK;
     let mut at = from / BLOCK;
-    'blocks: while let Some(block) = first_block(ends, chain, units, sums, aim, at, last) {
+    'tries: while let Some(block) = first_block(ends, chain, units, sums, aim, at, last) {
         let low = (BLOCK * block).max(from);
         let high = (BLOCK * block + BLOCK).min(until);
         if let Some(place) = first_among(ends, chain, units, sums, aim, low, high) {

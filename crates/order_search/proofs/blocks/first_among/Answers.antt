@@ -1,16 +1,11 @@
-use Rattle.std.proofs.Common.{◌≡◌, ℕ, ℤ, ◌+◌, ◌-◌, ◌<◌, ◌≤◌, List, length, Option, Some, None, IfNone, refl, subst, arith}
+use Rattle.std.proofs.Common.{◌≡◌, ℕ, ℤ, ◌+◌, ◌-◌, ◌<◌, ◌≤◌, List, length, IfNone, refl, subst, arith}
 use Rattle.std.specs.Prelude.{◌<ℤ◌, ◌≤ℤ◌}
 use Rattle.wire_cost.specs.Lengths.{ChainEnds, chain_ends}
 use Rattle.wire_cost.specs.Rows.{x_of, next_at}
 use Rattle.order_search.specs.Aims.{IsNoGainTo, turned_sum}
-use Rattle.order_search.proofs.Lanes.{AreLent, lane_sum, least_over, lent, less_over, next_is_somewhere, part, part_long, ready}
+use Rattle.order_search.proofs.Lanes.{AreLent, in_any_case, lane_sum, least_over, lent, less_over, next_is_somewhere, part, part_long, ready}
 use Rattle.order_search.proofs.Small.{near_ends}
 use Rattle.order_search.proofs.blocks.first_among.Goals as goal
-
--- what holds in any case
-in_any_case : (o : Option ℕ) (P : Type 0) → P → IfNone o P
-in_any_case None P h = h
-in_any_case (Some m) P h = tt
 
 pub first_gain-requires-clause-rows : goal.first_gain-requires-clause-rows
 first_gain-requires-clause-rows c =
