@@ -89,6 +89,9 @@ fn rows(rt: HostRuntime) -> Result<(), NoMemory> {
     assert_eq!(rt; rows.exit_x, [0, 22000, 62000, 42000].as_slice());
     assert_eq!(rt; rows.turned, [-40000, -20000, -38000].as_slice());
     assert_eq!(rt; rows.gaps, [-22000, -40000, -20000, -38000].as_slice());
+    assert_eq!(rt; rows.middle_x, [80000].as_slice());
+    assert_eq!(rt; rows.middle_y, [2000].as_slice());
+    assert_eq!(rt; rows.slack, [-116000].as_slice());
     let open = on_line(rt.alloc(), &[10, 50], &[30, 40], None, None)?;
     assert!(rt; are_placed(&open) && is_chain_at(&open, 0, &[1, 0]));
     sums.fill(&open, 0, &[1, 0]);
@@ -97,5 +100,7 @@ fn rows(rt: HostRuntime) -> Result<(), NoMemory> {
     assert_eq!(rt; rows.exit_x, [0, 40, 30].as_slice());
     assert_eq!(rt; rows.turned, [-30, -10].as_slice());
     assert_eq!(rt; rows.gaps, [0, -30, 0].as_slice());
+    assert_eq!(rt; rows.middle_x, [0].as_slice());
+    assert_eq!(rt; rows.slack, [-4090].as_slice());
     Ok(())
 }

@@ -132,7 +132,7 @@ impl Sums {
         ensures forward { self.new.forward ≡ self.old.forward }
         ensures backward { self.new.backward ≡ self.old.backward }
         ensures rows { AreRowsOf (chain_ends ends.now chain) units.now self.new.rows }
-        ensures blocks { AreBlocksOf (chain_ends ends.now chain) units.now self.new.rows }
+        ensures block_rows { AreBlocksOf (chain_ends ends.now chain) units.now self.new.rows }
         ensures room { self.new.room ≡ self.old.room }
     {
         let n = units.len();
@@ -155,7 +155,7 @@ impl Sums {
         ensures backward_count { length self.new.backward ≡ length units.now + 2 }
         ensures backward { (k : ℕ) → k ≤ length units.now + 1 → slice_index_or self.new.backward k (pos 0) ≡ pos (backward_sum (chain_ends ends.now chain) units.now k) }
         ensures rows { AreRowsOf (chain_ends ends.now chain) units.now self.new.rows }
-        ensures blocks { AreBlocksOf (chain_ends ends.now chain) units.now self.new.rows }
+        ensures block_rows { AreBlocksOf (chain_ends ends.now chain) units.now self.new.rows }
         ensures room { self.new.room ≡ self.old.room }
     {
         self.fill_links(ends, chain, units);

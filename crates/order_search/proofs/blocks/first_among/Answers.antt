@@ -1,8 +1,8 @@
-use Rattle.std.proofs.Common.{◌≡◌, ℕ, ℤ, ◌+◌, ◌-◌, ◌<◌, ◌≤◌, List, length, IfNone, refl, subst, arith}
+use Rattle.std.proofs.Common.{◌≡◌, ℕ, ℤ, ◌+◌, ◌-◌, ◌<◌, ◌≤◌, List, length, refl, subst, arith}
 use Rattle.std.specs.Prelude.{◌<ℤ◌, ◌≤ℤ◌}
 use Rattle.wire_cost.specs.Lengths.{ChainEnds, chain_ends}
 use Rattle.wire_cost.specs.Rows.{x_of, next_at}
-use Rattle.order_search.specs.Aims.{IsNoGainTo, turned_sum}
+use Rattle.order_search.specs.Aims.{IsNoGainTo}
 use Rattle.order_search.proofs.Lanes.{AreLent, in_any_case, lane_sum, least_over, lent, less_over, next_is_somewhere, part, part_long, ready}
 use Rattle.order_search.proofs.Small.{near_ends}
 use Rattle.order_search.proofs.blocks.first_among.Goals as goal

@@ -1,4 +1,4 @@
-use Rattle.std.proofs.Common.{◌≡◌, ℕ, ℤ, ◌+◌, ◌-◌, ◌<◌, ◌≤◌, List, length, IfNone, subst, arith}
+use Rattle.std.proofs.Common.{◌≡◌, ℕ, ℤ, ◌+◌, ◌-◌, ◌<◌, ◌≤◌, List, length, subst, arith}
 use Rattle.wire_cost.specs.Lengths.{ChainEnds, chain_ends}
 use Rattle.wire_cost.specs.Rows.{block_count, middle_of, next_at, x_of}
 use Rattle.order_search.specs.Aims.{IsPassed}

@@ -1,4 +1,4 @@
-use Rattle.std.proofs.Common.{ℕ, ◌+◌, ◌-◌, ◌*◌, ◌/◌, ◌<◌, ◌≤◌}
+use Rattle.std.proofs.Common.{ℕ, ◌-◌, ◌*◌, ◌/◌, ◌<◌, ◌≤◌}
 use Rattle.wire_cost.specs.Lengths.{chain_ends}
 use Rattle.order_search.specs.Aims.{IsNoGainTo}
 use Rattle.order_search.proofs.blocks.first_place.Given as goal

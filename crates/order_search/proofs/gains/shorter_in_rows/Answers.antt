@@ -1,10 +1,8 @@
-use Rattle.std.proofs.Common.{◌≡◌, ℕ, ℤ, ◌+◌, ◌-◌, ◌<◌, ◌≤◌, List, refl, ◌∙◌, arith}
-use Rattle.std.specs.Prelude.{◌<ℤ◌, ◌≤ℤ◌}
-use Rattle.wire_cost.specs.Lengths.{ChainEnds, chain_ends, length_of}
+use Rattle.std.proofs.Common.{◌≡◌, ℕ, ℤ, ◌+◌, List, refl, ◌∙◌, arith}
+use Rattle.wire_cost.specs.Lengths.{ChainEnds, chain_ends}
 use Rattle.wire_cost.proofs.Places.{kept}
 use Rattle.order_search.specs.Aims.{turned_sum}
 use Rattle.order_search.specs.Runs.{IsSettledBetween}
-use Rattle.order_search.specs.Steps.{reversed_run}
 use Rattle.order_search.specs.declared.blocks.Aim.{Aim}
 use Rattle.order_search.proofs.Lanes.{IsAim, in_any_case, lane_gain, lane_least, over}
 use Rattle.order_search.proofs.gains.shorter_in_rows.Goals as goal

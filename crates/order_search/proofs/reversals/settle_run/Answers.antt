@@ -20,6 +20,7 @@ gains-preserved c =
         backward_count = c.fill-in-Some.ensures.backward_count;
         backward = c.fill-in-Some.ensures.backward;
         rows = c.fill-in-Some.ensures.rows;
+        block_rows = c.fill-in-Some.ensures.block_rows;
       };
       room = c.fill-in-Some.ensures.room ∙ c.gains.invariant.room;
       permutation = IsPermutation-trans c.args.units.now us vs c.gains.invariant.permutation c.reverse_run.ensures.permutation;

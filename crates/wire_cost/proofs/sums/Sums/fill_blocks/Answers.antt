@@ -37,8 +37,8 @@ fill_least-requires-clause-turned c =
     subst (AreSmall (2 ^ 61)) (sym ts) (row_small (length us) (2 ^ 61) (λ (k : ℕ). pos (backward_sum w us (k + 1)) -ℤ pos (forward_sum w us (k + 2))) c.args.self.now.rows.turned c.requires.rows.turned
     (λ k l. (let small = difference_small (backward_sum w us (k + 1)) (forward_sum w us (k + 2)) (sum_small (exchanged w) us (k + 1) (near_exchanged w near) c.requires.chain.few (omega arith)) (sum_small w us (k + 2) near c.requires.chain.few (omega arith)) in omega (arith, small))))
 
-pub returns-clause-blocks : goal.returns-clause-blocks
-returns-clause-blocks c =
+pub returns-clause-block_rows : goal.returns-clause-block_rows
+returns-clause-block_rows c =
     let w : ChainEnds = chain_ends c.args.ends.now c.args.chain in
     let us : List ℕ = c.args.units.now in
     let n : ℕ = length us in
