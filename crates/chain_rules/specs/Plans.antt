@@ -8,3 +8,7 @@ pub record PlanLists : Type 0 where
 -- the elements of each of some vectors
 abbrev pub lists_of : {A : Type 0} → List (Vec ℕ A) → List (List ℕ)
 lists_of vs = map (λ v. v.items) vs
+
+-- the plan of the elements of some vectors
+abbrev pub plan_of : {A : Type 0} → List (Vec ℕ A) → PlanLists
+plan_of vs = record { chains = lists_of vs }

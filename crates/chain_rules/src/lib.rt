@@ -28,7 +28,7 @@ mod unit;
 mod units;
 
 pub use belong::are_chains;
-pub use moves::{can_move, can_swap};
+pub use moves::{can_move, can_move_in, can_swap, can_swap_in};
 pub use plain::is_legal;
 pub use plan::Plan;
 pub use spec::{ChainSpec, ElementSpec, EndSpec, ListSpec, PathSpec, StepSpec};

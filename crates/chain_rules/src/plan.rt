@@ -1,5 +1,5 @@
 ghost use Rattle.std.specs.Prelude.{◌≡◌, ◌<◌, ◌≤◌, length, slice_set, slice_index_or, insert, remove, IfOk, OnOk, OnErr};
-ghost use Rattle.chain_rules.specs.Plans.{lists_of};
+ghost use Rattle.chain_rules.specs.Plans.{lists_of, plan_of};
 ghost use Rattle.chain_rules.specs.Legality.{chain_at, with_chain};
 
 use base_types::NoMemory;
@@ -60,6 +60,13 @@ impl Plan {
         ensures value { result.now ≡ chain_at self.now chain }
     {
         self.chains[chain].as_slice()
+    }
+
+    /// The chains; takes no memory.
+    pub fn lists(&self) -> &[Vec<u32>]
+        ensures value { plan_of result.now ≡ self.now }
+    {
+        self.chains.as_slice()
     }
 
     /// Exchanges the units of a chain with those in `units`; takes no memory.
