@@ -1,15 +1,15 @@
 -- What the bound of a block says of its units.
-use Rattle.std.proofs.Common.{◌≡◌, ◌≢◌, ℕ, ℤ, pos, ◌+◌, ◌-◌, ◌*◌, ◌<◌, ◌≤◌, ◌^◌, List, length, get_or, None, Some, refl, sym, ap, ◌∙◌, arith, subst}
-use Rattle.std.specs.Prelude.{◌+ℤ◌, ◌-ℤ◌, ◌<ℤ◌, ◌≤ℤ◌, unsigned_abs}
+use Rattle.std.proofs.Common.{◌≡◌, ℕ, ℤ, pos, ◌+◌, ◌-◌, ◌<◌, ◌≤◌, ◌^◌, List, length, get_or, Some, refl, sym, ap, ◌∙◌, arith, subst}
+use Rattle.std.specs.Prelude.{◌+ℤ◌, ◌-ℤ◌, ◌≤ℤ◌, unsigned_abs}
 use Rattle.std.proofs.lemmas.Int.{ints}
 use Rattle.base_types.specs.declared.span.Point.{Point}
 use Rattle.lane_kernels.specs.Kernels.{AreRows, distance, sum_at}
 use Rattle.wire_cost.specs.Filled.{RowLists}
 use Rattle.wire_cost.specs.Lengths.{AreWithin, ChainEnds, backward_sum, exchanged, forward_sum, link_of}
 use Rattle.wire_cost.specs.Rows.{AreBlocksOf, IsLeastSlack, IsRow, block_count, middle_of, next_at, slack_of, way_of, x_of, y_of}
-use Rattle.order_search.specs.Aims.{IsNoGainTo, IsPassed, turned_sum}
+use Rattle.order_search.specs.Aims.{IsPassed}
 use Rattle.order_search.specs.declared.blocks.Aim.{Aim}
-use Rattle.order_search.proofs.Lanes.{AreLent, lane_sum, link_by, next_is_somewhere, part, part_long}
+use Rattle.order_search.proofs.Lanes.{link_by, next_is_somewhere, part, part_long}
 use Rattle.order_search.proofs.Small.{HasNearEnds, forward_small, near_exchanged, next_x_small, next_y_small, part_at, part_within}
 
 -- the rows of the blocks, as they are lent

@@ -1,15 +1,11 @@
 -- Links, their sums and the rows are small.
-use Rattle.std.proofs.Common.{◌≡◌, ℕ, zero, suc, ℤ, pos, ◌+◌, ◌*◌, ◌^◌, ◌<◌, ◌≤◌, List, [], ◌∷◌, length, take, drop, get_or, Option, Some, None, slice_get, ap, ◌∙◌, arith, inl, inr, to_z, of_z, w64}
+use Rattle.std.proofs.Common.{◌≡◌, ℕ, ℤ, pos, ◌+◌, ◌^◌, ◌<◌, ◌≤◌, List, length, take, drop, get_or, ap, ◌∙◌, arith, inl, inr, to_z, of_z, w64}
 use Rattle.std.specs.Prelude.{◌-ℤ◌, unsigned_abs}
 use Rattle.std.proofs.lemmas.Bool.{cases_lt}
 use Rattle.std.proofs.lemmas.Int.{ints}
 use Rattle.std.proofs.lemmas.List.{get_or-take, get_or-drop, get_or_past, length-take, length-drop}
-use Rattle.base_types.specs.declared.span.Point.{Point}
 use Rattle.lane_kernels.specs.Kernels.{AllWithin}
-use Rattle.wire_cost.specs.declared.ends.Ends.{Ends}
-use Rattle.wire_cost.specs.Lengths.{AreNear, ArePlaced, ChainEnds, IsChainAt, IsNear, IsNearOrNowhere, chain_ends, end_of, exchanged, first_of, forward_sum, link_of}
-use Rattle.wire_cost.specs.Rows.{IsRow, x_of, y_of, next_at}
-use Rattle.wire_cost.proofs.FirstLinks.{forward_more}
+use Rattle.wire_cost.specs.Rows.{IsRow}
 pub use Rattle.wire_cost.proofs.Small.{HasNearEnds, near_ends, near_exchanged, near_end, near_first, difference_small, forward_small, sum_small, next_x_small, next_y_small}
 use mir.Val.{SFits}
 
