@@ -145,11 +145,21 @@ fn run(
     };
     let to_settled = start.elapsed(rt)?;
     let settled = length_of(&ends, &plan);
+    let start = Instant::now(rt)?;
+    let again = match settle_order_counted(rt.alloc(), &rules, &ends, &mut plan) {
+        Ok(again) => again,
+        Err(refused) => return Ok(Err(refused)),
+    };
+    let to_settled_again = start.elapsed(rt)?;
     println!(rt; "units {n} nearest {nearest} settled {settled}")?;
     println!(rt; "passes {} steps {}", taken.passes, taken.steps)?;
     if is_timed {
         println!(rt; "nearest plan {to_nearest:?}")?;
         println!(rt; "settled order {to_settled:?}")?;
+        println!(rt;
+            "settled again {to_settled_again:?} passes {} steps {}",
+            again.passes, again.steps
+        )?;
     }
     Ok(Ok(()))
 }
