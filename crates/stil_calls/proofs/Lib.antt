@@ -1,0 +1,3 @@
+mod NameTexts
+mod Reaches
+mod Stretches

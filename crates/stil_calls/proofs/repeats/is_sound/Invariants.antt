@@ -1,0 +1,14 @@
+use Rattle.std.proofs.Common.{◌≡◌, length}
+use Rattle.std.specs.List.{list_all}
+use Rattle.stil_calls.specs.declared.repeats.Escape.TheVariants.{Outside}
+use Rattle.stil_calls.specs.Repeats.{repeats_from, repeats_of, whole_from, is_character}
+use Rattle.stil_calls.proofs.repeats.is_sound.Given as goal
+
+abbrev pub invariant-loop-repeat : goal.invariant-loop-repeat
+invariant-loop-repeat l = record {
+  whole : whole_from l.repeats.escape l.repeats.bytes.now ≡ whole_from Outside l.bytes;
+  all : list_all (λ r. is_character l.side r.character) (repeats_from l.repeats.escape l.repeats.bytes.now) ≡ list_all (λ r. is_character l.side r.character) (repeats_of l.bytes);
+}
+
+abbrev pub decreases-loop-repeat : goal.decreases-loop-repeat
+decreases-loop-repeat l = length l.repeats.bytes.now

@@ -1,0 +1,57 @@
+//! What is wrong with a statement.
+ghost use Rattle.std.specs.Prelude.{◌≡◌};
+ghost use Rattle.stil_calls.specs.Faults.{kind_of};
+ghost use Rattle.stil_calls.specs.Scans.{size_kind};
+
+use crate::item::Item;
+use crate::scan::{gives_twice, has_unsound, is_foreign, is_long, is_short, is_vast, shifts_in};
+use crate::shape::Shape;
+use base_types::Kind;
+use stil_reader::{ScanChainDecl, StilHead};
+
+/// The least kind that holds of how much a scan call gives.
+fn size_kind(chains: &[ScanChainDecl], items: &[Item<'_>]) -> Option<Kind>
+    ensures value { result ≡ size_kind chains.now items.now }
+{
+    let shifts = shifts_in(chains, items);
+    if is_short(chains, items, shifts) {
+        return Some(Kind::ShortLoad);
+    }
+    if is_long(chains, items) {
+        return Some(Kind::LongCompare);
+    }
+    if is_vast(chains, items, shifts) {
+        return Some(Kind::TooManyShifts);
+    }
+    None
+}
+
+/// The least kind that holds of a scan call.
+fn scan_kind(head: &StilHead, items: &[Item<'_>]) -> Option<Kind>
+    ensures value { result ≡ kind_of head.now (Shape.Scan items.now) }
+{
+    let chains = head.chains.as_slice();
+    if gives_twice(items) {
+        return Some(Kind::PatternSyntax);
+    }
+    if has_unsound(chains, items) {
+        return Some(Kind::ScanCharacter);
+    }
+    if is_foreign(chains, items) {
+        return Some(Kind::ForeignData);
+    }
+    size_kind(chains, items)
+}
+
+/// The least kind that holds of a statement.
+pub(crate) fn kind_of(head: &StilHead, shape: &Shape<'_, '_>) -> Option<Kind>
+    ensures value { result ≡ kind_of head.now shape.now }
+{
+    match shape {
+        Shape::NoForm => Some(Kind::PatternSyntax),
+        Shape::Unsupported => Some(Kind::PatternUnsupported),
+        Shape::Other => None,
+        Shape::Scan(items) => scan_kind(head, items.as_slice()),
+        Shape::Loop(_times, _body) => None,
+    }
+}
