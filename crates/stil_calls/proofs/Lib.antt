@@ -1,3 +1,6 @@
+mod Accepted
+mod Answered
 mod NameTexts
 mod Reaches
+mod Stated
 mod Stretches

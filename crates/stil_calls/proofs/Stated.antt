@@ -1,0 +1,58 @@
+-- Each call of a statement without fault is accepted by the chains of the head.
+use Rattle.std.proofs.Common.{◌≡◌, ℕ, Bool, true, false, cond, List, [], ◌∷◌, map, All, Option, Some, None, refl, sym, ap, ◌∙◌, subst}
+use Rattle.std.proofs.lemmas.Option.{same_Some}
+use Rattle.std.proofs.lemmas.List.Elements.{All-cons, All-nil}
+use Rattle.token_forms.specs.Tokens.{Token, place_of}
+use Rattle.base_types.specs.declared.kind.Kind.{Kind}
+use Rattle.stil_parts.specs.declared.part.PartFault.{PartFault}
+use Rattle.stil_reader.specs.declared.head.StilHead.{StilHead}
+use Rattle.stil_calls.specs.declared.item.Item.{Item}
+use Rattle.stil_calls.specs.declared.shape.Shape.{Shape}
+use Rattle.stil_calls.specs.declared.shape.Shape.TheVariants.{NoForm, Unsupported, Other, Scan, Loop}
+use Rattle.stil_calls.specs.declared.statement.ReadStatement.{ReadStatement}
+use Rattle.stil_calls.specs.Shapes.{shape_of, body_statements}
+use Rattle.stil_calls.specs.Scans.{gives_twice, has_unsound, is_foreign, is_short, is_long, is_vast, call_of}
+use Rattle.stil_calls.specs.Faults.{kind_of, line_in, fault_or, body_fault, shape_fault}
+use Rattle.stil_calls.specs.Statements.{call_in, body_of, statement_of, IsAcceptedBy, IsAcceptedIn, AreAccepted}
+use Rattle.stil_calls.proofs.Accepted.{is_call, is_accepted}
+
+-- a test that would give a kind doesn't hold
+passed : (b : Bool) (k : Kind) (more : Option Kind) → cond b (Some k) more ≡ None → (b ≡ false) × (more ≡ None)
+passed true k more e = absurd cc
+passed false k more e = (refl, e)
+
+scan_accepted : (head : StilHead) (items : List Item) → kind_of head (Scan items) ≡ None → IsAcceptedBy head (call_of head.chains items)
+scan_accepted head items e =
+    let a = passed (gives_twice items) _ _ e in
+    let b = passed (has_unsound head.chains items) _ _ (a.1) in
+    let c = passed (is_foreign head.chains items) _ _ (b.1) in
+    let d = passed (is_short head.chains items) _ _ (c.1) in
+    let f = passed (is_long head.chains items) _ _ (d.1) in
+    (is_call head.chains items (b.0), is_accepted head.chains items (d.0) (f.0))
+
+-- no fault, and none behind
+clean : (k : Option Kind) (line : ℕ) (more : Option PartFault) → fault_or k line more ≡ None → (k ≡ None) × (more ≡ None)
+clean None line more e = (refl, e)
+clean (Some k) line more e = absurd cc
+
+call_accepted : (head : StilHead) (shape : Shape) → kind_of head shape ≡ None → IsAcceptedIn head (call_in head shape)
+call_accepted head NoForm e = tt
+call_accepted head Unsupported e = tt
+call_accepted head Other e = tt
+call_accepted head (Scan items) e = scan_accepted head items e
+call_accepted head (Loop times body) e = tt
+
+body_accepted : (head : StilHead) (line : ℕ) (text : List ℕ) (ss : List (List Token)) → body_fault head line text ss ≡ None → All (λ s. IsAcceptedIn head s.call) (map (body_of head line text) ss)
+body_accepted head line text [] e = All-nil (λ s. IsAcceptedIn head s.call)
+body_accepted head line text (s ∷ ss) e =
+    let p = clean (kind_of head (shape_of head true s)) (line_in line text (place_of s).start) (body_fault head line text ss) e in
+    All-cons (λ s. IsAcceptedIn head s.call) (body_of head line text s) (map (body_of head line text) ss) (call_accepted head (shape_of head true s) (p.0)) (body_accepted head line text ss (p.1))
+
+pub are_accepted : (head : StilHead) (pattern line : ℕ) (text : List ℕ) (shape : Shape) (s : ReadStatement) → shape_fault head line text shape ≡ None → statement_of head pattern line text shape ≡ Some s → AreAccepted head s
+are_accepted head pattern line text NoForm s sound e = absurd cc
+are_accepted head pattern line text Unsupported s sound e = absurd cc
+are_accepted head pattern line text Other s sound e = subst (AreAccepted head) (same_Some _ _ e) tt
+are_accepted head pattern line text (Scan items) s sound e =
+    subst (AreAccepted head) (same_Some _ _ e) (scan_accepted head items ((clean (kind_of head (Scan items)) line None sound).0))
+are_accepted head pattern line text (Loop times body) s sound e =
+    subst (AreAccepted head) (same_Some _ _ e) (body_accepted head line text (body_statements body) sound)

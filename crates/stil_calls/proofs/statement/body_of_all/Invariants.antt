@@ -1,0 +1,13 @@
+use Rattle.std.proofs.Common.{◌≡◌, ◌++◌, map, length}
+use Rattle.stil_calls.specs.Statements.{body_of}
+use Rattle.stil_calls.specs.Shapes.{body_statements}
+use Rattle.stil_calls.proofs.statement.body_of_all.Given as goal
+
+abbrev pub invariant-loop-statement : goal.invariant-loop-statement
+invariant-loop-statement l = record {
+  same : l.rows.items ++ map (body_of l.head l.line l.text) (body_statements l.rest) ≡ map (body_of l.head l.line l.text) (body_statements l.body);
+  lines : l.lines ≡ l.text;
+}
+
+abbrev pub decreases-loop-statement : goal.decreases-loop-statement
+decreases-loop-statement l = length l.rest
