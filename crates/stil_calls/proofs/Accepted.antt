@@ -7,7 +7,7 @@ use Rattle.std.proofs.lemmas.List.{length-replicate, get_or-replicate, get_or_ap
 use Rattle.std.proofs.lemmas.List.Elements.{All-append, All-map, All-replicate, All-cons, All-nil}
 use Rattle.stil_reader.specs.declared.head.ScanChainDecl.{ScanChainDecl}
 use Rattle.stil_reader.specs.Calls.{string_length, longest_string, IsStringOf, IsCallOn, most_bits, compare_character, compare_at, is_expectation, IsShortLoadOn, IsLongCompareOn, IsAcceptedOn}
-use Rattle.stil_calls.specs.declared.item.Item.{Item}
+use Rattle.stil_syntax.specs.declared.item.Item.{Item}
 use Rattle.stil_calls.specs.declared.repeats.Repeat.{Repeat}
 use Rattle.stil_calls.specs.declared.repeats.Side.{Side}
 use Rattle.stil_calls.specs.declared.repeats.Side.TheVariants.{Load, Compare}

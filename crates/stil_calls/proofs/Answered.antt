@@ -11,9 +11,9 @@ use Rattle.token_forms.specs.Tokens.{Token, tokens_of}
 use Rattle.stil_tokens.specs.StilTokens.{stil_tokens, tokens_in}
 use Rattle.stil_parts.specs.declared.part.PartFault.{PartFault}
 use Rattle.stil_reader.specs.declared.head.StilHead.{StilHead}
-use Rattle.stil_calls.specs.declared.shape.Shape.{Shape}
+use Rattle.stil_syntax.specs.declared.shape.Shape.{Shape}
 use Rattle.stil_calls.specs.declared.statement.ReadStatement.{ReadStatement}
-use Rattle.stil_calls.specs.Shapes.{shape_of}
+use Rattle.stil_syntax.specs.Shapes.{shape_of}
 use Rattle.stil_calls.specs.Faults.{shape_fault, fault_in}
 use Rattle.stil_calls.specs.Statements.{statement_of, DenotesStatement, HoldsInStatement}
 

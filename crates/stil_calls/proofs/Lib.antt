@@ -1,6 +1,5 @@
 mod Accepted
 mod Answered
-mod NameTexts
+mod Examples
 mod Reaches
 mod Stated
-mod Stretches

@@ -6,11 +6,11 @@ use Rattle.token_forms.specs.Tokens.{Token, place_of}
 use Rattle.base_types.specs.declared.kind.Kind.{Kind}
 use Rattle.stil_parts.specs.declared.part.PartFault.{PartFault}
 use Rattle.stil_reader.specs.declared.head.StilHead.{StilHead}
-use Rattle.stil_calls.specs.declared.item.Item.{Item}
-use Rattle.stil_calls.specs.declared.shape.Shape.{Shape}
-use Rattle.stil_calls.specs.declared.shape.Shape.TheVariants.{NoForm, Unsupported, Other, Scan, Loop}
+use Rattle.stil_syntax.specs.declared.item.Item.{Item}
+use Rattle.stil_syntax.specs.declared.shape.Shape.{Shape}
+use Rattle.stil_syntax.specs.declared.shape.Shape.TheVariants.{NoForm, Unsupported, Other, Scan, Loop}
 use Rattle.stil_calls.specs.declared.statement.ReadStatement.{ReadStatement}
-use Rattle.stil_calls.specs.Shapes.{shape_of, body_statements}
+use Rattle.stil_syntax.specs.Shapes.{shape_of, body_statements}
 use Rattle.stil_calls.specs.Scans.{gives_twice, has_unsound, is_foreign, is_short, is_long, is_vast, call_of}
 use Rattle.stil_calls.specs.Faults.{kind_of, line_in, fault_or, body_fault, shape_fault}
 use Rattle.stil_calls.specs.Statements.{call_in, body_of, statement_of, IsAcceptedBy, IsAcceptedIn, AreAccepted}

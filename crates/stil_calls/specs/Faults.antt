@@ -7,9 +7,9 @@ use Rattle.stil_tokens.specs.StilTokens.{tokens_in}
 use Rattle.stil_parts.specs.declared.part.PartFault.{PartFault}
 use Rattle.stil_parts.specs.Coming.{fault_at}
 use Rattle.stil_reader.specs.declared.head.StilHead.{StilHead}
-use Rattle.stil_calls.specs.declared.shape.Shape.{Shape}
-use Rattle.stil_calls.specs.declared.shape.Shape.TheVariants.{NoForm, Unsupported, Other, Scan, Loop}
-use Rattle.stil_calls.specs.Shapes.{shape_of, body_statements}
+use Rattle.stil_syntax.specs.declared.shape.Shape.{Shape}
+use Rattle.stil_syntax.specs.declared.shape.Shape.TheVariants.{NoForm, Unsupported, Other, Scan, Loop}
+use Rattle.stil_syntax.specs.Shapes.{shape_of, body_statements}
 use Rattle.stil_calls.specs.Scans.{gives_twice, has_unsound, is_foreign, is_short, is_long, is_vast}
 
 -- the statement matches no form, or a scan call gives one name twice

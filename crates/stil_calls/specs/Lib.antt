@@ -1,9 +1,5 @@
-pub mod Digits
 pub mod Faults
-pub mod Grammar
-pub mod Names
 pub mod Parts
 pub mod Repeats
 pub mod Scans
-pub mod Shapes
 pub mod Statements

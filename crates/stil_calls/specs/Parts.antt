@@ -12,8 +12,8 @@ use Rattle.stil_parts.specs.declared.part.Part.TheVariants.{Passes, Opens, Whole
 use Rattle.stil_parts.specs.declared.part.PartFault.{PartFault}
 use Rattle.stil_parts.specs.Coming.{Judge, fault_at}
 use Rattle.stil_reader.specs.declared.head.StilHead.{StilHead}
-use Rattle.stil_calls.specs.Names.{is_word, name_at}
-use Rattle.stil_calls.specs.Shapes.{behind_labels, closes_nothing}
+use Rattle.stil_syntax.specs.Names.{is_word, name_at}
+use Rattle.stil_syntax.specs.Shapes.{behind_labels, closes_nothing}
 use Rattle.stil_calls.specs.Faults.{fault_in, fault_or}
 
 -- the name of a Pattern, where only { stands behind it

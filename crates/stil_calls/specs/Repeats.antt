@@ -9,7 +9,7 @@ use Rattle.stil_calls.specs.declared.repeats.Escape.{Escape}
 use Rattle.stil_calls.specs.declared.repeats.Escape.TheVariants.{Outside, Slash, Count, Waits, Broken}
 use Rattle.stil_calls.specs.declared.repeats.Side.{Side}
 use Rattle.stil_calls.specs.declared.repeats.Side.TheVariants.{Load, Compare}
-use Rattle.stil_calls.specs.Digits.{is_digit, counted}
+use Rattle.stil_syntax.specs.Digits.{is_digit, counted}
 
 -- a character so many times
 abbrev pub repeat : ℕ → ℕ → Repeat

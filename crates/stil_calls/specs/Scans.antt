@@ -7,7 +7,7 @@ use Rattle.base_types.specs.declared.kind.Kind.TheVariants.{ShortLoad, LongCompa
 use Rattle.stil_reader.specs.declared.head.ScanChainDecl.{ScanChainDecl}
 use Rattle.stil_reader.specs.declared.statement.ScanCall.{ScanCall}
 use Rattle.stil_reader.specs.Calls.{most_bits, longest_string}
-use Rattle.stil_calls.specs.declared.item.Item.{Item}
+use Rattle.stil_syntax.specs.declared.item.Item.{Item}
 use Rattle.stil_calls.specs.declared.repeats.Side.{Side}
 use Rattle.stil_calls.specs.declared.repeats.Side.TheVariants.{Load, Compare}
 use Rattle.stil_calls.specs.Repeats.{repeats_of, is_sound, count_of, reach_from, written}

@@ -8,12 +8,12 @@ use Rattle.stil_tokens.specs.StilTokens.{tokens_in}
 use Rattle.stil_parts.specs.declared.part.PartFault.{PartFault}
 use Rattle.stil_reader.specs.declared.head.StilHead.{StilHead}
 use Rattle.stil_reader.specs.declared.statement.ScanCall.{ScanCall}
-use Rattle.stil_calls.specs.declared.shape.Shape.{Shape}
-use Rattle.stil_calls.specs.declared.shape.Shape.TheVariants.{NoForm, Unsupported, Other, Scan, Loop}
+use Rattle.stil_syntax.specs.declared.shape.Shape.{Shape}
+use Rattle.stil_syntax.specs.declared.shape.Shape.TheVariants.{NoForm, Unsupported, Other, Scan, Loop}
 use Rattle.stil_calls.specs.declared.statement.ReadStatement.{ReadStatement}
 use Rattle.stil_calls.specs.declared.statement.ReadStatement.TheVariants as statements
 use Rattle.stil_calls.specs.declared.statement.BodyStatement.{BodyStatement}
-use Rattle.stil_calls.specs.Shapes.{shape_of, body_statements}
+use Rattle.stil_syntax.specs.Shapes.{shape_of, body_statements}
 use Rattle.stil_calls.specs.Scans.{call_of, bits_of}
 use Rattle.stil_reader.specs.Calls.{IsCallOn, IsAcceptedOn}
 use Rattle.stil_calls.specs.Faults.{line_in, fault_in}

@@ -2,8 +2,8 @@
 ghost use Rattle.std.specs.Prelude.{◌≡◌};
 ghost use Rattle.stil_calls.specs.Repeats.{behind, completed, is_outside, is_character};
 
-use crate::digits::{counted, is_digit};
 use crate::repeats::{Escape, Repeat, Side};
+use stil_syntax::{counted, is_digit};
 
 fn repeat(times: u64, character: u8) -> Option<Repeat>
     ensures { result ≡ Some (record { times = times; character = character }) }

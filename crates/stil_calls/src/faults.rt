@@ -1,16 +1,14 @@
 //! The first fault of a statement.
 ghost use Rattle.std.specs.Prelude.{◌≡◌, ◌<◌, ◌+◌, ◌^◌, length, IfOk};
 ghost use Rattle.stil_calls.specs.Faults.{line_in, fault_or, body_fault, inner_fault, shape_fault, fault_in};
-ghost use Rattle.stil_calls.specs.Shapes.{body_statements};
+ghost use Rattle.stil_syntax.specs.Shapes.{body_statements};
 
 use crate::kinds::kind_of;
-use crate::loops::body_statement;
-use crate::shape::{Shape, shape_of};
-use crate::stretch::Stretch;
 use base_types::{Kind, Lines, NoMemory};
 use std::alloc::Global;
 use stil_parts::PartFault;
 use stil_reader::StilHead;
+use stil_syntax::{Shape, Stretch, body_statement, shape_of};
 use stil_tokens::stil_tokens;
 
 /// The line of a place of a text whose first line is this one.

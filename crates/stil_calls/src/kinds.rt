@@ -3,11 +3,10 @@ ghost use Rattle.std.specs.Prelude.{◌≡◌};
 ghost use Rattle.stil_calls.specs.Faults.{kind_of};
 ghost use Rattle.stil_calls.specs.Scans.{size_kind};
 
-use crate::item::Item;
 use crate::scan::{gives_twice, has_unsound, is_foreign, is_long, is_short, is_vast, shifts_in};
-use crate::shape::Shape;
 use base_types::Kind;
 use stil_reader::{ScanChainDecl, StilHead};
+use stil_syntax::{Item, Shape};
 
 /// The least kind that holds of how much a scan call gives.
 fn size_kind(chains: &[ScanChainDecl], items: &[Item<'_>]) -> Option<Kind>

@@ -1,17 +1,14 @@
 //! The judge of the parts of a STIL text.
 ghost use Rattle.std.specs.Prelude.{◌≡◌, ◌<◌, ◌+◌, ◌^◌, length, IfOk};
-ghost use Rattle.stil_calls.specs.Names.{name_at};
+ghost use Rattle.stil_syntax.specs.Names.{name_at};
 ghost use Rattle.stil_calls.specs.Parts.{opened_name, opens_by, opening_kind, opened_in, passing_kind, top_kind, passing_in, judge_of};
 
 use crate::faults::{fault_in, fault_or};
-use crate::labels::{behind_labels, closes_nothing};
-use crate::name::NameText;
-use crate::stretch::Stretch;
-use crate::words::is_word;
 use base_types::{Kind, Name, NoMemory};
 use std::alloc::Global;
 use stil_parts::{Part, PartFault, Point};
 use stil_reader::StilHead;
+use stil_syntax::{NameText, Stretch, behind_labels, closes_nothing, is_word};
 use stil_tokens::stil_tokens;
 
 /// The name of a Pattern by what stands behind its word.

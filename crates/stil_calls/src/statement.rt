@@ -4,16 +4,14 @@ ghost use Rattle.base_types.specs.FirstFault.{IfFault, IsFirstFault};
 ghost use Rattle.token_forms.specs.Tokens.{place_of};
 ghost use Rattle.stil_calls.specs.Statements.{call_in, body_of, statement_of, DenotesStatement, HoldsInStatement, AreAccepted};
 ghost use Rattle.stil_calls.specs.Faults.{shape_fault};
-ghost use Rattle.stil_calls.specs.Shapes.{shape_of, body_statements};
+ghost use Rattle.stil_syntax.specs.Shapes.{shape_of, body_statements};
 
 use crate::faults::{line_in, shape_fault};
-use crate::loops::body_statement;
-use crate::shape::{Shape, shape_of};
-use crate::stretch::Stretch;
 use crate::strings::call_of;
 use base_types::{Fault, FileKind, Lines, NoMemory, ReadFault, Rows, Text};
 use std::alloc::Global;
 use stil_reader::{ScanCall, StilHead};
+use stil_syntax::{Shape, Stretch, body_statement, shape_of};
 use stil_tokens::stil_tokens;
 
 /// A statement in the block of a Loop. The places are byte places in the Loop's text.

@@ -1,6 +1,6 @@
 use Rattle.std.proofs.Common.{◌≡◌, length}
 use Rattle.stil_calls.specs.Faults.{body_fault}
-use Rattle.stil_calls.specs.Shapes.{body_statements}
+use Rattle.stil_syntax.specs.Shapes.{body_statements}
 use Rattle.stil_calls.proofs.faults.body_fault.Given as goal
 
 abbrev pub invariant-loop-statement : goal.invariant-loop-statement

@@ -1,6 +1,6 @@
 use Rattle.std.proofs.Common.{◌≡◌, ◌++◌, map, length}
 use Rattle.stil_calls.specs.Statements.{body_of}
-use Rattle.stil_calls.specs.Shapes.{body_statements}
+use Rattle.stil_syntax.specs.Shapes.{body_statements}
 use Rattle.stil_calls.proofs.statement.body_of_all.Given as goal
 
 abbrev pub invariant-loop-statement : goal.invariant-loop-statement

@@ -1,5 +1,0 @@
-use Rattle.stil_calls.proofs.Stretches.{take_spans}
-use Rattle.stil_calls.proofs.stretch.Stretch.front.Goals as goal
-
-pub returns : goal.returns
-returns c = record { value = rw (← c.self.view_is) (take_spans c.self.inside.text.now c.args.count c.self.inside.spans.now) }

@@ -1,0 +1,4 @@
+pub mod Digits
+pub mod Grammar
+pub mod Names
+pub mod Shapes
