@@ -87,7 +87,7 @@ is_call chains items e = record {
 less-is : (a b : ℕ) → a < b → nat_lt a b ≡ true
 less-is a b h = (Decides-ltb a b).1 h
 
-short_is : (chains : List ScanChainDecl) (items : List Item) → IsShortLoadOn (bits_of chains) (call_of chains items) → is_short chains items ≡ true
+pub short_is : (chains : List ScanChainDecl) (items : List Item) → IsShortLoadOn (bits_of chains) (call_of chains items) → is_short chains items ≡ true
 short_is chains items s =
     let same = longest-shifts chains items in
     let some : 0 < shifts_in chains items = subst (λ (n : ℕ). 0 < n) same s.shifts in
@@ -104,7 +104,7 @@ beyond_by false r before more rest i is (inl near) h behind =
     let here : i < length (replicate r.times r.character) = rw (length-replicate r.times r.character) near in
     rw (get_or_append_left (replicate r.times r.character) rest 88 i here, get_or-replicate r.times i r.character 88 near) is
 
-near_or_far : (a b : ℕ) → (a < b) ⊎ (b ≤ a)
+pub near_or_far : (a b : ℕ) → (a < b) ⊎ (b ≤ a)
 near_or_far a b = by (nat_lt a b) refl
   where
     by : (t : Bool) → nat_lt a b ≡ t → (a < b) ⊎ (b ≤ a)
@@ -125,7 +125,7 @@ none-true : (b : Bool) → b ≡ false → IsTrue b → ⊥
 none-true b e t = absurd (false≢true (sym e ∙ t))
 
 -- where no chain's reach is beyond its bits, no expectation is
-long_none : (chains : List ScanChainDecl) (items : List Item) → is_long chains items ≡ false → (k i : ℕ) → k < length (bits_of chains) → get_or (bits_of chains) k 0 ≤ i
+pub long_none : (chains : List ScanChainDecl) (items : List Item) → is_long chains items ≡ false → (k i : ℕ) → k < length (bits_of chains) → get_or (bits_of chains) k 0 ≤ i
     → IsTrue (is_expectation (compare_character (get_or (strings_of Compare chains items) k None) i)) → ⊥
 long_none [] items e k i h far stands = absurd (omega arith)
 long_none (c ∷ cs) items e zero i h far stands =

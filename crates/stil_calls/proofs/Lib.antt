@@ -2,4 +2,5 @@ mod Accepted
 mod Answered
 mod Examples
 mod Reaches
+mod Refusals
 mod Stated

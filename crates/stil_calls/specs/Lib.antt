@@ -1,4 +1,5 @@
 pub mod Faults
+pub mod Laws
 pub mod Parts
 pub mod Repeats
 pub mod Scans

@@ -10,11 +10,13 @@
 mod escape;
 mod faults;
 mod kinds;
+mod laws;
 mod part;
 mod repeats;
 mod scan;
 mod statement;
 mod strings;
 
+pub use laws::size_law;
 pub use part::{judge_part, opened_name};
 pub use statement::{BodyStatement, ReadStatement, read_statement};
