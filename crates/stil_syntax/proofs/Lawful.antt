@@ -22,7 +22,7 @@ string-spelled t (u ∷ us) x rest s e =
         record { front = t ∷ u ∷ []; is = ap (λ (p : List ℕ × List Token). t ∷ u ∷ p.1) e; holds = Joined t u refl s (b.0) (eqb-true u.start t.end (b.1)) (ap (λ (p : List ℕ × List Token). p.0) e) })
     (λ j e. record { front = t ∷ []; is = ap (λ (p : List ℕ × List Token). t ∷ p.1) e; holds = Quoted t refl s (ap (λ (p : List ℕ × List Token). p.0) e) })
 
-name-spelled : (ts : List Token) (x : List ℕ) (rest : List Token) → name_at ts ≡ Some (x, rest) → Stands (IsName x) ts rest
+pub name-spelled : (ts : List Token) (x : List ℕ) (rest : List Token) → name_at ts ≡ Some (x, rest) → Stands (IsName x) ts rest
 unfolding name_at
 name-spelled [] x rest e = absurd cc
 name-spelled (t ∷ ts) x rest e =
@@ -55,7 +55,7 @@ string-alone : (t : Token) (rest : List Token) → begins (But marks ∷ []) res
 string-alone t [] e = refl
 string-alone t (u ∷ us) e = rw (no_mark u us e) refl
 
-name-read : (x : List ℕ) (front rest : List Token) → IsName x front → begins (But marks ∷ []) rest ≡ false → name_at (front ++ rest) ≡ Some (x, rest)
+pub name-read : (x : List ℕ) (front rest : List Token) → IsName x front → begins (But marks ∷ []) rest ≡ false → name_at (front ++ rest) ≡ Some (x, rest)
 unfolding name_at
 name-read x front rest (Word t is w e) far = rw (is, w) (ap (λ (n : List ℕ). Some (n, rest)) e)
 name-read x front rest (Quoted t is s e) far = rw (is, string-no_word t.text s, s, string-alone t rest far) (ap (λ (n : List ℕ). Some (n, rest)) e)
@@ -73,7 +73,7 @@ name-first x t ts (Word s is w e) = subst (λ (u : Token). is_in_any (But marks 
 name-first x t ts (Quoted s is q e) = subst (λ (u : Token). is_in_any (But marks ∷ []) u.text ≡ true) (sym (head_is t s ts [] is)) (or_false _ (string-no_mark s.text q))
 name-first x t ts (Joined s u is q w a e) = subst (λ (u : Token). is_in_any (But marks ∷ []) u.text ≡ true) (sym (head_is t s ts (u ∷ []) is)) (or_false _ (string-no_mark s.text q))
 
-name-some : (x : List ℕ) → IsName x [] → ⊥
+pub name-some : (x : List ℕ) → IsName x [] → ⊥
 name-some x (Word s is w e) = absurd cc
 name-some x (Quoted s is q e) = absurd cc
 name-some x (Joined s u is q w a e) = absurd cc

@@ -1,3 +1,4 @@
+mod Labelled
 mod Lawful
 mod NameTexts
 mod Stretches

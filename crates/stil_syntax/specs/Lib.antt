@@ -1,4 +1,5 @@
 pub mod Digits
 pub mod Grammar
+pub mod Laws
 pub mod Names
 pub mod Shapes
