@@ -56,7 +56,7 @@ behind-waiting Slash b w = either Waiting (nat_eq b 114) (Count 0) Broken tt (λ
 behind-waiting (Count n) b w =
     either Waiting (is_digit b) (Count (counted n b)) (cond (nat_eq n 0) Broken (cond (nat_eq b 32) (Waits n) Outside)) tt
     (λ d. either Waiting (nat_eq n 0) Broken (cond (nat_eq b 32) (Waits n) Outside) tt
-        (λ e. either Waiting (nat_eq b 32) (Waits n) Outside (not_zero n e) (λ f. tt)))
+    (λ e. either Waiting (nat_eq b 32) (Waits n) Outside (not_zero n e) (λ f. tt)))
 behind-waiting (Waits n) b w = either Waiting (nat_eq b 32) (Waits n) Outside w (λ e. tt)
 behind-waiting Broken b w = tt
 
@@ -86,7 +86,7 @@ later : (r : Repeat) (bits before : ℕ) (rs : List Repeat) → Stands bits (bef
 later r bits before rs s =
     let len = length-replicate r.times r.character in
     let same : get_or (replicate r.times r.character ++ written rs) (r.times + s.0) 88 ≡ get_or (written rs) (s.0) 88 =
-        subst (λ (n : ℕ). get_or (replicate r.times r.character ++ written rs) (n + s.0) 88 ≡ get_or (written rs) (s.0) 88) len (get_or-append-add (replicate r.times r.character) (written rs) (s.0) 88) in
+    subst (λ (n : ℕ). get_or (replicate r.times r.character ++ written rs) (n + s.0) 88 ≡ get_or (written rs) (s.0) 88) len (get_or-append-add (replicate r.times r.character) (written rs) (s.0) 88) in
     (r.times + s.0, omega (arith, s.1), rw same (s.2))
 
 stands_by : (bits before : ℕ) (r : Repeat) (rs : List Repeat) → 0 < r.times → bits < reach_from before (r ∷ rs) → (bits < reach_from (before + r.times) rs → Stands bits (before + r.times) rs)
@@ -129,9 +129,10 @@ decided true never = refl
 decided false never = absurd (never refl)
 
 pub long_law : LongLaw
-long_law chains items =
-    (λ e. let b = long_at chains items e in record { chain = b.chain; index = b.index; is_chain = b.is_chain; beyond = b.beyond; stands = b.stands },
-    λ l. decided (is_long chains items) (λ e. long_none chains items e l.chain l.index l.is_chain l.beyond l.stands))
+long_law chains items = (
+  λ e. let b = long_at chains items e in record { chain = b.chain; index = b.index; is_chain = b.is_chain; beyond = b.beyond; stands = b.stands },
+  λ l. decided (is_long chains items) (λ e. long_none chains items e l.chain l.index l.is_chain l.beyond l.stands),
+)
 
 both-true : (p q : Bool) → (p && q) ≡ true → (p ≡ true) × (q ≡ true)
 both-true true q e = (refl, e)
@@ -149,6 +150,7 @@ pub short_law : ShortLaw
 short_law chains items = (short_found chains items, short_is chains items)
 
 pub vast_law : VastLaw
-vast_law chains items =
-    (λ e. subst (λ (n : ℕ). most_characters < n) (sym (longest-shifts chains items)) ((Decides-ltb most_characters (shifts_in chains items)).0 e),
-    λ h. (Decides-ltb most_characters (shifts_in chains items)).1 (subst (λ (n : ℕ). most_characters < n) (longest-shifts chains items) h))
+vast_law chains items = (
+  λ e. subst (λ (n : ℕ). most_characters < n) (sym (longest-shifts chains items)) ((Decides-ltb most_characters (shifts_in chains items)).0 e),
+  λ h. (Decides-ltb most_characters (shifts_in chains items)).1 (subst (λ (n : ℕ). most_characters < n) (longest-shifts chains items) h),
+)

@@ -80,13 +80,7 @@ pub(crate) fn completed(escape: Escape, b: u8) -> Option<Repeat>
                 repeat(number, b)
             }
         }
-        Escape::Waits(number) => {
-            if b == b' ' {
-                None
-            } else {
-                repeat(number, b)
-            }
-        }
+        Escape::Waits(number) => { if b == b' ' { None } else { repeat(number, b) } }
         Escape::Broken => None,
     }
 }

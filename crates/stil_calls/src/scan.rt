@@ -68,9 +68,7 @@ pub(crate) fn given<'i>(
 fn is_port(chains: &[ScanChainDecl], name: &NameText<'_>) -> bool
     ensures value { result ≡ is_port chains.now name.now }
 {
-    chains
-        .iter()
-        .any(|c| name.is(c.scan_in.bytes()) || name.is(c.scan_out.bytes()))
+    chains.iter().any(|c| name.is(c.scan_in.bytes()) || name.is(c.scan_out.bytes()))
 }
 
 /// Whether data are given to a name that is no chain's ScanIn or ScanOut.
@@ -93,9 +91,7 @@ fn is_unsound(side: Side, items: &[Item<'_>], chain: &ScanChainDecl) -> bool
 pub(crate) fn has_unsound(chains: &[ScanChainDecl], items: &[Item<'_>]) -> bool
     ensures value { result ≡ has_unsound chains.now items.now }
 {
-    chains
-        .iter()
-        .any(|c| is_unsound(Side::Load, items, c) || is_unsound(Side::Compare, items, c))
+    chains.iter().any(|c| is_unsound(Side::Load, items, c) || is_unsound(Side::Compare, items, c))
 }
 
 fn count_in(side: Side, items: &[Item<'_>], chain: &ScanChainDecl) -> u64

@@ -64,7 +64,11 @@ pub enum ReadStatement {
 }
 
 /// What a statement shifts in and compares, where it is a scan call.
-fn call_in(alloc: Global, head: &StilHead, shape: &Shape<'_, '_>) -> Result<Option<ScanCall>, NoMemory>
+fn call_in(
+    alloc: Global,
+    head: &StilHead,
+    shape: &Shape<'_, '_>,
+) -> Result<Option<ScanCall>, NoMemory>
     ensures value { IfOk result (λ call. call ≡ call_in head.now shape.now) }
 {
     match shape {

@@ -58,7 +58,7 @@ labelled_by ts (Some (x, [])) rest read e = absurd cc
 labelled_by ts (Some (x, t ∷ us)) rest read e =
     choose (bytes_eq t.text (codes ":")) (Some us) None (Some rest) e
     (λ b e. let s = name-spelled ts x (t ∷ us) read in
-        record { name = x; front = s.front; colon = t; is = s.is ∙ ap (λ (l : List Token). s.front ++ (t ∷ l)) (same_Some _ _ e); named = s.holds; text = same_bytes t.text (codes ":") b })
+    record { name = x; front = s.front; colon = t; is = s.is ∙ ap (λ (l : List Token). s.front ++ (t ∷ l)) (same_Some _ _ e); named = s.holds; text = same_bytes t.text (codes ":") b })
     (λ b e. absurd cc)
 
 labelled : (ts rest : List Token) → label_at ts ≡ Some rest → Labelled ts rest

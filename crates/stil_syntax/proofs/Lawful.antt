@@ -19,7 +19,7 @@ string-spelled t [] x rest s e =
 string-spelled t (u ∷ us) x rest s e =
     choose (is_word u.text && nat_eq u.start t.end) (inner t.text ++ u.text, us) (inner t.text, u ∷ us) (x, rest) e
     (λ j e. let b = both (is_word u.text) (nat_eq u.start t.end) j in
-        record { front = t ∷ u ∷ []; is = ap (λ (p : List ℕ × List Token). t ∷ u ∷ p.1) e; holds = Joined t u refl s (b.0) (eqb-true u.start t.end (b.1)) (ap (λ (p : List ℕ × List Token). p.0) e) })
+    record { front = t ∷ u ∷ []; is = ap (λ (p : List ℕ × List Token). t ∷ u ∷ p.1) e; holds = Joined t u refl s (b.0) (eqb-true u.start t.end (b.1)) (ap (λ (p : List ℕ × List Token). p.0) e) })
     (λ j e. record { front = t ∷ []; is = ap (λ (p : List ℕ × List Token). t ∷ p.1) e; holds = Quoted t refl s (ap (λ (p : List ℕ × List Token). p.0) e) })
 
 pub name-spelled : (ts : List Token) (x : List ℕ) (rest : List Token) → name_at ts ≡ Some (x, rest) → Stands (IsName x) ts rest
@@ -28,7 +28,7 @@ name-spelled [] x rest e = absurd cc
 name-spelled (t ∷ ts) x rest e =
     choose (is_word t.text) _ _ _ e
     (λ w e. let p = same_Some _ _ e in
-        record { front = t ∷ []; is = ap (λ (p : List ℕ × List Token). t ∷ p.1) p; holds = Word t refl w (ap (λ (p : List ℕ × List Token). p.0) p) })
+    record { front = t ∷ []; is = ap (λ (p : List ℕ × List Token). t ∷ p.1) p; holds = Word t refl w (ap (λ (p : List ℕ × List Token). p.0) p) })
     (λ w e. choose (is_string t.text) _ _ _ e (λ s e. string-spelled t ts x rest s (same_Some _ _ e)) (λ s e. absurd cc))
 
 -- a text in " is no run, and no mark

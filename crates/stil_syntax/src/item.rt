@@ -221,6 +221,5 @@ impl<'a> Statement<'a> for Items<'a> {
     #[tactic(auto, using(crate::proofs::Lawful::call_statement))]
     fn is_statement()
         ensures law { IsStatement call_end }
-    {
-    }
+    {}
 }
