@@ -1,18 +1,18 @@
 -- A scan call that no test refuses is one that the chains accept.
-use Rattle.std.proofs.Common.{◌≡◌, ◌<◌, ◌≤◌, ℕ, zero, suc, ◌+◌, ◌-◌, Bool, true, false, ◌&&◌, ◌||◌, not, nat_lt, cond, max, IsTrue, List, [], ◌∷◌, ◌++◌, length, length-append, map, All, get_or, replicate, Option, Some, None, refl, sym, ap, ◌∙◌, subst, arith, inl, inr, ◌⊎◌}
-use Rattle.std.specs.List.{list_any, list_all, AllPass}
+use Rattle.std.proofs.Common.{◌≡◌, ◌<◌, ◌≤◌, ℕ, zero, suc, ◌+◌, ◌-◌, Bool, true, false, ◌&&◌, not, nat_lt, cond, max, IsTrue, List, [], ◌∷◌, ◌++◌, length, length-append, All, get_or, replicate, Option, Some, None, refl, sym, ap, ◌∙◌, subst, arith, inl, inr, ◌⊎◌}
+use Rattle.std.specs.List.{list_all, AllPass}
 use Rattle.std.proofs.lemmas.Bool.{or_parts, false≢true, ltb-false}
 use Rattle.std.proofs.lemmas.Bool.Decides.{Decides-ltb}
-use Rattle.std.proofs.lemmas.List.{length-replicate, get_or-replicate, get_or_append_left, get_or-append_right, length-map}
-use Rattle.std.proofs.lemmas.List.Elements.{All-append, All-map, All-replicate, All-cons, All-nil}
+use Rattle.std.proofs.lemmas.List.{length-replicate, get_or-replicate, get_or_append_left, get_or-append_right}
+use Rattle.std.proofs.lemmas.List.Elements.{All-append, All-replicate, All-cons, All-nil}
 use Rattle.stil_reader.specs.declared.head.ScanChainDecl.{ScanChainDecl}
-use Rattle.stil_reader.specs.Calls.{string_length, longest_string, IsStringOf, IsCallOn, most_bits, compare_character, compare_at, is_expectation, IsShortLoadOn, IsLongCompareOn, IsAcceptedOn}
+use Rattle.stil_reader.specs.Calls.{string_length, longest_string, IsStringOf, IsCallOn, most_bits, compare_character, is_expectation, IsShortLoadOn, IsAcceptedOn}
 use Rattle.stil_syntax.specs.declared.item.Item.{Item}
 use Rattle.stil_calls.specs.declared.repeats.Repeat.{Repeat}
 use Rattle.stil_calls.specs.declared.repeats.Side.{Side}
 use Rattle.stil_calls.specs.declared.repeats.Side.TheVariants.{Load, Compare}
-use Rattle.stil_calls.specs.Repeats.{repeats_of, whole_from, is_character, is_sound, count_of, reach_from, written}
-use Rattle.stil_calls.specs.Scans.{given, is_unsound, has_unsound, count_in, reach_in, longer, shifts_in, bits_of, is_short, is_long, written_in, strings_of, call_of}
+use Rattle.stil_calls.specs.Repeats.{repeats_of, is_character, is_sound, count_of, reach_from, written}
+use Rattle.stil_calls.specs.Scans.{given, is_unsound, has_unsound, count_in, reach_in, shifts_in, bits_of, is_short, is_long, written_in, strings_of, call_of}
 
 -- the length of what is written out
 pub written-length : (rs : List Repeat) → length (written rs) ≡ count_of rs

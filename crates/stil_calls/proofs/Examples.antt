@@ -1,5 +1,5 @@
 -- Statements beside a small head, judged by computing: one or more for each kind of fault, and some without.
-use Rattle.std.proofs.Common.{◌≡◌, ℕ, Bool, true, false, List, [], ◌∷◌, Option, Some, None, refl}
+use Rattle.std.proofs.Common.{◌≡◌, true, false, [], ◌∷◌, Option, Some, None, refl}
 use Prim.Native.String.{String}
 use Rattle.std.specs.Prelude.{codes}
 use Rattle.base_types.specs.declared.kind.Kind.{Kind}
@@ -12,7 +12,6 @@ use Rattle.stil_tokens.specs.StilStatements.{statements_within}
 use Rattle.stil_parts.specs.declared.part.PartFault.{PartFault}
 use Rattle.stil_parts.specs.Coming.{fault_at}
 use Rattle.stil_reader.specs.declared.head.ScanChainDecl.{ScanChainDecl}
-use Rattle.stil_reader.specs.declared.head.Callee.{Callee}
 use Rattle.stil_reader.specs.declared.head.StilHead.{StilHead}
 use Rattle.base_types.specs.declared.span.Span.{Span}
 use Rattle.stil_syntax.specs.Names.{name_at}

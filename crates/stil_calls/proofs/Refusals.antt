@@ -1,19 +1,18 @@
 -- A scan call that a test refuses is refused as its strings, written out, are.
-use Rattle.std.proofs.Common.{◌≡◌, ◌<◌, ◌≤◌, ◌↔◌, ℕ, zero, suc, ◌+◌, ◌-◌, Bool, true, false, ◌&&◌, ◌||◌, nat_eq, nat_lt, cond, max, IsTrue, List, [], ◌∷◌, ◌++◌, length, get_or, replicate, Option, Some, None, refl, sym, ap, ◌∙◌, subst, arith, inl, inr, ◌⊎◌}
-use Rattle.std.specs.List.{list_any}
+use Rattle.std.proofs.Common.{◌≡◌, ◌<◌, ◌≤◌, ℕ, zero, suc, ◌+◌, ◌-◌, Bool, true, false, ◌&&◌, ◌||◌, nat_eq, nat_lt, cond, max, IsTrue, List, [], ◌∷◌, ◌++◌, length, get_or, replicate, Option, Some, None, refl, sym, subst, arith, inl, inr, ◌⊎◌}
 use Rattle.std.proofs.lemmas.Bool.{or_parts}
 use Rattle.std.proofs.lemmas.Bool.Decides.{Decides-ltb}
 use Rattle.std.proofs.lemmas.List.{length-replicate, get_or-replicate, get_or_append_left, get_or-append-add}
 use Rattle.stil_reader.specs.declared.head.ScanChainDecl.{ScanChainDecl}
-use Rattle.stil_reader.specs.Calls.{most_bits, compare_character, is_expectation, IsShortLoadOn, IsLongCompareOn}
+use Rattle.stil_reader.specs.Calls.{most_bits, compare_character, is_expectation, IsShortLoadOn}
 use Rattle.stil_syntax.specs.declared.item.Item.{Item}
 use Rattle.stil_syntax.specs.Digits.{is_digit, counted}
 use Rattle.stil_calls.specs.declared.repeats.Repeat.{Repeat}
 use Rattle.stil_calls.specs.declared.repeats.Escape.{Escape}
 use Rattle.stil_calls.specs.declared.repeats.Escape.TheVariants.{Outside, Slash, Count, Waits, Broken}
-use Rattle.stil_calls.specs.declared.repeats.Side.TheVariants.{Load, Compare}
+use Rattle.stil_calls.specs.declared.repeats.Side.TheVariants.{Compare}
 use Rattle.stil_calls.specs.Repeats.{repeat, behind, completed, put_first, repeats_from, repeats_of, reach_from, written}
-use Rattle.stil_calls.specs.Scans.{given, reach_in, shifts_in, bits_of, is_short, is_long, is_vast, strings_of, written_in, call_of, most_characters}
+use Rattle.stil_calls.specs.Scans.{given, reach_in, shifts_in, bits_of, is_short, is_long, strings_of, written_in, call_of, most_characters}
 use Rattle.stil_calls.specs.Laws.{ShortLaw, LongLaw, VastLaw}
 use Rattle.stil_calls.proofs.Accepted.{longest-shifts, short_is, near_or_far, long_none}
 

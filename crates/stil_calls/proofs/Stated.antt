@@ -1,5 +1,5 @@
 -- Each call of a statement without fault is accepted by the chains of the head.
-use Rattle.std.proofs.Common.{◌≡◌, ℕ, Bool, true, false, cond, List, [], ◌∷◌, map, All, Option, Some, None, refl, sym, ap, ◌∙◌, subst}
+use Rattle.std.proofs.Common.{◌≡◌, ℕ, Bool, true, false, cond, List, [], ◌∷◌, map, All, Option, Some, None, refl, subst}
 use Rattle.std.proofs.lemmas.Option.{same_Some}
 use Rattle.std.proofs.lemmas.List.Elements.{All-cons, All-nil}
 use Rattle.token_forms.specs.Tokens.{Token, place_of}
@@ -11,7 +11,7 @@ use Rattle.stil_syntax.specs.declared.shape.Shape.{Shape}
 use Rattle.stil_syntax.specs.declared.shape.Shape.TheVariants.{NoForm, Unsupported, Other, Scan, Loop}
 use Rattle.stil_calls.specs.declared.statement.ReadStatement.{ReadStatement}
 use Rattle.stil_syntax.specs.Shapes.{shape_of, body_statements}
-use Rattle.stil_calls.specs.Scans.{gives_twice, has_unsound, is_foreign, is_short, is_long, is_vast, call_of}
+use Rattle.stil_calls.specs.Scans.{gives_twice, has_unsound, is_foreign, is_short, is_long, call_of}
 use Rattle.stil_calls.specs.Faults.{kind_of, line_in, fault_or, body_fault, shape_fault}
 use Rattle.stil_calls.specs.Statements.{call_in, body_of, statement_of, IsAcceptedBy, IsAcceptedIn, AreAccepted}
 use Rattle.stil_calls.proofs.Accepted.{is_call, is_accepted}

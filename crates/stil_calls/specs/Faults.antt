@@ -1,5 +1,5 @@
 -- What is wrong with a statement of a Pattern: each kind of fault as a predicate of its own, and which comes first.
-use Rattle.std.specs.Prelude.{◌≡◌, ℕ, ◌+◌, ◌<◌, Bool, true, false, ◌==◌, if◌then◌else◌, List, [], ◌∷◌, take, count_by, Option, Some, None}
+use Rattle.std.specs.Prelude.{ℕ, ◌+◌, Bool, true, false, ◌==◌, if◌then◌else◌, List, [], ◌∷◌, take, count_by, Option, Some, None}
 use Rattle.token_forms.specs.Tokens.{Token, place_of}
 use Rattle.base_types.specs.declared.kind.Kind.{Kind}
 use Rattle.base_types.specs.declared.kind.Kind.TheVariants as kinds
@@ -8,7 +8,7 @@ use Rattle.stil_parts.specs.declared.part.PartFault.{PartFault}
 use Rattle.stil_parts.specs.Coming.{fault_at}
 use Rattle.stil_reader.specs.declared.head.StilHead.{StilHead}
 use Rattle.stil_syntax.specs.declared.shape.Shape.{Shape}
-use Rattle.stil_syntax.specs.declared.shape.Shape.TheVariants.{NoForm, Unsupported, Other, Scan, Loop}
+use Rattle.stil_syntax.specs.declared.shape.Shape.TheVariants.{NoForm, Unsupported, Scan, Loop}
 use Rattle.stil_syntax.specs.Shapes.{shape_of, body_statements}
 use Rattle.stil_calls.specs.Scans.{gives_twice, has_unsound, is_foreign, is_short, is_long, is_vast}
 

@@ -1,5 +1,5 @@
 -- Laws of the definitions, which know nothing of the code.
-use Rattle.std.specs.Prelude.{◌≡◌, ℕ, ◌<◌, ◌↔◌, true, List}
+use Rattle.std.specs.Prelude.{◌≡◌, ◌<◌, ◌↔◌, true, List}
 use Rattle.stil_reader.specs.declared.head.ScanChainDecl.{ScanChainDecl}
 use Rattle.stil_reader.specs.Calls.{IsShortLoadOn, IsLongCompareOn}
 use Rattle.stil_syntax.specs.declared.item.Item.{Item}

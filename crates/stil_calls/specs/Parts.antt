@@ -1,16 +1,13 @@
 -- The judge of the parts of a STIL text: what is wrong with each, if anything is.
-use Rattle.std.specs.Prelude.{ℕ, Bool, true, false, ◌||◌, not, if◌then◌else◌, List, [], ◌∷◌, codes, Option, Some, None}
+use Rattle.std.specs.Prelude.{ℕ, ◌||◌, not, if◌then◌else◌, List, [], ◌∷◌, codes, Option, Some, None}
 use Rattle.std.specs.Str.{bytes_eq}
 use Rattle.token_forms.specs.Tokens.{Token}
 use Rattle.base_types.specs.declared.kind.Kind.{Kind}
 use Rattle.base_types.specs.declared.kind.Kind.TheVariants.{PatternSyntax, PatternUnsupported}
 use Rattle.stil_tokens.specs.StilTokens.{tokens_in}
 use Rattle.stil_tokens.specs.StilStatements.{is_closed, is_only}
-use Rattle.stil_parts.specs.declared.gap.Point.{Point}
-use Rattle.stil_parts.specs.declared.part.Part.{Part}
 use Rattle.stil_parts.specs.declared.part.Part.TheVariants.{Passes, Opens, Whole}
-use Rattle.stil_parts.specs.declared.part.PartFault.{PartFault}
-use Rattle.stil_parts.specs.Coming.{Judge, fault_at}
+use Rattle.stil_parts.specs.Coming.{Judge}
 use Rattle.stil_reader.specs.declared.head.StilHead.{StilHead}
 use Rattle.stil_syntax.specs.Names.{is_word, name_at}
 use Rattle.stil_syntax.specs.Shapes.{behind_labels, closes_nothing}

@@ -1,7 +1,7 @@
 -- The data of a scan call (IEEE 1450-1999, Shift, in this profile): characters that stand for themselves, and `\r`, digits of
 -- a number from 1, blanks, and one character that stands for so many. Of data that isn't only runs, a token that is none
 -- begins with a byte that is of no alphabet.
-use Rattle.std.specs.Prelude.{ℕ, ◌+◌, Bool, true, false, ◌&&◌, ◌||◌, not, ◌==◌, nat_lt, if◌then◌else◌, max, List, [], ◌∷◌, ◌++◌, replicate, Option, Some, None}
+use Rattle.std.specs.Prelude.{ℕ, ◌+◌, Bool, true, false, ◌&&◌, ◌||◌, ◌==◌, if◌then◌else◌, max, List, [], ◌∷◌, ◌++◌, replicate, Option, Some, None}
 use Rattle.std.specs.List.{list_all}
 use Rattle.stil_reader.specs.Calls.{is_load_character, is_compare_character, is_expectation}
 use Rattle.stil_calls.specs.declared.repeats.Repeat.{Repeat}

@@ -1,20 +1,18 @@
 -- What stands behind a scan call's name, and behind the labels, is what is spelled.
-use Rattle.std.proofs.Common.{◌≡◌, ◌<◌, ◌≤◌, ◌+◌, ◌↔◌, ℕ, zero, suc, Bool, true, false, cond, nat_eq, List, [], ◌∷◌, ◌++◌, length, length-append, Option, Some, None, refl, sym, ap, ◌∙◌, subst, arith, append_assoc, codes}
+use Rattle.std.proofs.Common.{◌≡◌, ◌<◌, ◌≤◌, ℕ, zero, suc, Bool, false, cond, nat_eq, List, [], ◌∷◌, ◌++◌, length, length-append, Option, Some, None, refl, sym, ap, ◌∙◌, subst, arith, append_assoc, codes}
 use Rattle.std.specs.Str.{bytes_eq}
 use Rattle.std.proofs.Math.Dec.{eqb-suc-zero}
 use Rattle.std.proofs.lemmas.Option.{same_Some}
 use Rattle.token_forms.specs.Tokens.{Token}
-use Rattle.token_forms.specs.Forms.{AreMany}
 use Rattle.token_forms.specs.Laws.{Stands}
-use Rattle.token_forms.proofs.Spelled.{same_bytes, same_text, choose}
+use Rattle.token_forms.proofs.Spelled.{same_bytes, choose}
 use Rattle.stil_syntax.specs.declared.item.Item.{Item}
-use Rattle.stil_syntax.specs.declared.shape.Shape.{Shape}
 use Rattle.stil_syntax.specs.declared.shape.Shape.TheVariants.{NoForm, Scan}
 use Rattle.stil_syntax.specs.Names.{IsName, name_at}
 use Rattle.stil_syntax.specs.Grammar.{call_end}
-use Rattle.stil_syntax.specs.Shapes.{colon_at, label_by, label_at, behind_within, scan_shape}
+use Rattle.stil_syntax.specs.Shapes.{label_by, label_at, behind_within, scan_shape}
 use Rattle.stil_syntax.specs.Laws.{ItemsLaw, label, HasLabels, LabelsLaw}
-use Rattle.stil_syntax.proofs.Lawful.{call_statement, name-spelled, name-read, name-some}
+use Rattle.stil_syntax.proofs.Lawful.{call_statement, name-spelled, name-read}
 
 -- a Scan was read whole
 all_read : (read : Option (List Item × List Token)) (items : List Item) → scan_shape read ≡ Scan items → read ≡ Some (items, [])

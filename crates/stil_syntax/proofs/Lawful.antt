@@ -1,5 +1,5 @@
 -- Each form of Grammar is lawful, and what stands behind the name of a scan call is clear.
-use Rattle.std.proofs.Common.{◌≡◌, ℕ, Bool, true, false, ◌&&◌, ◌||◌, not, nat_eq, List, [], ◌∷◌, ◌++◌, Option, Some, None, refl, sym, ap, ◌∙◌, subst}
+use Rattle.std.proofs.Common.{◌≡◌, ℕ, Bool, true, false, ◌&&◌, ◌||◌, nat_eq, List, [], ◌∷◌, ◌++◌, Some, refl, sym, ap, subst}
 use Rattle.std.proofs.lemmas.Bool.{eqb-true}
 use Rattle.std.proofs.lemmas.Bool.Decides.{Decides-eqb}
 use Rattle.std.proofs.lemmas.Option.{same_Some}
@@ -9,7 +9,7 @@ use Rattle.token_forms.specs.Laws.{Stands, IsLawful, IsStatement}
 use Rattle.token_forms.proofs.Spelled.{choose}
 use Rattle.token_forms.proofs.ClassLemmas.{both}
 use Rattle.token_forms.proofs.Laws.{word-lawful, text-lawful, seq-lawful, made-lawful, before-lawful, behind-lawful, or-lawful, many-lawful, gathered-lawful}
-use Rattle.stil_syntax.specs.Names.{marks, begins_with, is_enclosed, is_word, is_string, inner, IsName, Word, Quoted, Joined, string_at, name_at, name}
+use Rattle.stil_syntax.specs.Names.{marks, is_word, is_string, inner, IsName, Word, Quoted, Joined, string_at, name_at, name}
 use Rattle.stil_syntax.specs.Grammar.{item, entry, block, call_end}
 
 -- what is read is spelled so

@@ -1,7 +1,7 @@
 -- How the data of a scan call are spelled in tokens (IEEE 1450-1999, Call and Macro, in this profile).
-use Rattle.std.specs.Prelude.{ℕ, Bool, true, List, [], ◌∷◌, ◌++◌, codes, Option, Some, None}
+use Rattle.std.specs.Prelude.{ℕ, Bool, true, List, [], ◌∷◌, ◌++◌, codes, Option, Some}
 use Rattle.token_forms.specs.Classes.{But}
-use Rattle.token_forms.specs.Forms.{Form, text, key, made, ◌▸◌, ◌◂◌, ◌or◌, gathered}
+use Rattle.token_forms.specs.Forms.{Form, text, key, made, ◌◂◌, ◌or◌, gathered}
 use Rattle.stil_syntax.specs.declared.item.Item.{Item}
 use Rattle.stil_syntax.specs.declared.item.Entry.{Entry}
 use Rattle.stil_syntax.specs.declared.item.Entry.TheVariants as entries

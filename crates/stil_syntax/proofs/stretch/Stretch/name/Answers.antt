@@ -1,4 +1,4 @@
-use Rattle.std.proofs.Common.{◌≡◌, sym, ◌∙◌, ap, List, Option, Some, ℕ}
+use Rattle.std.proofs.Common.{◌≡◌, sym, ◌∙◌, ap, List, Some}
 use Rattle.token_forms.specs.Tokens.{Token}
 use Rattle.stil_syntax.specs.Names.{name_at}
 use Rattle.stil_syntax.proofs.Stretches.{name-rest}
