@@ -3,4 +3,5 @@ mod Answered
 mod Examples
 mod Reaches
 mod Refusals
+mod Sorted
 mod Stated

@@ -4,3 +4,4 @@ pub mod Parts
 pub mod Repeats
 pub mod Scans
 pub mod Statements
+pub mod Twice

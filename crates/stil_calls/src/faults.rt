@@ -45,7 +45,7 @@ fn body_fault(
     let mut rest = body.again();
     while let Some(statement) = body_statement(&mut rest) {
         let shape = shape_of(alloc, head, true, &statement)?;
-        if let Some(kind) = kind_of(head, &shape) {
+        if let Some(kind) = kind_of(alloc, head, &shape)? {
             let line = line_in(&mut lines, line, statement.place().start);
             return Ok(Some(PartFault { kind, line }));
         }
@@ -66,7 +66,7 @@ pub(crate) fn shape_fault(
 {
     match shape {
         Shape::Loop(_times, body) => body_fault(alloc, head, line, text, body),
-        _ => Ok(fault_or(kind_of(head, shape), line, None)),
+        _ => Ok(fault_or(kind_of(alloc, head, shape)?, line, None)),
     }
 }
 

@@ -1,10 +1,12 @@
 //! What is wrong with a statement.
-ghost use Rattle.std.specs.Prelude.{◌≡◌};
+ghost use Rattle.std.specs.Prelude.{◌≡◌, IfOk};
 ghost use Rattle.stil_calls.specs.Faults.{kind_of};
 ghost use Rattle.stil_calls.specs.Scans.{size_kind};
 
-use crate::scan::{gives_twice, has_unsound, is_foreign, is_long, is_short, is_vast, shifts_in};
-use base_types::Kind;
+use crate::scan::{has_unsound, is_foreign, is_long, is_short, is_vast, shifts_in};
+use crate::twice::gives_twice;
+use base_types::{Kind, NoMemory};
+use std::alloc::Global;
 use stil_reader::{ScanChainDecl, StilHead};
 use stil_syntax::{Item, Shape};
 
@@ -26,31 +28,35 @@ fn size_kind(chains: &[ScanChainDecl], items: &[Item<'_>]) -> Option<Kind>
 }
 
 /// The least kind that holds of a scan call.
-fn scan_kind(head: &StilHead, items: &[Item<'_>]) -> Option<Kind>
-    ensures value { result ≡ kind_of head.now (Shape.Scan items.now) }
+fn scan_kind(alloc: Global, head: &StilHead, items: &[Item<'_>]) -> Result<Option<Kind>, NoMemory>
+    ensures value { IfOk result (λ kind. kind ≡ kind_of head.now (Shape.Scan items.now)) }
 {
     let chains = head.chains.as_slice();
-    if gives_twice(items) {
-        return Some(Kind::PatternSyntax);
+    if gives_twice(alloc, items)? {
+        return Ok(Some(Kind::PatternSyntax));
     }
     if has_unsound(chains, items) {
-        return Some(Kind::ScanCharacter);
+        return Ok(Some(Kind::ScanCharacter));
     }
     if is_foreign(chains, items) {
-        return Some(Kind::ForeignData);
+        return Ok(Some(Kind::ForeignData));
     }
-    size_kind(chains, items)
+    Ok(size_kind(chains, items))
 }
 
 /// The least kind that holds of a statement.
-pub(crate) fn kind_of(head: &StilHead, shape: &Shape<'_, '_>) -> Option<Kind>
-    ensures value { result ≡ kind_of head.now shape.now }
+pub(crate) fn kind_of(
+    alloc: Global,
+    head: &StilHead,
+    shape: &Shape<'_, '_>,
+) -> Result<Option<Kind>, NoMemory>
+    ensures value { IfOk result (λ kind. kind ≡ kind_of head.now shape.now) }
 {
     match shape {
-        Shape::NoForm => Some(Kind::PatternSyntax),
-        Shape::Unsupported => Some(Kind::PatternUnsupported),
-        Shape::Other => None,
-        Shape::Scan(items) => scan_kind(head, items.as_slice()),
-        Shape::Loop(_times, _body) => None,
+        Shape::NoForm => Ok(Some(Kind::PatternSyntax)),
+        Shape::Unsupported => Ok(Some(Kind::PatternUnsupported)),
+        Shape::Other => Ok(None),
+        Shape::Scan(items) => scan_kind(alloc, head, items.as_slice()),
+        Shape::Loop(_times, _body) => Ok(None),
     }
 }

@@ -16,6 +16,7 @@ mod repeats;
 mod scan;
 mod statement;
 mod strings;
+mod twice;
 
 pub use laws::size_law;
 pub use part::{judge_part, opened_name};

@@ -17,8 +17,8 @@ fn has_name(items: &[Item<'_>], name: &NameText<'_>) -> bool
     items.iter().any(|item| item.name.is_same(name))
 }
 
-/// Whether a name is given twice.
-pub(crate) fn gives_twice(items: &[Item<'_>]) -> bool
+/// Whether a name is given twice, each compared with those behind it.
+pub(crate) fn has_name_twice(items: &[Item<'_>]) -> bool
     ensures value { result ≡ gives_twice items.now }
 {
     let mut at = 0;

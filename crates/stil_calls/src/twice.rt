@@ -1,0 +1,87 @@
+//! Whether a scan call gives a name twice: names are sorted, so that a long list takes no square of its length.
+ghost use Rattle.std.specs.Prelude.{◌≡◌, map, IfOk};
+ghost use Rattle.stil_calls.specs.Scans.{gives_twice};
+ghost use Rattle.stil_calls.specs.Twice.{has_equal, rises};
+
+use crate::scan::has_name_twice;
+use base_types::{Name, NoMemory};
+use std::alloc::Global;
+use stil_syntax::Item;
+
+/// The names of items.
+fn names_of(alloc: Global, items: &[Item<'_>]) -> Result<Vec<Name>, NoMemory>
+    ensures value { IfOk result (λ names. names.items ≡ map (λ i. i.name) items.now) }
+{
+    let mut names = Vec::with_capacity(alloc, items.len())?;
+    for item in items {
+        let name = item.name.to_name(alloc)?;
+        names.push(name)?;
+    }
+    Ok(names)
+}
+
+/// The bytes of names.
+fn texts_of<'n>(alloc: Global, names: &'n [Name]) -> Result<Vec<&'n [u8]>, NoMemory>
+    ensures value { IfOk result (λ texts. map (λ t. t.now) texts.items ≡ names.now) }
+{
+    let mut texts = Vec::with_capacity(alloc, names.len())?;
+    for name in names {
+        texts.push(name.bytes())?;
+    }
+    Ok(texts)
+}
+
+/// Whether two equal names stand beside one another.
+fn has_equal(names: &[&[u8]]) -> bool
+    ensures value { result ≡ has_equal (map (λ t. t.now) names.now) }
+{
+    let Some((first, rest)) = names.split_first() else {
+        return false;
+    };
+    let mut last = *first;
+    let mut at = 0;
+    while at < rest.len() {
+        if last == rest[at] {
+            return true;
+        }
+        last = rest[at];
+        at += 1;
+    }
+    false
+}
+
+/// Whether each name is greater than the one before it.
+fn rises(names: &[&[u8]]) -> bool
+    ensures value { result ≡ rises (map (λ t. t.now) names.now) }
+{
+    let Some((first, rest)) = names.split_first() else {
+        return true;
+    };
+    let mut last = *first;
+    let mut at = 0;
+    while at < rest.len() {
+        if !last.cmp(&rest[at]).is_lt() {
+            return false;
+        }
+        last = rest[at];
+        at += 1;
+    }
+    true
+}
+
+/// Whether a name is given twice. Sorted names that don't rise have two equal ones beside one another, so the names are
+/// compared one with the other only where a sort would be none.
+pub(crate) fn gives_twice(alloc: Global, items: &[Item<'_>]) -> Result<bool, NoMemory>
+    ensures value { IfOk result (λ twice. twice ≡ gives_twice items.now) }
+{
+    let names = names_of(alloc, items)?;
+    let mut texts = texts_of(alloc, &names)?;
+    texts.sort()?;
+    if has_equal(&texts) {
+        return Ok(true);
+    }
+    if rises(&texts) {
+        return Ok(false);
+    }
+    Ok(has_name_twice(items))
+}
