@@ -1,2 +1,4 @@
+pub mod Roomy
+pub mod Within
 pub mod Links
 pub mod Quiet

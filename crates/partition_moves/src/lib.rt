@@ -6,7 +6,10 @@
 
 mod lift;
 mod moves;
+mod room;
 mod settle;
 mod swaps;
+mod work;
 
-pub use settle::settle_all;
+pub use room::Room;
+pub use settle::{settle_all, settle_all_within};

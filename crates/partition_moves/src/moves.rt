@@ -11,8 +11,8 @@ ghost use Rattle.partition_moves.specs.Links.{IsApart, Lands};
 ghost use Rattle.partition_moves.specs.Quiet.{HasNoMove, NoMoveBetween};
 
 use crate::lift::{Lift, lift_of, shorter_place};
-use base_types::NoMemory;
-use chain_rules::{Plan, Position, Rules, can_move};
+use crate::work::Work;
+use chain_rules::{Position, Rules};
 use place_blocks::{Block, fill_blocks};
 use wire_cost::Ends;
 
@@ -35,7 +35,7 @@ fn landing(c: usize, i: usize, d: usize, k: usize) -> usize
 
 /// The place in chain d, without the unit at place i of chain c, where that unit stands if it is put at the place k of
 /// chain d; none if it may not stand there or stays where it is.
-fn open_place(rules: &Rules, plan: &Plan, c: usize, i: usize, d: usize, k: usize) -> Option<usize>
+fn open_place(rules: &Rules, plan: &Work, c: usize, i: usize, d: usize, k: usize) -> Option<usize>
     requires legal { IsLegal rules.now plan.now }
     requires chain { c < length plan.now.chains }
     requires place { i < length (chain_at plan.now c) }
@@ -62,7 +62,7 @@ fn open_place(rules: &Rules, plan: &Plan, c: usize, i: usize, d: usize, k: usize
         chain: d as u32,
         place: j as u32,
     };
-    if can_move(rules, plan, from, to) {
+    if plan.can_move(rules, from, to) {
         Some(j)
     } else {
         None
@@ -73,7 +73,7 @@ fn open_place(rules: &Rules, plan: &Plan, c: usize, i: usize, d: usize, k: usize
 fn place_for(
     rules: &Rules,
     ends: &Ends,
-    plan: &Plan,
+    plan: &Work,
     blocks: &[Block],
     c: usize,
     i: usize,
@@ -102,29 +102,17 @@ fn place_for(
     None
 }
 
-/// Takes a unit out and puts it in at another place.
-fn move_unit(plan: &mut Plan, c: usize, i: usize, d: usize, j: usize) -> Result<(), NoMemory>
-    requires chain { c < length plan.old.chains }
-    requires place { i < length (chain_at plan.old c) }
-    requires other { d < length plan.old.chains }
-    requires open { j ≤ length (chain_at (taken_out plan.old (at c i)) d) }
-    ensures value { OnOk result (plan.new ≡ moved_plan plan.old (at c i) (at d j)) }
-{
-    let unit = plan.remove(c, i);
-    plan.insert(d, j, unit)
-}
-
 /// Moves a unit, as the plan gets shorter by, and fills in the blocks of the chain that it goes to.
 fn take_move(
     rules: &Rules,
     ends: &Ends,
-    plan: &mut Plan,
+    plan: &mut Work,
     blocks: &mut [Block],
     c: usize,
     i: usize,
     d: usize,
     j: usize,
-) -> Result<(), NoMemory>
+)
     requires searchable { AreSearchable rules.now ends.now }
     requires legal { IsLegal rules.now plan.old }
     requires chain { c < length plan.old.chains }
@@ -133,46 +121,45 @@ fn take_move(
     requires open { j ≤ length (chain_at (taken_out plan.old (at c i)) d) }
     requires gain { IsGain rules.now ends.now plan.old (moved_plan plan.old (at c i) (at d j)) }
     requires room { length rules.now.units < 32 * length blocks.old }
-    ensures legal { OnOk result (IsLegal rules.now plan.new) }
-    ensures shorter { OnOk result (plan_length_of ends.now plan.new < plan_length_of ends.now plan.old) }
-    ensures blocks { OnOk result (AreBlocks (chain_ends ends.now d) (chain_at plan.new d) blocks.new) }
+    ensures legal { IsLegal rules.now plan.new }
+    ensures shorter { plan_length_of ends.now plan.new < plan_length_of ends.now plan.old }
+    ensures blocks { AreBlocks (chain_ends ends.now d) (chain_at plan.new d) blocks.new }
     ensures room { length blocks.new ≡ length blocks.old }
 {
-    move_unit(plan, c, i, d, j)?;
+    plan.move_unit(c, i, d, j);
     fill_blocks(blocks, ends, d as u32, plan.chain(d));
-    Ok(())
 }
 
 /// Moves the unit at place i of chain c to chain d, where such a move makes the plan shorter, and tells whether one did.
 fn move_one(
     rules: &Rules,
     ends: &Ends,
-    plan: &mut Plan,
+    plan: &mut Work,
     blocks: &mut [Block],
     c: usize,
     i: usize,
     d: usize,
-) -> Result<bool, NoMemory>
+) -> bool
     requires searchable { AreSearchable rules.now ends.now }
     requires legal { IsLegal rules.now plan.old }
     requires chain { c < length plan.old.chains }
     requires other { d < length plan.old.chains }
     requires room { length rules.now.units < 32 * length blocks.old }
     requires blocks { AreBlocks (chain_ends ends.now d) (chain_at plan.old d) blocks.old }
-    ensures legal { IfOk result (λ yes. IsLegal rules.now plan.new) }
-    ensures shorter { IfOk result (λ yes. plan_length_of ends.now plan.new + cond yes 1 0 ≤ plan_length_of ends.now plan.old) }
+    ensures legal { IsLegal rules.now plan.new }
+    ensures shorter { plan_length_of ends.now plan.new + cond result 1 0 ≤ plan_length_of ends.now plan.old }
     ensures room { length blocks.new ≡ length blocks.old }
-    ensures blocks { IfOk result (λ yes. AreBlocks (chain_ends ends.now d) (chain_at plan.new d) blocks.new) }
-    ensures quiet { IfOk result (λ yes. ¬ IsTrue yes → (plan.new ≡ plan.old) × (i < length (chain_at plan.old c) → NoMoveTo rules.now ends.now plan.old c i d)) }
+    ensures blocks { AreBlocks (chain_ends ends.now d) (chain_at plan.new d) blocks.new }
+    ensures quiet { ¬ IsTrue result → (plan.new ≡ plan.old) × (i < length (chain_at plan.old c) → NoMoveTo rules.now ends.now plan.old c i d) }
 {
     if plan.chain(c).len() <= i {
-        return Ok(false);
+        return false;
     }
     let Some(j) = place_for(rules, ends, plan, blocks, c, i, d) else {
-        return Ok(false);
+        return false;
     };
-    take_move(rules, ends, plan, blocks, c, i, d, j)?;
-    Ok(true)
+    take_move(rules, ends, plan, blocks, c, i, d, j);
+    true
 }
 
 /// Moves each unit of chain c once to chain d, where such a move makes the plan shorter, and tells whether one did. The
@@ -180,83 +167,72 @@ fn move_one(
 fn moves_between(
     rules: &Rules,
     ends: &Ends,
-    plan: &mut Plan,
+    plan: &mut Work,
     blocks: &mut [Block],
     c: usize,
     d: usize,
-) -> Result<bool, NoMemory>
+) -> bool
     requires searchable { AreSearchable rules.now ends.now }
     requires legal { IsLegal rules.now plan.old }
     requires chain { c < length plan.old.chains }
     requires other { d < length plan.old.chains }
     requires room { length rules.now.units < 32 * length blocks.old }
     requires blocks { AreBlocks (chain_ends ends.now d) (chain_at plan.old d) blocks.old }
-    ensures legal { IfOk result (λ yes. IsLegal rules.now plan.new) }
-    ensures shorter { IfOk result (λ yes. plan_length_of ends.now plan.new + cond yes 1 0 ≤ plan_length_of ends.now plan.old) }
+    ensures legal { IsLegal rules.now plan.new }
+    ensures shorter { plan_length_of ends.now plan.new + cond result 1 0 ≤ plan_length_of ends.now plan.old }
     ensures room { length blocks.new ≡ length blocks.old }
-    ensures blocks { IfOk result (λ yes. AreBlocks (chain_ends ends.now d) (chain_at plan.new d) blocks.new) }
-    ensures quiet { IfOk result (λ yes. ¬ IsTrue yes → (plan.new ≡ plan.old) × NoMoveBetween rules.now ends.now plan.old c d) }
+    ensures blocks { AreBlocks (chain_ends ends.now d) (chain_at plan.new d) blocks.new }
+    ensures quiet { ¬ IsTrue result → (plan.new ≡ plan.old) × NoMoveBetween rules.now ends.now plan.old c d }
 {
     if !are_together(rules, c, d) {
-        return Ok(false);
+        return false;
     }
     let mut again = false;
     for i in 0..plan.chain(c).len() {
-        if move_one(rules, ends, plan, blocks, c, i, d)? {
+        if move_one(rules, ends, plan, blocks, c, i, d) {
             again = true;
         }
     }
-    Ok(again)
+    again
 }
 
 /// Moves each unit once to chain d, where such a move makes the plan shorter, and tells whether one did.
-fn moves_into(
-    rules: &Rules,
-    ends: &Ends,
-    plan: &mut Plan,
-    blocks: &mut [Block],
-    d: usize,
-) -> Result<bool, NoMemory>
+fn moves_into(rules: &Rules, ends: &Ends, plan: &mut Work, blocks: &mut [Block], d: usize) -> bool
     requires searchable { AreSearchable rules.now ends.now }
     requires legal { IsLegal rules.now plan.old }
     requires chain { d < length plan.old.chains }
     requires room { length rules.now.units < 32 * length blocks.old }
-    ensures legal { IfOk result (λ yes. IsLegal rules.now plan.new) }
-    ensures shorter { IfOk result (λ yes. plan_length_of ends.now plan.new + cond yes 1 0 ≤ plan_length_of ends.now plan.old) }
+    ensures legal { IsLegal rules.now plan.new }
+    ensures shorter { plan_length_of ends.now plan.new + cond result 1 0 ≤ plan_length_of ends.now plan.old }
     ensures room { length blocks.new ≡ length blocks.old }
-    ensures quiet { IfOk result (λ yes. ¬ IsTrue yes → (plan.new ≡ plan.old) × ((c : ℕ) → c < length plan.old.chains → NoMoveBetween rules.now ends.now plan.old c d)) }
+    ensures quiet { ¬ IsTrue result → (plan.new ≡ plan.old) × ((c : ℕ) → c < length plan.old.chains → NoMoveBetween rules.now ends.now plan.old c d) }
 {
     fill_blocks(blocks, ends, d as u32, plan.chain(d));
     let mut again = false;
     for c in 0..plan.len() {
-        if moves_between(rules, ends, plan, blocks, c, d)? {
+        if moves_between(rules, ends, plan, blocks, c, d) {
             again = true;
         }
     }
-    Ok(again)
+    again
 }
 
 /// Goes once over all units and chains and moves each unit that a move makes the plan shorter by; tells whether there was
 /// one.
-pub(crate) fn move_pass(
-    rules: &Rules,
-    ends: &Ends,
-    plan: &mut Plan,
-    blocks: &mut [Block],
-) -> Result<bool, NoMemory>
+pub(crate) fn move_pass(rules: &Rules, ends: &Ends, plan: &mut Work, blocks: &mut [Block]) -> bool
     requires searchable { AreSearchable rules.now ends.now }
     requires legal { IsLegal rules.now plan.old }
     requires room { length rules.now.units < 32 * length blocks.old }
-    ensures legal { IfOk result (λ yes. IsLegal rules.now plan.new) }
-    ensures shorter { IfOk result (λ yes. plan_length_of ends.now plan.new + cond yes 1 0 ≤ plan_length_of ends.now plan.old) }
+    ensures legal { IsLegal rules.now plan.new }
+    ensures shorter { plan_length_of ends.now plan.new + cond result 1 0 ≤ plan_length_of ends.now plan.old }
     ensures room { length blocks.new ≡ length blocks.old }
-    ensures quiet { IfOk result (λ yes. ¬ IsTrue yes → (plan.new ≡ plan.old) × HasNoMove rules.now ends.now plan.old) }
+    ensures quiet { ¬ IsTrue result → (plan.new ≡ plan.old) × HasNoMove rules.now ends.now plan.old }
 {
     let mut again = false;
     for d in 0..plan.len() {
-        if moves_into(rules, ends, plan, blocks, d)? {
+        if moves_into(rules, ends, plan, blocks, d) {
             again = true;
         }
     }
-    Ok(again)
+    again
 }

@@ -13,23 +13,24 @@ ghost use Rattle.partition_moves.specs.Quiet.{HasNoSwap, NoCloserSwap};
 
 use crate::lift::{closer_place, lift_of};
 use crate::moves::are_together;
-use chain_rules::{Plan, Position, Rules, can_swap};
+use crate::work::Work;
+use chain_rules::{Position, Rules};
 use place_blocks::{Block, fill_blocks};
 use wire_cost::{Ends, entry_of, exit_of, point_after, point_before, wire};
 
 /// Whether an exchange that is told to be shorter or not is also legal.
-fn is_swap(rules: &Rules, plan: &Plan, shorter: bool, one: Position, other: Position) -> bool
+fn is_swap(rules: &Rules, plan: &Work, shorter: bool, one: Position, other: Position) -> bool
     requires legal { IsLegal rules.now plan.now }
     requires one { IsIn plan.now one }
     requires other { IsIn plan.now other }
     ensures value { IsTrue result ↔ (IsTrue shorter × IsLegal rules.now (swapped_plan plan.now one other)) }
 {
-    shorter && can_swap(rules, plan, one, other)
+    shorter && plan.can_swap(rules, one, other)
 }
 
 /// Whether the exchange of the units at place i of chain c and at place j of chain d makes the plan shorter and leaves it
 /// legal.
-fn is_gain(rules: &Rules, ends: &Ends, plan: &Plan, c: usize, i: usize, d: usize, j: usize) -> bool
+fn is_gain(rules: &Rules, ends: &Ends, plan: &Work, c: usize, i: usize, d: usize, j: usize) -> bool
     requires searchable { AreSearchable rules.now ends.now }
     requires legal { IsLegal rules.now plan.now }
     requires chain { c < length plan.now.chains }
@@ -70,7 +71,7 @@ fn is_gain(rules: &Rules, ends: &Ends, plan: &Plan, c: usize, i: usize, d: usize
 fn partner_for(
     rules: &Rules,
     ends: &Ends,
-    plan: &Plan,
+    plan: &Work,
     blocks: &[Block],
     c: usize,
     i: usize,
@@ -99,19 +100,8 @@ fn partner_for(
     None
 }
 
-/// Puts another unit at a place; the list serves as a place for the chain and is as before afterwards.
-fn replace(plan: &mut Plan, c: usize, i: usize, unit: u32, spare: &mut Vec<u32>)
-    requires chain { c < length plan.old.chains }
-    requires place { i < length (chain_at plan.old c) }
-    ensures value { plan.new ≡ with_chain plan.old c (slice_set (chain_at plan.old c) i unit) }
-{
-    plan.exchange(c, spare);
-    spare[i] = unit;
-    plan.exchange(c, spare);
-}
-
 /// Exchanges two units of two chains.
-fn swap_units(plan: &mut Plan, c: usize, i: usize, d: usize, j: usize, spare: &mut Vec<u32>)
+fn swap_units(plan: &mut Work, c: usize, i: usize, d: usize, j: usize)
     requires chain { c < length plan.old.chains }
     requires place { i < length (chain_at plan.old c) }
     requires other { d < length plan.old.chains }
@@ -121,17 +111,16 @@ fn swap_units(plan: &mut Plan, c: usize, i: usize, d: usize, j: usize, spare: &m
 {
     let one = plan.chain(c)[i];
     let two = plan.chain(d)[j];
-    replace(plan, c, i, two, spare);
-    replace(plan, d, j, one, spare);
+    plan.replace(c, i, two);
+    plan.replace(d, j, one);
 }
 
 /// Exchanges two units, as the plan gets shorter by, and fills in the blocks of the chain of the latter.
 fn take_swap(
     rules: &Rules,
     ends: &Ends,
-    plan: &mut Plan,
+    plan: &mut Work,
     blocks: &mut [Block],
-    spare: &mut Vec<u32>,
     c: usize,
     i: usize,
     d: usize,
@@ -151,7 +140,7 @@ fn take_swap(
     ensures blocks { AreBlocks (chain_ends ends.now d) (chain_at plan.new d) blocks.new }
     ensures room { length blocks.new ≡ length blocks.old }
 {
-    swap_units(plan, c, i, d, j, spare);
+    swap_units(plan, c, i, d, j);
     fill_blocks(blocks, ends, d as u32, plan.chain(d));
 }
 
@@ -160,9 +149,8 @@ fn take_swap(
 fn swaps_between(
     rules: &Rules,
     ends: &Ends,
-    plan: &mut Plan,
+    plan: &mut Work,
     blocks: &mut [Block],
-    spare: &mut Vec<u32>,
     c: usize,
     d: usize,
 ) -> bool
@@ -185,7 +173,7 @@ fn swaps_between(
     for i in 0..plan.chain(c).len() {
         if i < plan.chain(c).len() {
             if let Some(j) = partner_for(rules, ends, plan, blocks, c, i, d) {
-                take_swap(rules, ends, plan, blocks, spare, c, i, d, j);
+                take_swap(rules, ends, plan, blocks, c, i, d, j);
                 again = true;
             }
         }
@@ -195,14 +183,7 @@ fn swaps_between(
 
 /// Exchanges each unit once with one of chain d, where such an exchange makes the plan shorter, and tells
 /// whether one did.
-fn swaps_into(
-    rules: &Rules,
-    ends: &Ends,
-    plan: &mut Plan,
-    blocks: &mut [Block],
-    spare: &mut Vec<u32>,
-    d: usize,
-) -> bool
+fn swaps_into(rules: &Rules, ends: &Ends, plan: &mut Work, blocks: &mut [Block], d: usize) -> bool
     requires searchable { AreSearchable rules.now ends.now }
     requires legal { IsLegal rules.now plan.old }
     requires chain { d < length plan.old.chains }
@@ -215,7 +196,7 @@ fn swaps_into(
     fill_blocks(blocks, ends, d as u32, plan.chain(d));
     let mut again = false;
     for c in 0..plan.len() {
-        if swaps_between(rules, ends, plan, blocks, spare, c, d) {
+        if swaps_between(rules, ends, plan, blocks, c, d) {
             again = true;
         }
     }
@@ -223,13 +204,7 @@ fn swaps_into(
 }
 
 /// Goes once over all units and exchanges each that an exchange makes the plan shorter by; tells whether there was one.
-pub(crate) fn swap_pass(
-    rules: &Rules,
-    ends: &Ends,
-    plan: &mut Plan,
-    blocks: &mut [Block],
-    spare: &mut Vec<u32>,
-) -> bool
+pub(crate) fn swap_pass(rules: &Rules, ends: &Ends, plan: &mut Work, blocks: &mut [Block]) -> bool
     requires searchable { AreSearchable rules.now ends.now }
     requires legal { IsLegal rules.now plan.old }
     requires room { length rules.now.units < 32 * length blocks.old }
@@ -240,7 +215,7 @@ pub(crate) fn swap_pass(
 {
     let mut again = false;
     for d in 0..plan.len() {
-        if swaps_into(rules, ends, plan, blocks, spare, d) {
+        if swaps_into(rules, ends, plan, blocks, d) {
             again = true;
         }
     }

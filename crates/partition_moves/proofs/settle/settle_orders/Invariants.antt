@@ -1,0 +1,9 @@
+use Rattle.std.proofs.Common.{◌≡◌}
+use Rattle.order_search.proofs.Settling.{IsTurnedUpTo}
+use Rattle.partition_moves.proofs.settle.settle_orders.Given as goal
+
+abbrev pub invariant-loop-c : goal.invariant-loop-c
+invariant-loop-c l = record {
+  turned : IsTurnedUpTo l.rules l.ends l.fn.plan l.plan l.c;
+  same_room : l.sums.room ≡ l.fn.sums.room;
+}

@@ -1,0 +1,11 @@
+-- When room suffices for settling a plan.
+use Rattle.std.specs.Prelude.{◌≡◌, ◌*◌, ◌<◌, ◌≤◌, length}
+use Rattle.chain_rules.specs.declared.plan.Plan.{Plan}
+use Rattle.chain_rules.specs.declared.unit.Rules.{Rules}
+use Rattle.partition_moves.specs.declared.room.Room.{Room as SettlingRoom}
+
+-- the room holds the plan, a block for each 32 places of a chain, and sums for a chain of all units
+pub record IsRoomFor (rules : Rules) (p : Plan) (room : SettlingRoom) : Type 0 where
+  pub plan : room.work ≡ p
+  pub blocks : length rules.units < 32 * length room.blocks.items
+  pub sums : length rules.units ≤ room.sums.room
