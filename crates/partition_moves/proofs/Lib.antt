@@ -1,4 +1,5 @@
 pub mod Exchanged
+pub mod Fitting
 pub mod Gains
 pub mod Landing
 pub mod Settled

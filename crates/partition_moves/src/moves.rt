@@ -9,6 +9,7 @@ ghost use Rattle.order_search.specs.Searches.{AreSearchable};
 ghost use Rattle.order_search.specs.Trials.{IsGain, NoMoveTo, at};
 ghost use Rattle.partition_moves.specs.Links.{IsApart, Lands};
 ghost use Rattle.partition_moves.specs.Quiet.{HasNoMove, NoMoveBetween};
+ghost use Rattle.partition_moves.specs.Roomy.{AreRoomyFor};
 
 use crate::lift::{Lift, lift_of, shorter_place};
 use crate::work::Work;
@@ -36,19 +37,19 @@ fn landing(c: usize, i: usize, d: usize, k: usize) -> usize
 /// The place in chain d, without the unit at place i of chain c, where that unit stands if it is put at the place k of
 /// chain d; none if it may not stand there or stays where it is.
 fn open_place(rules: &Rules, plan: &Work, c: usize, i: usize, d: usize, k: usize) -> Option<usize>
-    requires legal { IsLegal rules.now plan.now }
-    requires chain { c < length plan.now.chains }
-    requires place { i < length (chain_at plan.now c) }
-    requires few { length (chain_at plan.now c) ≤ 65536 }
-    requires few_chains { length plan.now.chains ≤ 65536 }
-    requires other { d < length plan.now.chains }
-    requires others_few { length (chain_at plan.now d) ≤ 65536 }
-    requires within { k ≤ length (chain_at plan.now d) }
+    requires legal { IsLegal rules.now plan.now.plan }
+    requires chain { c < length plan.now.plan.chains }
+    requires place { i < length (chain_at plan.now.plan c) }
+    requires few { length (chain_at plan.now.plan c) ≤ 65536 }
+    requires few_chains { length plan.now.plan.chains ≤ 65536 }
+    requires other { d < length plan.now.plan.chains }
+    requires others_few { length (chain_at plan.now.plan d) ≤ 65536 }
+    requires within { k ≤ length (chain_at plan.now.plan d) }
     ensures lands { IfSome result (λ j. Lands c i d k j) }
-    ensures open { IfSome result (λ j. j ≤ length (chain_at (taken_out plan.now (at c i)) d)) }
+    ensures open { IfSome result (λ j. j ≤ length (chain_at (taken_out plan.now.plan (at c i)) d)) }
     ensures apart { IfSome result (λ j. IsApart c i d k) }
-    ensures legal { IfSome result (λ j. IsLegal rules.now (moved_plan plan.now (at c i) (at d j))) }
-    ensures none { IfNone result ((j : ℕ) → Lands c i d k j → IsApart c i d k → ¬ IsLegal rules.now (moved_plan plan.now (at c i) (at d j))) }
+    ensures legal { IfSome result (λ j. IsLegal rules.now (moved_plan plan.now.plan (at c i) (at d j))) }
+    ensures none { IfNone result ((j : ℕ) → Lands c i d k j → IsApart c i d k → ¬ IsLegal rules.now (moved_plan plan.now.plan (at c i) (at d j))) }
 {
     if c == d && (k == i || k == i + 1) {
         return None;
@@ -80,15 +81,15 @@ fn place_for(
     d: usize,
 ) -> Option<usize>
     requires searchable { AreSearchable rules.now ends.now }
-    requires legal { IsLegal rules.now plan.now }
-    requires chain { c < length plan.now.chains }
-    requires place { i < length (chain_at plan.now c) }
-    requires other { d < length plan.now.chains }
+    requires legal { IsLegal rules.now plan.now.plan }
+    requires chain { c < length plan.now.plan.chains }
+    requires place { i < length (chain_at plan.now.plan c) }
+    requires other { d < length plan.now.plan.chains }
     requires room { length rules.now.units < 32 * length blocks.now }
-    requires blocks { AreBlocks (chain_ends ends.now d) (chain_at plan.now d) blocks.now }
-    ensures open { IfSome result (λ j. j ≤ length (chain_at (taken_out plan.now (at c i)) d)) }
-    ensures found { IfSome result (λ j. IsGain rules.now ends.now plan.now (moved_plan plan.now (at c i) (at d j))) }
-    ensures none { IfNone result (NoMoveTo rules.now ends.now plan.now c i d) }
+    requires blocks { AreBlocks (chain_ends ends.now d) (chain_at plan.now.plan d) blocks.now }
+    ensures open { IfSome result (λ j. j ≤ length (chain_at (taken_out plan.now.plan (at c i)) d)) }
+    ensures found { IfSome result (λ j. IsGain rules.now ends.now plan.now.plan (moved_plan plan.now.plan (at c i) (at d j))) }
+    ensures none { IfNone result (NoMoveTo rules.now ends.now plan.now.plan c i d) }
 {
     let others = plan.chain(d);
     let lift = lift_of(ends, c as u32, plan.chain(c), i);
@@ -114,16 +115,18 @@ fn take_move(
     j: usize,
 )
     requires searchable { AreSearchable rules.now ends.now }
-    requires legal { IsLegal rules.now plan.old }
-    requires chain { c < length plan.old.chains }
-    requires place { i < length (chain_at plan.old c) }
-    requires other { d < length plan.old.chains }
-    requires open { j ≤ length (chain_at (taken_out plan.old (at c i)) d) }
-    requires gain { IsGain rules.now ends.now plan.old (moved_plan plan.old (at c i) (at d j)) }
+    requires legal { IsLegal rules.now plan.old.plan }
+    requires roomy { AreRoomyFor rules.now plan.old.rooms }
+    requires chain { c < length plan.old.plan.chains }
+    requires place { i < length (chain_at plan.old.plan c) }
+    requires other { d < length plan.old.plan.chains }
+    requires open { j ≤ length (chain_at (taken_out plan.old.plan (at c i)) d) }
+    requires gain { IsGain rules.now ends.now plan.old.plan (moved_plan plan.old.plan (at c i) (at d j)) }
     requires room { length rules.now.units < 32 * length blocks.old }
-    ensures legal { IsLegal rules.now plan.new }
-    ensures shorter { plan_length_of ends.now plan.new < plan_length_of ends.now plan.old }
-    ensures blocks { AreBlocks (chain_ends ends.now d) (chain_at plan.new d) blocks.new }
+    ensures legal { IsLegal rules.now plan.new.plan }
+    ensures roomy { AreRoomyFor rules.now plan.new.rooms }
+    ensures shorter { plan_length_of ends.now plan.new.plan < plan_length_of ends.now plan.old.plan }
+    ensures blocks { AreBlocks (chain_ends ends.now d) (chain_at plan.new.plan d) blocks.new }
     ensures room { length blocks.new ≡ length blocks.old }
 {
     plan.move_unit(c, i, d, j);
@@ -141,16 +144,18 @@ fn move_one(
     d: usize,
 ) -> bool
     requires searchable { AreSearchable rules.now ends.now }
-    requires legal { IsLegal rules.now plan.old }
-    requires chain { c < length plan.old.chains }
-    requires other { d < length plan.old.chains }
+    requires legal { IsLegal rules.now plan.old.plan }
+    requires roomy { AreRoomyFor rules.now plan.old.rooms }
+    requires chain { c < length plan.old.plan.chains }
+    requires other { d < length plan.old.plan.chains }
     requires room { length rules.now.units < 32 * length blocks.old }
-    requires blocks { AreBlocks (chain_ends ends.now d) (chain_at plan.old d) blocks.old }
-    ensures legal { IsLegal rules.now plan.new }
-    ensures shorter { plan_length_of ends.now plan.new + cond result 1 0 ≤ plan_length_of ends.now plan.old }
+    requires blocks { AreBlocks (chain_ends ends.now d) (chain_at plan.old.plan d) blocks.old }
+    ensures legal { IsLegal rules.now plan.new.plan }
+    ensures roomy { AreRoomyFor rules.now plan.new.rooms }
+    ensures shorter { plan_length_of ends.now plan.new.plan + cond result 1 0 ≤ plan_length_of ends.now plan.old.plan }
     ensures room { length blocks.new ≡ length blocks.old }
-    ensures blocks { AreBlocks (chain_ends ends.now d) (chain_at plan.new d) blocks.new }
-    ensures quiet { ¬ IsTrue result → (plan.new ≡ plan.old) × (i < length (chain_at plan.old c) → NoMoveTo rules.now ends.now plan.old c i d) }
+    ensures blocks { AreBlocks (chain_ends ends.now d) (chain_at plan.new.plan d) blocks.new }
+    ensures quiet { ¬ IsTrue result → (plan.new.plan ≡ plan.old.plan) × (i < length (chain_at plan.old.plan c) → NoMoveTo rules.now ends.now plan.old.plan c i d) }
 {
     if plan.chain(c).len() <= i {
         return false;
@@ -173,16 +178,18 @@ fn moves_between(
     d: usize,
 ) -> bool
     requires searchable { AreSearchable rules.now ends.now }
-    requires legal { IsLegal rules.now plan.old }
-    requires chain { c < length plan.old.chains }
-    requires other { d < length plan.old.chains }
+    requires legal { IsLegal rules.now plan.old.plan }
+    requires roomy { AreRoomyFor rules.now plan.old.rooms }
+    requires chain { c < length plan.old.plan.chains }
+    requires other { d < length plan.old.plan.chains }
     requires room { length rules.now.units < 32 * length blocks.old }
-    requires blocks { AreBlocks (chain_ends ends.now d) (chain_at plan.old d) blocks.old }
-    ensures legal { IsLegal rules.now plan.new }
-    ensures shorter { plan_length_of ends.now plan.new + cond result 1 0 ≤ plan_length_of ends.now plan.old }
+    requires blocks { AreBlocks (chain_ends ends.now d) (chain_at plan.old.plan d) blocks.old }
+    ensures legal { IsLegal rules.now plan.new.plan }
+    ensures roomy { AreRoomyFor rules.now plan.new.rooms }
+    ensures shorter { plan_length_of ends.now plan.new.plan + cond result 1 0 ≤ plan_length_of ends.now plan.old.plan }
     ensures room { length blocks.new ≡ length blocks.old }
-    ensures blocks { AreBlocks (chain_ends ends.now d) (chain_at plan.new d) blocks.new }
-    ensures quiet { ¬ IsTrue result → (plan.new ≡ plan.old) × NoMoveBetween rules.now ends.now plan.old c d }
+    ensures blocks { AreBlocks (chain_ends ends.now d) (chain_at plan.new.plan d) blocks.new }
+    ensures quiet { ¬ IsTrue result → (plan.new.plan ≡ plan.old.plan) × NoMoveBetween rules.now ends.now plan.old.plan c d }
 {
     if !are_together(rules, c, d) {
         return false;
@@ -199,13 +206,15 @@ fn moves_between(
 /// Moves each unit once to chain d, where such a move makes the plan shorter, and tells whether one did.
 fn moves_into(rules: &Rules, ends: &Ends, plan: &mut Work, blocks: &mut [Block], d: usize) -> bool
     requires searchable { AreSearchable rules.now ends.now }
-    requires legal { IsLegal rules.now plan.old }
-    requires chain { d < length plan.old.chains }
+    requires legal { IsLegal rules.now plan.old.plan }
+    requires roomy { AreRoomyFor rules.now plan.old.rooms }
+    requires chain { d < length plan.old.plan.chains }
     requires room { length rules.now.units < 32 * length blocks.old }
-    ensures legal { IsLegal rules.now plan.new }
-    ensures shorter { plan_length_of ends.now plan.new + cond result 1 0 ≤ plan_length_of ends.now plan.old }
+    ensures legal { IsLegal rules.now plan.new.plan }
+    ensures roomy { AreRoomyFor rules.now plan.new.rooms }
+    ensures shorter { plan_length_of ends.now plan.new.plan + cond result 1 0 ≤ plan_length_of ends.now plan.old.plan }
     ensures room { length blocks.new ≡ length blocks.old }
-    ensures quiet { ¬ IsTrue result → (plan.new ≡ plan.old) × ((c : ℕ) → c < length plan.old.chains → NoMoveBetween rules.now ends.now plan.old c d) }
+    ensures quiet { ¬ IsTrue result → (plan.new.plan ≡ plan.old.plan) × ((c : ℕ) → c < length plan.old.plan.chains → NoMoveBetween rules.now ends.now plan.old.plan c d) }
 {
     fill_blocks(blocks, ends, d as u32, plan.chain(d));
     let mut again = false;
@@ -221,12 +230,14 @@ fn moves_into(rules: &Rules, ends: &Ends, plan: &mut Work, blocks: &mut [Block],
 /// one.
 pub(crate) fn move_pass(rules: &Rules, ends: &Ends, plan: &mut Work, blocks: &mut [Block]) -> bool
     requires searchable { AreSearchable rules.now ends.now }
-    requires legal { IsLegal rules.now plan.old }
+    requires legal { IsLegal rules.now plan.old.plan }
+    requires roomy { AreRoomyFor rules.now plan.old.rooms }
     requires room { length rules.now.units < 32 * length blocks.old }
-    ensures legal { IsLegal rules.now plan.new }
-    ensures shorter { plan_length_of ends.now plan.new + cond result 1 0 ≤ plan_length_of ends.now plan.old }
+    ensures legal { IsLegal rules.now plan.new.plan }
+    ensures roomy { AreRoomyFor rules.now plan.new.rooms }
+    ensures shorter { plan_length_of ends.now plan.new.plan + cond result 1 0 ≤ plan_length_of ends.now plan.old.plan }
     ensures room { length blocks.new ≡ length blocks.old }
-    ensures quiet { ¬ IsTrue result → (plan.new ≡ plan.old) × HasNoMove rules.now ends.now plan.old }
+    ensures quiet { ¬ IsTrue result → (plan.new.plan ≡ plan.old.plan) × HasNoMove rules.now ends.now plan.old.plan }
 {
     let mut again = false;
     for d in 0..plan.len() {

@@ -9,8 +9,8 @@ use place_blocks::{Block, PLACES, no_block};
 use std::alloc::Global;
 use wire_cost::Sums;
 
-/// A copy of a plan in which each chain has room for all units, with room for the bounds of a chain's places and for the
-/// sums of its links.
+/// A copy of a plan in which each chain has room for the most units that it may hold, with room for the bounds of a chain's
+/// places and for the sums of its links.
 #[derive(Debug, Drop)]
 pub struct Room {
     pub(crate) work: Work,
@@ -27,7 +27,7 @@ impl Room {
         ensures room { IfOk result (λ room. IsRoomFor rules.now plan.now room) }
     {
         let units = rules.units.as_slice().len();
-        let work = Work::make(alloc, plan, units)?;
+        let work = Work::make(alloc, rules, plan)?;
         let blocks = vec![in alloc; no_block(); units / PLACES + 1]?;
         let sums = Sums::make(alloc, units)?;
         Ok(Room { work, blocks, sums })

@@ -5,6 +5,7 @@ ghost use Rattle.wire_cost.specs.Lengths.{plan_length_of};
 ghost use Rattle.order_search.specs.Searches.{AreSearchable};
 ghost use Rattle.order_search.specs.Steps.{IsSettled};
 ghost use Rattle.order_search.specs.declared.effort.Effort.TheVariants.{Full, Order};
+ghost use Rattle.partition_moves.specs.Roomy.{AreRoomyFor};
 ghost use Rattle.partition_moves.specs.Within.{IsRoomFor};
 
 use crate::moves::move_pass;
@@ -20,11 +21,13 @@ use wire_cost::{Ends, Sums};
 /// Reverses runs of units within the chains until none makes the plan shorter.
 fn settle_orders(rules: &Rules, ends: &Ends, plan: &mut Work, sums: &mut Sums)
     requires searchable { AreSearchable rules.now ends.now }
-    requires legal { IsLegal rules.now plan.old }
+    requires legal { IsLegal rules.now plan.old.plan }
+    requires roomy { AreRoomyFor rules.now plan.old.rooms }
     requires sums { length rules.now.units ≤ sums.old.room }
-    ensures legal { IsLegal rules.now plan.new }
-    ensures no_longer { plan_length_of ends.now plan.new ≤ plan_length_of ends.now plan.old }
-    ensures settled { IsSettled Order rules.now ends.now plan.new }
+    ensures legal { IsLegal rules.now plan.new.plan }
+    ensures roomy { AreRoomyFor rules.now plan.new.rooms }
+    ensures no_longer { plan_length_of ends.now plan.new.plan ≤ plan_length_of ends.now plan.old.plan }
+    ensures settled { IsSettled Order rules.now ends.now plan.new.plan }
     ensures room { sums.new.room ≡ sums.old.room }
 {
     for c in 0..plan.len() {
@@ -35,12 +38,13 @@ fn settle_orders(rules: &Rules, ends: &Ends, plan: &mut Work, sums: &mut Sums)
 /// Takes steps until none makes the plan shorter.
 fn settle_steps(rules: &Rules, ends: &Ends, plan: &mut Work, blocks: &mut [Block], sums: &mut Sums)
     requires searchable { AreSearchable rules.now ends.now }
-    requires legal { IsLegal rules.now plan.old }
+    requires legal { IsLegal rules.now plan.old.plan }
+    requires roomy { AreRoomyFor rules.now plan.old.rooms }
     requires room { length rules.now.units < 32 * length blocks.old }
     requires sums { length rules.now.units ≤ sums.old.room }
-    ensures legal { IsLegal rules.now plan.new }
-    ensures no_longer { plan_length_of ends.now plan.new ≤ plan_length_of ends.now plan.old }
-    ensures settled { IsSettled Full rules.now ends.now plan.new }
+    ensures legal { IsLegal rules.now plan.new.plan }
+    ensures no_longer { plan_length_of ends.now plan.new.plan ≤ plan_length_of ends.now plan.old.plan }
+    ensures settled { IsSettled Full rules.now ends.now plan.new.plan }
 {
     let mut again = true;
     'passes: while again {

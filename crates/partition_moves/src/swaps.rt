@@ -10,6 +10,7 @@ ghost use Rattle.order_search.specs.Searches.{AreSearchable};
 ghost use Rattle.order_search.specs.Trials.{IsGain, at};
 ghost use Rattle.partition_moves.specs.Links.{NoCloserSwapAt};
 ghost use Rattle.partition_moves.specs.Quiet.{HasNoSwap, NoCloserSwap};
+ghost use Rattle.partition_moves.specs.Roomy.{AreRoomyFor};
 
 use crate::lift::{closer_place, lift_of};
 use crate::moves::are_together;
@@ -20,10 +21,10 @@ use wire_cost::{Ends, entry_of, exit_of, point_after, point_before, wire};
 
 /// Whether an exchange that is told to be shorter or not is also legal.
 fn is_swap(rules: &Rules, plan: &Work, shorter: bool, one: Position, other: Position) -> bool
-    requires legal { IsLegal rules.now plan.now }
-    requires one { IsIn plan.now one }
-    requires other { IsIn plan.now other }
-    ensures value { IsTrue result ↔ (IsTrue shorter × IsLegal rules.now (swapped_plan plan.now one other)) }
+    requires legal { IsLegal rules.now plan.now.plan }
+    requires one { IsIn plan.now.plan one }
+    requires other { IsIn plan.now.plan other }
+    ensures value { IsTrue result ↔ (IsTrue shorter × IsLegal rules.now (swapped_plan plan.now.plan one other)) }
 {
     shorter && plan.can_swap(rules, one, other)
 }
@@ -32,13 +33,13 @@ fn is_swap(rules: &Rules, plan: &Work, shorter: bool, one: Position, other: Posi
 /// legal.
 fn is_gain(rules: &Rules, ends: &Ends, plan: &Work, c: usize, i: usize, d: usize, j: usize) -> bool
     requires searchable { AreSearchable rules.now ends.now }
-    requires legal { IsLegal rules.now plan.now }
-    requires chain { c < length plan.now.chains }
-    requires place { i < length (chain_at plan.now c) }
-    requires other { d < length plan.now.chains }
-    requires there { j < length (chain_at plan.now d) }
+    requires legal { IsLegal rules.now plan.now.plan }
+    requires chain { c < length plan.now.plan.chains }
+    requires place { i < length (chain_at plan.now.plan c) }
+    requires other { d < length plan.now.plan.chains }
+    requires there { j < length (chain_at plan.now.plan d) }
     requires apart { c ≢ d }
-    ensures value { IsTrue result ↔ IsGain rules.now ends.now plan.now (swapped_plan plan.now (at c i) (at d j)) }
+    ensures value { IsTrue result ↔ IsGain rules.now ends.now plan.now.plan (swapped_plan plan.now.plan (at c i) (at d j)) }
 {
     let us = plan.chain(c);
     let ws = plan.chain(d);
@@ -78,15 +79,15 @@ fn partner_for(
     d: usize,
 ) -> Option<usize>
     requires searchable { AreSearchable rules.now ends.now }
-    requires legal { IsLegal rules.now plan.now }
-    requires chain { c < length plan.now.chains }
-    requires place { i < length (chain_at plan.now c) }
-    requires other { d < length plan.now.chains }
+    requires legal { IsLegal rules.now plan.now.plan }
+    requires chain { c < length plan.now.plan.chains }
+    requires place { i < length (chain_at plan.now.plan c) }
+    requires other { d < length plan.now.plan.chains }
     requires apart { c ≢ d }
     requires room { length rules.now.units < 32 * length blocks.now }
-    requires blocks { AreBlocks (chain_ends ends.now d) (chain_at plan.now d) blocks.now }
-    ensures found { IfSome result (λ j. (j < length (chain_at plan.now d)) × IsGain rules.now ends.now plan.now (swapped_plan plan.now (at c i) (at d j))) }
-    ensures none { IfNone result ((k : ℕ) → k < length (chain_at plan.now d) → NoCloserSwapAt rules.now ends.now plan.now c i d k) }
+    requires blocks { AreBlocks (chain_ends ends.now d) (chain_at plan.now.plan d) blocks.now }
+    ensures found { IfSome result (λ j. (j < length (chain_at plan.now.plan d)) × IsGain rules.now ends.now plan.now.plan (swapped_plan plan.now.plan (at c i) (at d j))) }
+    ensures none { IfNone result ((k : ℕ) → k < length (chain_at plan.now.plan d) → NoCloserSwapAt rules.now ends.now plan.now.plan c i d k) }
 {
     let others = plan.chain(d);
     let lift = lift_of(ends, c as u32, plan.chain(c), i);
@@ -102,12 +103,13 @@ fn partner_for(
 
 /// Exchanges two units of two chains.
 fn swap_units(plan: &mut Work, c: usize, i: usize, d: usize, j: usize)
-    requires chain { c < length plan.old.chains }
-    requires place { i < length (chain_at plan.old c) }
-    requires other { d < length plan.old.chains }
-    requires there { j < length (chain_at plan.old d) }
+    requires chain { c < length plan.old.plan.chains }
+    requires place { i < length (chain_at plan.old.plan c) }
+    requires other { d < length plan.old.plan.chains }
+    requires there { j < length (chain_at plan.old.plan d) }
     requires apart { c ≢ d }
-    ensures value { plan.new ≡ swapped_plan plan.old (at c i) (at d j) }
+    ensures value { plan.new.plan ≡ swapped_plan plan.old.plan (at c i) (at d j) }
+    ensures rooms { plan.new.rooms ≡ plan.old.rooms }
 {
     let one = plan.chain(c)[i];
     let two = plan.chain(d)[j];
@@ -127,17 +129,19 @@ fn take_swap(
     j: usize,
 )
     requires searchable { AreSearchable rules.now ends.now }
-    requires legal { IsLegal rules.now plan.old }
-    requires chain { c < length plan.old.chains }
-    requires place { i < length (chain_at plan.old c) }
-    requires other { d < length plan.old.chains }
-    requires there { j < length (chain_at plan.old d) }
+    requires legal { IsLegal rules.now plan.old.plan }
+    requires roomy { AreRoomyFor rules.now plan.old.rooms }
+    requires chain { c < length plan.old.plan.chains }
+    requires place { i < length (chain_at plan.old.plan c) }
+    requires other { d < length plan.old.plan.chains }
+    requires there { j < length (chain_at plan.old.plan d) }
     requires apart { c ≢ d }
-    requires gain { IsGain rules.now ends.now plan.old (swapped_plan plan.old (at c i) (at d j)) }
+    requires gain { IsGain rules.now ends.now plan.old.plan (swapped_plan plan.old.plan (at c i) (at d j)) }
     requires room { length rules.now.units < 32 * length blocks.old }
-    ensures legal { IsLegal rules.now plan.new }
-    ensures shorter { plan_length_of ends.now plan.new < plan_length_of ends.now plan.old }
-    ensures blocks { AreBlocks (chain_ends ends.now d) (chain_at plan.new d) blocks.new }
+    ensures legal { IsLegal rules.now plan.new.plan }
+    ensures roomy { AreRoomyFor rules.now plan.new.rooms }
+    ensures shorter { plan_length_of ends.now plan.new.plan < plan_length_of ends.now plan.old.plan }
+    ensures blocks { AreBlocks (chain_ends ends.now d) (chain_at plan.new.plan d) blocks.new }
     ensures room { length blocks.new ≡ length blocks.old }
 {
     swap_units(plan, c, i, d, j);
@@ -155,16 +159,18 @@ fn swaps_between(
     d: usize,
 ) -> bool
     requires searchable { AreSearchable rules.now ends.now }
-    requires legal { IsLegal rules.now plan.old }
-    requires chain { c < length plan.old.chains }
-    requires other { d < length plan.old.chains }
+    requires legal { IsLegal rules.now plan.old.plan }
+    requires roomy { AreRoomyFor rules.now plan.old.rooms }
+    requires chain { c < length plan.old.plan.chains }
+    requires other { d < length plan.old.plan.chains }
     requires room { length rules.now.units < 32 * length blocks.old }
-    requires blocks { AreBlocks (chain_ends ends.now d) (chain_at plan.old d) blocks.old }
-    ensures legal { IsLegal rules.now plan.new }
-    ensures shorter { plan_length_of ends.now plan.new + cond result 1 0 ≤ plan_length_of ends.now plan.old }
+    requires blocks { AreBlocks (chain_ends ends.now d) (chain_at plan.old.plan d) blocks.old }
+    ensures legal { IsLegal rules.now plan.new.plan }
+    ensures roomy { AreRoomyFor rules.now plan.new.rooms }
+    ensures shorter { plan_length_of ends.now plan.new.plan + cond result 1 0 ≤ plan_length_of ends.now plan.old.plan }
     ensures room { length blocks.new ≡ length blocks.old }
-    ensures blocks { AreBlocks (chain_ends ends.now d) (chain_at plan.new d) blocks.new }
-    ensures quiet { ¬ IsTrue result → (plan.new ≡ plan.old) × NoCloserSwap rules.now ends.now plan.old c d }
+    ensures blocks { AreBlocks (chain_ends ends.now d) (chain_at plan.new.plan d) blocks.new }
+    ensures quiet { ¬ IsTrue result → (plan.new.plan ≡ plan.old.plan) × NoCloserSwap rules.now ends.now plan.old.plan c d }
 {
     if c == d || !are_together(rules, c, d) {
         return false;
@@ -185,13 +191,15 @@ fn swaps_between(
 /// whether one did.
 fn swaps_into(rules: &Rules, ends: &Ends, plan: &mut Work, blocks: &mut [Block], d: usize) -> bool
     requires searchable { AreSearchable rules.now ends.now }
-    requires legal { IsLegal rules.now plan.old }
-    requires chain { d < length plan.old.chains }
+    requires legal { IsLegal rules.now plan.old.plan }
+    requires roomy { AreRoomyFor rules.now plan.old.rooms }
+    requires chain { d < length plan.old.plan.chains }
     requires room { length rules.now.units < 32 * length blocks.old }
-    ensures legal { IsLegal rules.now plan.new }
-    ensures shorter { plan_length_of ends.now plan.new + cond result 1 0 ≤ plan_length_of ends.now plan.old }
+    ensures legal { IsLegal rules.now plan.new.plan }
+    ensures roomy { AreRoomyFor rules.now plan.new.rooms }
+    ensures shorter { plan_length_of ends.now plan.new.plan + cond result 1 0 ≤ plan_length_of ends.now plan.old.plan }
     ensures room { length blocks.new ≡ length blocks.old }
-    ensures quiet { ¬ IsTrue result → (plan.new ≡ plan.old) × ((c : ℕ) → c < length plan.old.chains → NoCloserSwap rules.now ends.now plan.old c d) }
+    ensures quiet { ¬ IsTrue result → (plan.new.plan ≡ plan.old.plan) × ((c : ℕ) → c < length plan.old.plan.chains → NoCloserSwap rules.now ends.now plan.old.plan c d) }
 {
     fill_blocks(blocks, ends, d as u32, plan.chain(d));
     let mut again = false;
@@ -206,12 +214,14 @@ fn swaps_into(rules: &Rules, ends: &Ends, plan: &mut Work, blocks: &mut [Block],
 /// Goes once over all units and exchanges each that an exchange makes the plan shorter by; tells whether there was one.
 pub(crate) fn swap_pass(rules: &Rules, ends: &Ends, plan: &mut Work, blocks: &mut [Block]) -> bool
     requires searchable { AreSearchable rules.now ends.now }
-    requires legal { IsLegal rules.now plan.old }
+    requires legal { IsLegal rules.now plan.old.plan }
+    requires roomy { AreRoomyFor rules.now plan.old.rooms }
     requires room { length rules.now.units < 32 * length blocks.old }
-    ensures legal { IsLegal rules.now plan.new }
-    ensures shorter { plan_length_of ends.now plan.new + cond result 1 0 ≤ plan_length_of ends.now plan.old }
+    ensures legal { IsLegal rules.now plan.new.plan }
+    ensures roomy { AreRoomyFor rules.now plan.new.rooms }
+    ensures shorter { plan_length_of ends.now plan.new.plan + cond result 1 0 ≤ plan_length_of ends.now plan.old.plan }
     ensures room { length blocks.new ≡ length blocks.old }
-    ensures quiet { ¬ IsTrue result → (plan.new ≡ plan.old) × HasNoSwap rules.now ends.now plan.old }
+    ensures quiet { ¬ IsTrue result → (plan.new.plan ≡ plan.old.plan) × HasNoSwap rules.now ends.now plan.old.plan }
 {
     let mut again = false;
     for d in 0..plan.len() {

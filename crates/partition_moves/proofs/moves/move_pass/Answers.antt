@@ -9,6 +9,7 @@ pub loop-d-preserved : goal.loop-d-preserved
 loop-d-preserved c = elim c.if-moves_into.branch [
   | then-moves_into w ↦ record {
     legal = c.moves_into.ensures.legal;
+    roomy = c.moves_into.ensures.roomy;
     room = omega (arith, c.moves_into.ensures.room, c.loop-d.invariant.room);
     shorter = omega (arith, ap {B = ℕ} (λ (b : Bool). cond b 1 0) w.again-is, ap {B = ℕ} (λ (b : Bool). cond b 1 0) w.if-moves_into.true, c.moves_into.ensures.shorter, c.loop-d.invariant.shorter);
     same = λ e. absurd (not_both c.if-moves_into.again w.again-is e);
@@ -16,9 +17,10 @@ loop-d-preserved c = elim c.if-moves_into.branch [
   }
   | else-moves_into w ↦ record {
     legal = c.moves_into.ensures.legal;
+    roomy = c.moves_into.ensures.roomy;
     room = omega (arith, c.moves_into.ensures.room, c.loop-d.invariant.room);
     shorter = omega (arith, ap {B = ℕ} (λ (b : Bool). cond b 1 0) w.again-is, ap {B = ℕ} (λ (b : Bool). cond b 1 0) w.if-moves_into.false, c.moves_into.ensures.shorter, c.loop-d.invariant.shorter);
     same = λ e. (c.moves_into.ensures.quiet (not_true c.moves_into.result w.if-moves_into.false)).0 ∙ c.loop-d.invariant.same (sym w.again-is ∙ e);
-    quiet = λ e. still_quiet (λ (q : Plan) (k : ℕ). (n : ℕ) → n < length q.chains → NoMoveBetween c.args.rules.now c.args.ends.now q n k) c.args.plan.now c.loop-d.plan c.loop-d.d (c.loop-d.invariant.same (sym w.again-is ∙ e)) (c.loop-d.invariant.quiet (sym w.again-is ∙ e)) (c.moves_into.ensures.quiet (not_true c.moves_into.result w.if-moves_into.false)).1;
+    quiet = λ e. still_quiet (λ (q : Plan) (k : ℕ). (n : ℕ) → n < length q.chains → NoMoveBetween c.args.rules.now c.args.ends.now q n k) c.args.plan.now.plan c.loop-d.plan.plan c.loop-d.d (c.loop-d.invariant.same (sym w.again-is ∙ e)) (c.loop-d.invariant.quiet (sym w.again-is ∙ e)) (c.moves_into.ensures.quiet (not_true c.moves_into.result w.if-moves_into.false)).1;
   }
 ]

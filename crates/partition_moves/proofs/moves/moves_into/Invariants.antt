@@ -3,14 +3,16 @@ use Rattle.chain_rules.specs.Legality.{IsLegal, chain_at}
 use Rattle.wire_cost.specs.Lengths.{chain_ends, plan_length_of}
 use Rattle.place_blocks.specs.Covers.{AreBlocks}
 use Rattle.partition_moves.specs.Quiet.{NoMoveBetween}
+use Rattle.partition_moves.specs.Roomy.{AreRoomyFor}
 use Rattle.partition_moves.proofs.moves.moves_into.Given as goal
 
 abbrev pub invariant-loop-c : goal.invariant-loop-c
 invariant-loop-c l = record {
-  legal : IsLegal l.rules l.plan;
+  legal : IsLegal l.rules l.plan.plan;
+  roomy : AreRoomyFor l.rules l.plan.rooms;
   room : length l.blocks ≡ length l.fn.blocks;
-  blocks : AreBlocks (chain_ends l.ends l.d) (chain_at l.plan l.d) l.blocks;
-  shorter : plan_length_of l.ends l.plan + cond l.again 1 0 ≤ plan_length_of l.ends l.fn.plan;
-  same : l.again ≡ false → l.plan ≡ l.fn.plan;
-  quiet : l.again ≡ false → (c : ℕ) → c < l.c → NoMoveBetween l.rules l.ends l.fn.plan c l.d;
+  blocks : AreBlocks (chain_ends l.ends l.d) (chain_at l.plan.plan l.d) l.blocks;
+  shorter : plan_length_of l.ends l.plan.plan + cond l.again 1 0 ≤ plan_length_of l.ends l.fn.plan.plan;
+  same : l.again ≡ false → l.plan.plan ≡ l.fn.plan.plan;
+  quiet : l.again ≡ false → (c : ℕ) → c < l.c → NoMoveBetween l.rules l.ends l.fn.plan.plan c l.d;
 }

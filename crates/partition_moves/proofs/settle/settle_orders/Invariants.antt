@@ -4,6 +4,7 @@ use Rattle.partition_moves.proofs.settle.settle_orders.Given as goal
 
 abbrev pub invariant-loop-c : goal.invariant-loop-c
 invariant-loop-c l = record {
-  turned : IsTurnedUpTo l.rules l.ends l.fn.plan l.plan l.c;
+  turned : IsTurnedUpTo l.rules l.ends l.fn.plan.plan l.plan.plan l.c;
+  rooms : l.plan.rooms ≡ l.fn.plan.rooms;
   same_room : l.sums.room ≡ l.fn.sums.room;
 }

@@ -4,7 +4,7 @@ use Rattle.partition_moves.specs.Links.{NoCloserSwapAt}
 use Rattle.partition_moves.proofs.swaps.partner_for.Given as goal
 
 abbrev pub invariant-places : goal.invariant-places
-invariant-places l = (k : ℕ) → k < l.from → k < length (chain_at l.plan l.d) → NoCloserSwapAt l.rules l.ends l.plan l.c l.i l.d k
+invariant-places l = (k : ℕ) → k < l.from → k < length (chain_at l.plan.plan l.d) → NoCloserSwapAt l.rules l.ends l.plan.plan l.c l.i l.d k
 
 abbrev pub decreases-places : goal.decreases-places
-decreases-places l = length (chain_at l.plan l.d) - l.from
+decreases-places l = length (chain_at l.plan.plan l.d) - l.from
