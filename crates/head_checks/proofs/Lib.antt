@@ -1,0 +1,4 @@
+pub mod Leasts
+pub mod Firsts
+pub mod Sums
+pub mod Named
