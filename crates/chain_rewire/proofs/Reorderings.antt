@@ -29,10 +29,10 @@ in_at [] k d lt = absurd (omega (arith, lt))
 in_at (x ∷ xs) zero d lt = inl refl
 in_at (x ∷ xs) (suc k) d lt = inr (in_at xs k d (omega (arith, lt)))
 
-contains_in : {X : Type 0} (xs : List X) (x : X) → Contains xs x → IsIn x xs
+pub contains_in : {X : Type 0} (xs : List X) (x : X) → Contains xs x → IsIn x xs
 contains_in xs x c = subst (λ (y : _). IsIn y xs) c.2 (in_at xs c.0 x c.1)
 
-in_contains : {X : Type 0} (xs : List X) (x : X) → IsIn x xs → Contains xs x
+pub in_contains : {X : Type 0} (xs : List X) (x : X) → IsIn x xs → Contains xs x
 in_contains [] x i = absurd i
 in_contains (y ∷ xs) x (inl e) = (0, omega arith, sym e)
 in_contains (y ∷ xs) x (inr i) = let c = in_contains xs x i in (suc c.0, omega (arith, c.1), c.2)
@@ -131,7 +131,7 @@ final_each : (P : Step → Type 0) (step : Step) (steps : List Step) → Each P 
 final_each P step [] e = e.0
 final_each P step (other ∷ others) e = final_each P other others e.1
 
-last_same : (n : Netlist) (source : Source) (xs ys : List Step) → IsNetlist n → Each (IsUnit n) xs → Each (IsUnit n) ys → ((s : Step) → IsIn s xs → IsIn s ys) → ((s : Step) → IsIn s ys → IsIn s xs)
+pub last_same : (n : Netlist) (source : Source) (xs ys : List Step) → IsNetlist n → Each (IsUnit n) xs → Each (IsUnit n) ys → ((s : Step) → IsIn s xs → IsIn s ys) → ((s : Step) → IsIn s ys → IsIn s xs)
     → last_name (map (instance_name n) xs) ≡ last_name (map (instance_name n) ys) → last_source source xs ≡ last_source source ys
 last_same n source [] [] sound u v to back e = refl
 last_same n source [] (y ∷ ys) sound u v to back e = absurd (back y (inl refl))
@@ -162,23 +162,23 @@ module _ (text : List ℕ) (w : Rewire) (n : Netlist) (path : Path) (traced : Is
   pub ordered_names : instance_names n (ordered n path w.units) ≡ w.units
   ordered_names = named_so n path w.units known
 
-  units : Each (IsUnit n) path.steps
+  pub units : Each (IsUnit n) path.steps
   units = lead_units n w (sources.Port path.input) path.steps (sinks.Port path.output) traced.is.leads
 
-  to_old : (step : Step) → IsIn step new → IsIn step path.steps
+  pub to_old : (step : Step) → IsIn step new → IsIn step path.steps
   to_old step i = words_in n path w.units step known i
 
-  new_units : Each (IsUnit n) new
+  pub new_units : Each (IsUnit n) new
   new_units = in_each (IsUnit n) new (λ step i. each_in (IsUnit n) path.steps step units (to_old step i))
 
-  to_new : (step : Step) → IsIn step path.steps → IsIn step new
+  pub to_new : (step : Step) → IsIn step path.steps → IsIn step new
   to_new step i =
       let named = back_known (instance_name n step) (in_map (instance_name n) path.steps step i) in
       let r = map_in (instance_name n) new (instance_name n step) (subst (λ (l : List (List ℕ)). IsIn (instance_name n step) l) (sym ordered_names) named) in
       let same = same_unit n r.member step traced.reads.sound (each_in (IsUnit n) new r.member new_units r.there) (each_in (IsUnit n) path.steps step units i) r.gives in
       subst (λ (s : Step). IsIn s new) same r.there
 
-  once : StandOnce new
+  pub once : StandOnce new
   once i j d lt ut one =
       once_by (instance_name n) new i j d (subst AreApart (sym ordered_names) (IsDistinct_apart w.units are.once)) lt ut
       (ap (λ (k : ℕ). name_of (slice_get n.instances k)) one.instance)

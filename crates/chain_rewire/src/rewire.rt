@@ -13,7 +13,7 @@ use chain_trace::names_law;
 use path_links::edits_for;
 use std::alloc::Global;
 use verilog_reader::read_netlist;
-use verilog_writer::verilog_text;
+use verilog_writer::verilog_text_of_nets;
 
 /// What the words of `rewire` ask for.
 #[derive(Debug, Drop)]
@@ -68,7 +68,7 @@ pub fn rewire_text(alloc: Global, text: &[u8], rewire: &Rewire) -> Result<Rewire
     let output_free = is_output_free(alloc, &netlist, &path)?;
     let new = ordered_path(alloc, &netlist, &path, output_free, rewire)?;
     let edits = edits_for(alloc, &netlist, &table, &[path], &[new])?;
-    let verilog = verilog_text(alloc, text, &netlist, &table, &edits)?;
+    let verilog = verilog_text_of_nets(alloc, text, &netlist, &table, &edits)?;
     let moved = edits.pins.as_slice().len() + edits.ports.as_slice().len();
     Ok(Rewired {
         verilog,

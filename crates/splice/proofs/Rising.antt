@@ -21,7 +21,7 @@ ahead_from : (at to end : ℕ) (ss : List Span) → at ≤ to → AreAhead to en
 ahead_from at to end [] le a = omega arith
 ahead_from at to end (s ∷ ss) le a = let o = a.0 in (omega arith, a.1, a.2)
 
-abbrev Ahead : ℕ → ℕ → List Token → Type 0
+abbrev pub Ahead : ℕ → ℕ → List Token → Type 0
 Ahead at end ts = AreAhead at end (map back ts)
 
 -- tokens in front are passed over
@@ -56,14 +56,14 @@ ran at end t (u ∷ us) next behind a =
     record { some = omega arith; before = r.before; here = r.here; ahead = r.ahead }
 
 -- a place between two marks
-record Between (at end : ℕ) (place : Span) (next : Token) (behind : List Token) : Type 0 where
+pub record Between (at end : ℕ) (place : Span) (next : Token) (behind : List Token) : Type 0 where
   pub ordered : at ≤ place.start
   pub inside : place.start ≤ place.end
   pub before : place.end ≤ next.start
   pub here : next.start < next.end
   pub ahead : Ahead next.end end behind
 
-between : (at end : ℕ) (place : Span) (run : List Token) (next : Token) (behind : List Token) → IsPlace place run next → Ahead at end (run ++ next ∷ behind) → Between at end place next behind
+pub between : (at end : ℕ) (place : Span) (run : List Token) (next : Token) (behind : List Token) → IsPlace place run next → Ahead at end (run ++ next ∷ behind) → Between at end place next behind
 between at end place [] next behind is a =
     let x = is.0 in
     let y = is.1 in
@@ -78,7 +78,7 @@ between at end place (t ∷ run) next behind is a =
     let b = r.before in
     record { ordered = omega arith; inside = omega arith; before = omega arith; here = r.here; ahead = r.ahead }
 
-ends : (at end : ℕ) (ts : List Token) → Ahead at end ts → at ≤ end
+pub ends : (at end : ℕ) (ts : List Token) → Ahead at end ts → at ≤ end
 ends at end [] a = a
 ends at end (t ∷ ts) a = let r = ends t.end end ts a.2 in let x = a.0 in let y = a.1 in omega arith
 

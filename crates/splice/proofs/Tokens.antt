@@ -74,7 +74,7 @@ place_back place [] next p = p
 place_back place (t ∷ ts) next p = (p.0, p.1 ∙ sym (end_back t ts))
 
 module _ (s : Seams) where
-  swapped_back : (text : List ℕ) (es : List Edit) (ts : List Token) (ws : List (List ℕ)) → Each (IsOf text) ts → AreSwapped s es ts ws → Swapped s text es (map back ts) ws
+  pub swapped_back : (text : List ℕ) (es : List Edit) (ts : List Token) (ws : List (List ℕ)) → Each (IsOf text) ts → AreSwapped s es ts ws → Swapped s text es (map back ts) ws
   swapped_back text [] ts ws each sw = sw ∙ sym (texts_back text ts each)
   swapped_back text (e ∷ es) ts ws each sw =
       let whole = subst (Each (IsOf text)) sw.cut each in

@@ -11,7 +11,7 @@ use std::alloc::{Alloc, Global};
 use std::process::Abort;
 use std::test::Fail;
 use verilog_reader::read_netlist;
-use verilog_writer::{assign_of, in_connection, verilog_text};
+use verilog_writer::{assign_of, in_connection, verilog_text_of_nets};
 
 const READ: &[u8] = b"module m ( si, so, \\a.b , v );
   input si, \\a.b ; // two inputs
@@ -124,7 +124,7 @@ fn rewritten(
     let netlist = read_netlist(rt.alloc(), text)?;
     let table = read_table(rt.alloc(), small_table().as_bytes())?;
     let edits = edits_of(rt, &netlist, &table, instance, net, right)?;
-    Ok(verilog_text(rt.alloc(), text, &netlist, &table, &edits)?)
+    Ok(verilog_text_of_nets(rt.alloc(), text, &netlist, &table, &edits)?)
 }
 
 /// An escaped name in an empty connection, a bit of a vector, and a net in place of a concatenation; so gets qa, qb and a net

@@ -56,7 +56,7 @@ start_plain b bs true e plain =
     absurd (no_backslash b e start)
 start_plain b bs false e plain = plain
 
-plain_good : (name : List ℕ) → is_plain name ≡ true → IsName name
+pub plain_good : (name : List ℕ) → is_plain name ≡ true → IsName name
 unfolding is_name
 plain_good [] e = absurd cc
 plain_good (b ∷ bs) e = start_plain b bs (b == 92) refl e

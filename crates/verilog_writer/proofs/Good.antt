@@ -15,7 +15,7 @@ use Rattle.verilog_writer.proofs.Bits.{bit_item}
 abbrev AreBits : List BitEdit → Type 0
 AreBits edits = Each (λ (e : BitEdit). IsNetBit e.bit) edits
 
-one_item : (bit : NetBit) → IsNetBit bit → IsExpression (net_item bit ∷ [])
+pub one_item : (bit : NetBit) → IsNetBit bit → IsExpression (net_item bit ∷ [])
 one_item bit is = record { tree = Operand (net_item bit); is = refl; operands = (bit_item bit is).operand }
 
 -- any fact of a list of items that also a net bit's item has

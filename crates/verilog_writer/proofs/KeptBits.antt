@@ -71,18 +71,18 @@ bit_edits_are P ps [] each is = tt
 bit_edits_are P ps (y ∷ ys) each is = (is.0, bit_edits_are P ps ys each.1 is.1)
 
 -- where no edit begins, nothing changes
-kept_items : (bits : List BitEdit) (place : Span) (old : List Item) → Each (λ (y : Edit). y.span.start ≡ place.start → ⊥) (text_edits bits) → changed_items bits place old ≡ old
+pub kept_items : (bits : List BitEdit) (place : Span) (old : List Item) → Each (λ (y : Edit). y.span.start ≡ place.start → ⊥) (text_edits bits) → changed_items bits place old ≡ old
 kept_items [] place old none = refl
 kept_items (b ∷ bits) place old none = rw (at_apart b.span place none.0) (kept_items bits place old none.1)
 
 -- at an edit the items are that of its net bit
-record IsReplacedBy (ps : List Placed) (bits : List BitEdit) (y : Edit) : Type 0 where
-  edit : BitEdit
-  known : IsKnownBit ps edit.bit
-  same : text_edit edit ≡ y
-  is : (old : List Item) → changed_items bits y.span old ≡ net_item edit.bit ∷ []
+pub record IsReplacedBy (ps : List Placed) (bits : List BitEdit) (y : Edit) : Type 0 where
+  pub edit : BitEdit
+  pub known : IsKnownBit ps edit.bit
+  pub same : text_edit edit ≡ y
+  pub is : (old : List Item) → changed_items bits y.span old ≡ net_item edit.bit ∷ []
 
-replaced_items : (ps : List Placed) (bits : List BitEdit) (y : Edit) → Each (λ (e : BitEdit). IsKnownBit ps e.bit) bits → StartsApart (text_edits bits) → Has y (text_edits bits) → IsReplacedBy ps bits y
+pub replaced_items : (ps : List Placed) (bits : List BitEdit) (y : Edit) → Each (λ (e : BitEdit). IsKnownBit ps e.bit) bits → StartsApart (text_edits bits) → Has y (text_edits bits) → IsReplacedBy ps bits y
 replaced_items ps [] y known apart h = absurd h
 replaced_items ps (b ∷ bits) y known apart h =
     ⊎_elim
@@ -116,7 +116,7 @@ Comes ps n bits place None = (old : List Item) → changed_items bits place old 
 Comes ps n bits place (Some net) = IsReplaced ps n bits place net
 
 -- pins of an instance stand once
-one_of_pins : (cs : List Connection) (c d : Connection) → Distinct (map (λ (c : Connection). c.pin) cs) → Has c cs → Has d cs → c.pin ≡ d.pin → c ≡ d
+pub one_of_pins : (cs : List Connection) (c d : Connection) → Distinct (map (λ (c : Connection). c.pin) cs) → Has c cs → Has d cs → c.pin ≡ d.pin → c ≡ d
 one_of_pins [] c d apart hc hd same = absurd hc
 one_of_pins (x ∷ xs) c d apart hc hd same =
     let other : (e : Connection) (ys : List Connection) → IsApartFrom x.pin (map (λ (c : Connection). c.pin) ys) → Has e ys → x.pin ≡ e.pin → ⊥
@@ -130,11 +130,11 @@ one_of_pins (x ∷ xs) c d apart hc hd same =
     pin_not pin e (y ∷ ys) apart h same = ⊎_elim (λ (a : e ≡ y). apart.0 (same ∙ ap (λ (z : Connection). z.pin) a)) (λ (l : Has e ys). pin_not pin e ys apart.1 l same) h
 
 -- what is found, and that nothing is
-record IsFound {X : Type 0} (test : X → Bool) (x : X) (xs : List X) : Type 0 where
-  has : Has x xs
-  passes : test x ≡ true
+pub record IsFound {X : Type 0} (test : X → Bool) (x : X) (xs : List X) : Type 0 where
+  pub has : Has x xs
+  pub passes : test x ≡ true
 
-find_some : {X : Type 0} (test : X → Bool) (x : X) (xs : List X) → find test xs ≡ Some x → IsFound test x xs
+pub find_some : {X : Type 0} (test : X → Bool) (x : X) (xs : List X) → find test xs ≡ Some x → IsFound test x xs
 find_some test x [] is = absurd cc
 find_some {X} test x (z ∷ zs) is = by (test z) refl is (λ more. find_some test x zs more)
   where
@@ -142,7 +142,7 @@ find_some {X} test x (z ∷ zs) is = by (test z) refl is (λ more. find_some tes
     by true here is rest = let same : z ≡ x = cc in record { has = inl (sym same); passes = sym (ap test same) ∙ here }
     by false other is rest = let more = rest is in record { has = inr more.has; passes = more.passes }
 
-find_none : {X : Type 0} (test : X → Bool) (x : X) (xs : List X) → find test xs ≡ None → Has x xs → test x ≡ false
+pub find_none : {X : Type 0} (test : X → Bool) (x : X) (xs : List X) → find test xs ≡ None → Has x xs → test x ≡ false
 find_none test x [] is h = absurd h
 find_none {X} test x (z ∷ zs) is h = by (test z) refl is (λ more l. find_none test x zs more l)
   where
@@ -150,20 +150,20 @@ find_none {X} test x (z ∷ zs) is h = by (test z) refl is (λ more l. find_none
     by true here is rest = absurd cc
     by false other is rest = ⊎_elim (λ (e : x ≡ z). ap test e ∙ other) (λ (l : Has x zs). rest is l) h
 
-same_number : (a b : ℕ) → (a == b) ≡ true → a ≡ b
+pub same_number : (a b : ℕ) → (a == b) ≡ true → a ≡ b
 same_number a b is = grind (arith, nat_tests)
 
-number_same : (a b : ℕ) → a ≡ b → (a == b) ≡ true
+pub number_same : (a b : ℕ) → a ≡ b → (a == b) ≡ true
 number_same a b is = grind (arith, nat_tests)
 
-both_true : (a b : Bool) → (a && b) ≡ true → (a ≡ true) × (b ≡ true)
+pub both_true : (a b : Bool) → (a && b) ≡ true → (a ≡ true) × (b ≡ true)
 both_true true b is = (refl, is)
 both_true false b is = absurd (false≢true is)
 
-some_same : {X : Type 0} (o : Option X) (x y : X) → o ≡ Some x → o ≡ Some y → x ≡ y
+pub some_same : {X : Type 0} (o : Option X) (x y : X) → o ≡ Some x → o ≡ Some y → x ≡ y
 some_same o x y a b = let e : Some x ≡ Some y = sym a ∙ b in cc
 
-single_wide : (bits : List Bit) (net : NetId) → single_net bits ≡ Some net → length bits ≡ 1
+pub single_wide : (bits : List Bit) (net : NetId) → single_net bits ≡ Some net → length bits ≡ 1
 single_wide bits net is = by bits is
   where
     by : (bits : List Bit) → single_net bits ≡ Some net → length bits ≡ 1
@@ -174,7 +174,7 @@ single_wide bits net is = by bits is
     by (One ∷ c ∷ bits) is = absurd cc
     by (Unknown ∷ c ∷ bits) is = absurd cc
 
-get_has : {X : Type 0} (xs : List X) (k : ℕ) (x : X) → slice_get xs k ≡ Some x → Has x xs
+pub get_has : {X : Type 0} (xs : List X) (k : ℕ) (x : X) → slice_get xs k ≡ Some x → Has x xs
 get_has [] k x is = absurd cc
 get_has (z ∷ zs) zero x is = let same : z ≡ x = cc in inl (sym same)
 get_has (z ∷ zs) (suc k) x is = inr (get_has zs k x is)
@@ -182,7 +182,7 @@ get_has (z ∷ zs) (suc k) x is = inr (get_has zs k x is)
 edit_of_pin : (n : Netlist) (cells : Cells) (k : ℕ) (pin : List ℕ) (e : PinEdit) → e.instance ≡ k → input_of (scan_path_at n cells e.instance e.path) ≡ pin → is_edit_of_pin n cells k pin e ≡ true
 edit_of_pin n cells k pin e a b = rw (number_same e.instance k a, bytes_same (input_of (scan_path_at n cells e.instance e.path)) pin b) refl
 
-some_not : (a : Bool) → a ≡ true → a ≡ false → ⊥
+pub some_not : (a : Bool) → a ≡ true → a ≡ false → ⊥
 some_not a t f = false≢true (sym f ∙ t)
 
 module _ (text : List ℕ) (n : Netlist) (d : DenotesNetlist text n) (cells : Cells) (edits : Edits) (are : AreEdits n cells edits) where

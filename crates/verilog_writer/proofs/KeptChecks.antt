@@ -34,11 +34,11 @@ passed_all bad kind before [] pass = refl
 passed_all bad kind before (p ∷ ps) pass =
     ap (λ (t : Bool). let r : Result (Unit {0}) Fault = cond t (Err (fault_at kind p.line)) (check_from bad kind (before ++ p ∷ []) ps) in r) pass.0 ∙ passed_all bad kind (before ++ p ∷ []) ps pass.1
 
-or_false : (a b : Bool) → a ≡ false → b ≡ false → (a || b) ≡ false
+pub or_false : (a b : Bool) → a ≡ false → b ≡ false → (a || b) ≡ false
 or_false true b x y = x
 or_false false b x y = y
 
-pushed : (before before' : List Placed) (p q : Placed) → declarations before' ≡ declarations before → IsAlike p.statement q.statement → declarations (before' ++ q ∷ []) ≡ declarations (before ++ p ∷ [])
+pub pushed : (before before' : List Placed) (p q : Placed) → declarations before' ≡ declarations before → IsAlike p.statement q.statement → declarations (before' ++ q ∷ []) ≡ declarations (before ++ p ∷ [])
 pushed before before' p q same like =
     declarations_push before' q ∙ ap₂ (λ (a b : List Declaration). a ++ b) same like.declarations ∙ sym (declarations_push before p)
 
@@ -87,7 +87,7 @@ select_passes all all' before before' (p ∷ ps) (q ∷ qs) whole are sound pass
     )
 
 -- each declaration has the bounds of the first of its name
-abbrev Steady : List Declaration → Declaration → Type 0
+abbrev pub Steady : List Declaration → Declaration → Type 0
 Steady all d = bounds_in all d.name ≡ d.bounds
 
 same_bounds_are : (a b : Option Bounds) → same_bounds a b ≡ true → a ≡ b
@@ -124,7 +124,7 @@ steady_one before d after good = by (first_of d.name before) refl
         ap bounds_or_none (find-append (is_named d.name) before (d ∷ after) ∙ ap (λ (o : Option Declaration). option_or o (first_of d.name (d ∷ after))) is)
         ∙ beside first d (sym (ap (λ (o : Option Declaration). stands_again o d) is) ∙ good)
 
-steady : (before ds : List Declaration) → any_again before ds ≡ false → Each (Steady (before ++ ds)) ds
+pub steady : (before ds : List Declaration) → any_again before ds ≡ false → Each (Steady (before ++ ds)) ds
 unfolding any_again
 steady before [] good = tt
 steady before (d ∷ ds) good =
@@ -132,9 +132,9 @@ steady before (d ∷ ds) good =
     (steady_one before d ds both.0, subst (λ (all : List Declaration). Each (Steady all) ds) (append_assoc before (d ∷ []) ds) (steady (before ++ d ∷ []) ds both.1))
 
 -- scalar nets
-record IsScalar (ps : List Placed) (s : List ℕ) : Type 0 where
-  there : named (entries ps) s ≡ true
-  none : bounds_in (declarations ps) s ≡ None
+pub record IsScalar (ps : List Placed) (s : List ℕ) : Type 0 where
+  pub there : named (entries ps) s ≡ true
+  pub none : bounds_in (declarations ps) s ≡ None
 
 no_vector : (b : Option Bounds) → is_some b ≡ false → b ≡ None
 no_vector None is = refl
@@ -161,7 +161,7 @@ module _ (ps : List Placed) where
       by true is more = more
       by false is more = (record { there = there.0; none = no_bounds ds name is }, more)
 
-  are_scalars : (p q : Statement) → IsAlike p q → Each (Steady ds) (declarations_in p) → Each (λ d. named (entries ps) d.name ≡ true) (declarations_in p)
+  pub are_scalars : (p q : Statement) → IsAlike p q → Each (Steady ds) (declarations_in p) → Each (λ d. named (entries ps) d.name ≡ true) (declarations_in p)
       → Each (λ q. named (entries ps) q ≡ true) (mentions_in q) → Each (IsScalar ps) (scalars_in ds q)
   are_scalars p q like same there mentioned =
       each_append (IsScalar ps) (map (λ (d : Declaration). d.name) (filter (λ d. not (is_vector d)) (declarations_in q))) (undeclared_in ds (mentions_in q))
@@ -188,12 +188,12 @@ module _ (ps : List Placed) where
         (ap (λ (b : Option Bounds). list_any (has_bit_in e.name b) names) (sym same.0) ∙ no_bit e.name names scalar) (none_have es names same.1 scalar)
 
     -- what is known of the statements before
-    record AreBefore (before before' : List Placed) : Type 0 where
-      same : declarations before' ≡ declarations before
-      instances : instance_names before' ≡ instance_names before
-      again : any_again [] (declarations before) ≡ false
-      steady_so : Each (Steady ds) (declarations before)
-      scalar : Each (IsScalar ps) (scalars ds before')
+    pub record AreBefore (before before' : List Placed) : Type 0 where
+      pub same : declarations before' ≡ declarations before
+      pub instances : instance_names before' ≡ instance_names before
+      pub again : any_again [] (declarations before) ≡ false
+      pub steady_so : Each (Steady ds) (declarations before)
+      pub scalar : Each (IsScalar ps) (scalars ds before')
 
     instances_push : (before : List Placed) (p : Placed) → instance_names (before ++ p ∷ []) ≡ instance_names before ++ instances_named p.statement
     instances_push before p =
@@ -204,13 +204,13 @@ module _ (ps : List Placed) where
         flat_map-append (λ (q : Placed). scalars_in ds q.statement) before (q ∷ []) ∙ ap (λ (l : List (List ℕ)). scalars ds before ++ l) (append-nil (scalars_in ds q.statement))
 
     -- the parts of the test
-    record IsOnce (before : List Placed) (p : Placed) : Type 0 where
-      ports : has_twice (ports_in p.statement) ≡ false
-      again : any_again (declarations before) (declarations_in p.statement) ≡ false
-      instances : list_any (has (instance_names before)) (instances_named p.statement) ≡ false
-      pins : has_twice (pins_in p.statement) ≡ false
+    pub record IsOnce (before : List Placed) (p : Placed) : Type 0 where
+      pub ports : has_twice (ports_in p.statement) ≡ false
+      pub again : any_again (declarations before) (declarations_in p.statement) ≡ false
+      pub instances : list_any (has (instance_names before)) (instances_named p.statement) ≡ false
+      pub pins : has_twice (pins_in p.statement) ≡ false
 
-    is_once : (before : List Placed) (p : Placed) → bad_twice ps before p ≡ false → IsOnce before p
+    pub is_once : (before : List Placed) (p : Placed) → bad_twice ps before p ≡ false → IsOnce before p
     unfolding bad_twice
     is_once before p is =
         let a = has_twice (ports_in p.statement) in
@@ -226,7 +226,7 @@ module _ (ps : List Placed) where
         let one = or_parts a b two.0 in
         record { ports = one.0; again = one.1; instances = two.1; pins = three.1 }
 
-    once_again : (all' before before' : List Placed) (p q : Placed) → declarations all' ≡ ds → AreBefore before before' → IsAlike p.statement q.statement → IsOnce before p → Each (Steady ds) (declarations_in p.statement)
+    pub once_again : (all' before before' : List Placed) (p q : Placed) → declarations all' ≡ ds → AreBefore before before' → IsAlike p.statement q.statement → IsOnce before p → Each (Steady ds) (declarations_in p.statement)
         → Each (IsScalar ps) (scalars_in ds q.statement) → bad_twice all' before' q ≡ false
     unfolding bad_twice
     once_again all' before before' p q whole known like once same scalar =
@@ -251,7 +251,7 @@ module _ (ps : List Placed) where
         in
         subst (λ (es : List Declaration). (a || b || c || d || are_bits (declarations before') (scalars_in es q.statement) || have_bits (declarations_in q.statement) (scalars es before')) ≡ false) (sym whole) all
 
-    one_more : (before before' : List Placed) (p q : Placed) → AreBefore before before' → IsAlike p.statement q.statement → IsOnce before p → Each (Steady ds) (declarations_in p.statement)
+    pub one_more : (before before' : List Placed) (p q : Placed) → AreBefore before before' → IsAlike p.statement q.statement → IsOnce before p → Each (Steady ds) (declarations_in p.statement)
         → Each (IsScalar ps) (scalars_in ds q.statement) → AreBefore (before ++ p ∷ []) (before' ++ q ∷ [])
     one_more before before' p q known like once same scalar = record {
       same = pushed before before' p q known.same like;

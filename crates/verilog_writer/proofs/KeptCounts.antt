@@ -19,15 +19,15 @@ use Rattle.verilog_reader.proofs.Filling.{Entries}
 use Rattle.verilog_reader.proofs.Places.{same_bytes, bytes_same, bytes_swap, named, named_all, declared_first, declared_named, entries_are}
 use Rattle.verilog_writer.proofs.KeptNets.{undeclared_new}
 
-total_append : (es fs : Entries) → total (es ++ fs) ≡ total es + total fs
+pub total_append : (es fs : Entries) → total (es ++ fs) ≡ total es + total fs
 total_append [] fs = omega arith
 total_append (e ∷ es) fs = let more = total_append es fs in omega (arith, more)
 
-abbrev names_of : Entries → List (List ℕ)
+abbrev pub names_of : Entries → List (List ℕ)
 names_of es = map (λ (e : List ℕ × Option Bounds). e.0) es
 
 -- names that are mentioned alone have one net each
-total_mentioned : (before names : List (List ℕ)) → total (first_mentioned before names) ≡ length (names_of (first_mentioned before names))
+pub total_mentioned : (before names : List (List ℕ)) → total (first_mentioned before names) ≡ length (names_of (first_mentioned before names))
 unfolding first_mentioned
 total_mentioned before [] = refl
 total_mentioned before (name ∷ names) = by (has before name) (total_mentioned (before ++ name ∷ []) names)
@@ -38,7 +38,7 @@ total_mentioned before (name ∷ names) = by (has before name) (total_mentioned 
     by true more = more
     by false more = omega (arith, more)
 
-mentioned_each : (P : List ℕ → Type 0) (before names : List (List ℕ)) → Each P names → Each (λ (e : List ℕ × Option Bounds). P e.0) (first_mentioned before names)
+pub mentioned_each : (P : List ℕ → Type 0) (before names : List (List ℕ)) → Each P names → Each (λ (e : List ℕ × Option Bounds). P e.0) (first_mentioned before names)
 unfolding first_mentioned
 mentioned_each P before [] each = tt
 mentioned_each P before (name ∷ names) each = by (has before name) (mentioned_each P (before ++ name ∷ []) names each.1)
@@ -49,9 +49,9 @@ mentioned_each P before (name ∷ names) each = by (has before name) (mentioned_
     by false more = (each.0, more)
 
 -- each is new
-record AreFirst (before : List (List ℕ)) (es : Entries) : Type 0 where
-  new : Each (λ (e : List ℕ × Option Bounds). has before e.0 ≡ false) es
-  apart : IsDistinct bytes_eq (names_of es)
+pub record AreFirst (before : List (List ℕ)) (es : Entries) : Type 0 where
+  pub new : Each (λ (e : List ℕ × Option Bounds). has before e.0 ≡ false) es
+  pub apart : IsDistinct bytes_eq (names_of es)
 
 last_has : (before : List (List ℕ)) (name q : List ℕ) → has (before ++ name ∷ []) q ≡ false → (has before q ≡ false) × (bytes_eq name q ≡ false)
 last_has before name q is =
@@ -62,7 +62,7 @@ apart_names : (name : List ℕ) (es : Entries) → Each (λ (e : List ℕ × Opt
 apart_names name [] each = tt
 apart_names name (e ∷ es) each = (each.0, apart_names name es each.1)
 
-first_apart : (before names : List (List ℕ)) → AreFirst before (first_mentioned before names)
+pub first_apart : (before names : List (List ℕ)) → AreFirst before (first_mentioned before names)
 unfolding first_mentioned IsDistinct
 first_apart before [] = record { new = tt; apart = tt }
 first_apart before (name ∷ names) = by (has before name) refl (first_apart (before ++ name ∷ []) names)
@@ -88,19 +88,19 @@ first_apart before (name ∷ names) = by (has before name) refl (first_apart (be
       );
     }
 
-laws : IsEquivalence bytes_eq
+pub laws : IsEquivalence bytes_eq
 laws = record {
   refl = λ x. bytes_same x x refl;
   symm = λ x y. bytes_swap x y;
   congr = λ x y z same. ap (λ (w : List ℕ). bytes_eq w z) (same_bytes x y same);
 }
 
-member_named : (es : Entries) (q : List ℕ) → is_member bytes_eq (names_of es) q ≡ named es q
+pub member_named : (es : Entries) (q : List ℕ) → is_member bytes_eq (names_of es) q ≡ named es q
 member_named [] q = refl
 member_named (e ∷ es) q = ap (λ (t : Bool). bytes_eq q e.0 || t) (member_named es q)
 
 -- a fact of all names
-named_has : (P : List ℕ → Type 0) (es : Entries) (q : List ℕ) → Each (λ (e : List ℕ × Option Bounds). P e.0) es → named es q ≡ true → P q
+pub named_has : (P : List ℕ → Type 0) (es : Entries) (q : List ℕ) → Each (λ (e : List ℕ × Option Bounds). P e.0) es → named es q ≡ true → P q
 named_has P [] q each is = absurd (false≢true is)
 named_has P (e ∷ es) q each is = by (bytes_eq q e.0) refl is (λ more. named_has P es q each.1 more)
   where
@@ -108,7 +108,7 @@ named_has P (e ∷ es) q each is = by (bytes_eq q e.0) refl is (λ more. named_h
     by true here is rest = subst P (sym (same_bytes q e.0 here)) each.0
     by false other is rest = rest is
 
-undeclared_each : (P : List ℕ → Type 0) (ds : List Declaration) (names : List (List ℕ)) → Each P names → Each P (undeclared_in ds names)
+pub undeclared_each : (P : List ℕ → Type 0) (ds : List Declaration) (names : List (List ℕ)) → Each P names → Each P (undeclared_in ds names)
 undeclared_each P ds [] each = tt
 undeclared_each P ds (name ∷ names) each = by (is_declared ds name) (undeclared_each P ds names each.1)
   where
@@ -116,7 +116,7 @@ undeclared_each P ds (name ∷ names) each = by (is_declared ds name) (undeclare
     by true more = more
     by false more = (each.0, more)
 
-first_named : (ds : List Declaration) (q : List ℕ) → named (first_declared [] ds) q ≡ is_declared ds q
+pub first_named : (ds : List Declaration) (q : List ℕ) → named (first_declared [] ds) q ≡ is_declared ds q
 first_named ds q =
     ap (λ (es : Entries). named es q) (sym (declared_first [] [] ds (λ q. refl)))
     ∙ named_all [] (map (λ (d : Declaration). let e : List ℕ × Option Bounds = (d.name, d.bounds) in e) ds) q ∙ declared_named ds q

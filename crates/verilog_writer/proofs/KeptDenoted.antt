@@ -15,7 +15,7 @@ use Rattle.netlist_core.specs.declared.netlist.Netlist.{Netlist}
 use Rattle.netlist_core.specs.Netlists.{NamedPort, NamedInstance, named_port, named_instance, named_assign}
 use Rattle.cell_table.specs.Cells.{Cells}
 use Rattle.path_links.specs.declared.edits.Edits.{Edits}
-use Rattle.path_links.specs.Edited.{map_from, edited_instance, edited_assign, edited, AreEdits}
+use Rattle.path_links.specs.Edited.{map_from, pin_source, edited_instance, assign_source, edited_assign, edited, AreEdits}
 use Rattle.verilog_syntax.specs.declared.statement.Statement.{Statement}
 use Rattle.verilog_syntax.specs.declared.reading.Placed.{Placed}
 use Rattle.verilog_syntax.specs.Laws.{bare}
@@ -54,7 +54,7 @@ strip_port s = record { name = s.name; direction = s.direction }
 abbrev port_named : Direction → List ℕ → NamedPort
 port_named direction name = record { name = name; direction = direction }
 
-abbrev ports_named : Declaration → List NamedPort
+abbrev pub ports_named : Declaration → List NamedPort
 ports_named d = flat_map (λ direction. map (port_named direction) (name_bits d.name d.bounds)) (directions_of d.kind)
 
 map_flat : {X Y Z : Type 0} (g : Y → Z) (f : X → List Y) (h : X → List Z) → ((x : X) → map g (f x) ≡ h x) → (xs : List X) → map g (flat_map f xs) ≡ flat_map h xs
@@ -76,10 +76,10 @@ ports_stripped : (nets : List NetName) (all : List Port) → map (named_port net
 ports_stripped nets [] = refl
 ports_stripped nets (p ∷ all) = ap (λ (l : List NamedPort). named_port nets p ∷ l) (ports_stripped nets all)
 
-ports_are_named : (nets : List NetName) (all : List Port) (ps : List Placed) → map (seen_port nets) all ≡ said_ports ps → map (named_port nets) all ≡ flat_map (λ (p : Placed). flat_map ports_named (declarations_in p.statement)) ps
+pub ports_are_named : (nets : List NetName) (all : List Port) (ps : List Placed) → map (seen_port nets) all ≡ said_ports ps → map (named_port nets) all ≡ flat_map (λ (p : Placed). flat_map ports_named (declarations_in p.statement)) ps
 ports_are_named nets all ps same = ports_stripped nets all ∙ ap (λ (l : List SeenPort). map strip_port l) same ∙ said_ports_named ps
 
-ports_alike : (ps qs : List Placed) → AreAlike ps qs → flat_map (λ (p : Placed). flat_map ports_named (declarations_in p.statement)) qs ≡ flat_map (λ (p : Placed). flat_map ports_named (declarations_in p.statement)) ps
+pub ports_alike : (ps qs : List Placed) → AreAlike ps qs → flat_map (λ (p : Placed). flat_map ports_named (declarations_in p.statement)) qs ≡ flat_map (λ (p : Placed). flat_map ports_named (declarations_in p.statement)) ps
 ports_alike [] [] are = refl
 ports_alike [] (q ∷ qs) are = absurd are
 ports_alike (p ∷ ps) [] are = absurd are
@@ -90,28 +90,28 @@ take_front : {X : Type 0} (xs ys : List X) → take (length xs) (xs ++ ys) ≡ x
 take_front [] ys = refl
 take_front {X} (x ∷ xs) ys = ap (λ (l : List X). x ∷ l) (take_front xs ys)
 
-abbrev nets_from : Entries → List NetName
+abbrev pub nets_from : Entries → List NetName
 nets_from es = flat_map (λ (e : List ℕ × Option Bounds). entry_nets e.0 e.1) es
 
-abbrev plains : List NetName → List (List ℕ)
+abbrev pub plains : List NetName → List (List ℕ)
 plains nets = map (λ (net : NetName). net.plain) nets
 
-declared_plains : (ps : List Placed) → take (length (declared_nets ps)) (plains (said_nets ps)) ≡ plains (declared_nets ps)
+pub declared_plains : (ps : List Placed) → take (length (declared_nets ps)) (plains (said_nets ps)) ≡ plains (declared_nets ps)
 declared_plains ps =
     let mentioned = first_mentioned [] (undeclared_in (declarations ps) (mentions ps)) in
     ap (λ (l : List NetName). take (length (declared_nets ps)) (plains l)) (flat_map-append (λ (e : List ℕ × Option Bounds). entry_nets e.0 e.1) (first_declared [] (declarations ps)) mentioned)
     ∙ ap₂ (λ (k : ℕ) (l : List (List ℕ)). take k l) (sym (length-map (declared_nets ps) (λ (net : NetName). net.plain))) (map-append (λ (net : NetName). net.plain) (declared_nets ps) (nets_from mentioned))
     ∙ take_front (plains (declared_nets ps)) (plains (nets_from mentioned))
 
-length_map_from : {X Y : Type 0} (f : ℕ → X → Y) (k : ℕ) (xs : List X) → length (map_from f k xs) ≡ length xs
+pub length_map_from : {X Y : Type 0} (f : ℕ → X → Y) (k : ℕ) (xs : List X) → length (map_from f k xs) ≡ length xs
 length_map_from f k [] = refl
 length_map_from f k (x ∷ xs) = ap (λ (m : ℕ). suc m) (length_map_from f (k + 1) xs)
 
-flat_changed : {Y : Type 0} (f : Statement → List Y) (bits : List BitEdit) (ps : List Placed) → flat_map (λ (p : Placed). f p.statement) (changed_statements bits ps) ≡ flat_map (λ (p : Placed). f (changed_statement bits p.statement)) ps
+pub flat_changed : {Y : Type 0} (f : Statement → List Y) (bits : List BitEdit) (ps : List Placed) → flat_map (λ (p : Placed). f p.statement) (changed_statements bits ps) ≡ flat_map (λ (p : Placed). f (changed_statement bits p.statement)) ps
 flat_changed f bits [] = refl
 flat_changed {Y} f bits (p ∷ ps) = ap (λ (l : List Y). f (changed_statement bits p.statement) ++ l) (flat_changed f bits ps)
 
-widths_sound : (ps : List Placed) → Each (λ p. IsSound ps p.statement) ps → Each (λ (p : Placed). differ_in_width (bounds_in (declarations ps)) p.statement ≡ false) ps
+pub widths_sound : (ps : List Placed) → Each (λ p. IsSound ps p.statement) ps → Each (λ (p : Placed). differ_in_width (bounds_in (declarations ps)) p.statement ≡ false) ps
 widths_sound ps sound = each_weaker (λ (p : Placed). IsSound ps p.statement) (λ (p : Placed). differ_in_width (bounds_in (declarations ps)) p.statement ≡ false) ps (λ p s. s.widths) sound
 
 -- what is known of the text that is written, and of how it is read
@@ -168,13 +168,13 @@ module _ (text : List ℕ) (n : Netlist) (d : DenotesNetlist text n) (cells : Ce
     right_sides : (flat_map (λ (p : Placed). assigns_named (declarations ps) (changed_statement bits p.statement)) ps ≡ map (named_assign n.nets) (map_from (edited_assign edits.ports) 0 n.assigns))
         × Each (λ (p : Placed). differ_in_width (bounds_in (declarations ps)) (changed_statement bits p.statement) ≡ false) ps
     right_sides =
-        let a = assigns_come ps n bits edits.ports (right_comes text n d cells edits are (places ps) (length text) slots all same bits texts_are bits_known apart)
+        let a = assigns_come ps n bits (assign_source edits.ports) (right_comes text n d cells edits are (places ps) (length text) slots all same bits texts_are bits_known apart)
         (left_wide text n d cells edits are (places ps) (length text) slots all same bits texts_are bits_known apart) ps 0 n.assigns d.is.assigns (from_start n.assigns) (widths_sound ps sound) in
         (a.are_named, a.widths)
 
     pins : flat_map (λ (p : Placed). instances_named (declarations ps) (changed_statement bits p.statement)) ps ≡ map (named_instance n.nets) (map_from (edited_instance n cells edits.pins) 0 n.instances)
     pins =
-        instances_come ps n bits cells edits.pins (pin_comes text n d cells edits are (places ps) (length text) slots all same bits texts_are bits_known apart) ps 0 n.instances d.is.instances (from_start n.instances)
+        instances_come ps n bits (pin_source n cells edits.pins) (pin_comes text n d cells edits are (places ps) (length text) slots all same bits texts_are bits_known apart) ps 0 n.instances d.is.instances (from_start n.instances)
 
     read_sound : Each (λ q. IsSound ps q.statement) qs × Each (λ q. has_entry (entries ps) q ≡ true) (mentions qs)
     read_sound = changed_sound ps bits bits_known ps qs reads are_alike sound (mentioned_named ps) right_sides.1

@@ -37,7 +37,7 @@ pub record IsConnectionAt (n : Netlist) (cells : Cells) (e : PinEdit) (c : Conne
   pub pin : c.pin ≡ input_of (scan_path_at n cells e.instance e.path)
   pub found : connection_at (input_of (scan_path_at n cells e.instance e.path)) placed.connections ≡ Some c
 
-found_pin : (pin : List ℕ) (cs : List Connection) (c : Connection) → connection_at pin cs ≡ Some c → c.pin ≡ pin
+pub found_pin : (pin : List ℕ) (cs : List Connection) (c : Connection) → connection_at pin cs ≡ Some c → c.pin ≡ pin
 found_pin pin [] c is = absurd cc
 found_pin pin (x ∷ xs) c is = by (bytes_eq x.pin pin) refl is (λ more. found_pin pin xs c more)
   where
@@ -127,7 +127,7 @@ once (x ∷ xs) is = (
   once xs (λ i j d li lj same. let e : suc i ≡ suc j = is (suc i) (suc j) d (omega arith) (omega arith) same in omega arith),
 )
 
-has_not : {X Y : Type 0} (f : X → Y) (x : X) (y : Y) (xs : List X) → IsApartFrom y (map f xs) → Has x xs → y ≡ f x → ⊥
+pub has_not : {X Y : Type 0} (f : X → Y) (x : X) (y : Y) (xs : List X) → IsApartFrom y (map f xs) → Has x xs → y ≡ f x → ⊥
 has_not f x y [] apart h same = h
 has_not {X} f x y (z ∷ xs) apart h same = ⊎_elim (λ (e : x ≡ z). apart.0 (same ∙ ap f e)) (λ (l : Has x xs). has_not f x y xs apart.1 l same) h
 
@@ -136,7 +136,7 @@ abbrev pub StartsApart : List Edit → Type 0
 StartsApart [] = Unit {0}
 StartsApart (x ∷ xs) = Each (λ (y : Edit). x.span.start ≡ y.span.start → ⊥) xs × StartsApart xs
 
-starts_append : (xs ys : List Edit) → StartsApart xs → StartsApart ys → Each (λ (x : Edit). Each (λ (y : Edit). x.span.start ≡ y.span.start → ⊥) ys) xs → StartsApart (xs ++ ys)
+pub starts_append : (xs ys : List Edit) → StartsApart xs → StartsApart ys → Each (λ (x : Edit). Each (λ (y : Edit). x.span.start ≡ y.span.start → ⊥) ys) xs → StartsApart (xs ++ ys)
 starts_append [] ys a b apart = b
 starts_append (x ∷ xs) ys a b apart = (each_append (λ (y : Edit). x.span.start ≡ y.span.start → ⊥) xs ys a.0 apart.0, starts_append xs ys a.1 b apart.1)
 

@@ -16,10 +16,7 @@ use Rattle.netlist_core.specs.declared.netlist.Connection.{Connection as NetConn
 use Rattle.netlist_core.specs.declared.netlist.Instance.{Instance}
 use Rattle.netlist_core.specs.declared.netlist.Netlist.{Netlist}
 use Rattle.netlist_core.specs.Netlists.{NamedBit, Named, NamedInstance, pairs, named_bit, named_pin, named_instance, named_assign}
-use Rattle.cell_table.specs.Cells.{Cells}
-use Rattle.path_links.specs.declared.edits.PinEdit.{PinEdit}
-use Rattle.path_links.specs.declared.edits.PortEdit.{PortEdit}
-use Rattle.path_links.specs.Edited.{edited_expr, pin_source, edited_instance, map_from, assign_source, edited_assign}
+use Rattle.path_links.specs.Edited.{edited_expr, map_from}
 use Rattle.verilog_syntax.specs.declared.statement.Item.{Item}
 use Rattle.verilog_syntax.specs.declared.statement.Item.TheVariants as items
 use Rattle.verilog_syntax.specs.declared.statement.Expression.{Expression}
@@ -148,6 +145,18 @@ pub instances_are_named : (nets : List NetName) (all : List Instance) (ds : List
     → map (named_instance nets) all ≡ flat_map (λ (p : Placed). instances_named ds p.statement) ps
 instances_are_named nets all ds ps same = instances_stripped nets all ∙ ap (λ (l : List SeenInstance). map strip_instance l) same ∙ said_instances ds ps
 
+-- an instance with what stands newly at its pins, and an assign with what stands newly at its right
+abbrev pub put_instance : (ℕ → List ℕ → Option NetId) → ℕ → Instance → Instance
+put_instance at_pin k placed = record {
+  name = placed.name;
+  cell = placed.cell;
+  connections = map (λ (c : NetConnection). let d : NetConnection = record { pin = c.pin; expr = edited_expr (at_pin k c.pin) c.expr } in d) placed.connections;
+  line = placed.line;
+}
+
+abbrev pub put_assign : (ℕ → Option NetId) → ℕ → Assign → Assign
+put_assign at_right k assign = record { left = assign.left; right = edited_expr (at_right k) assign.right; line = assign.line }
+
 -- how many bits an expression has
 names_wide : (name : List ℕ) (b : Option Bounds) → length (named_of (name_bits name b)) ≡ width_or_one b
 names_wide name None = refl
@@ -162,19 +171,19 @@ item_wide ds (items.Bit name index) = refl
 item_wide ds (items.Part name left right) = names_wide (unescaped name) (Some (part_of left right))
 item_wide ds (items.Constant text) = length-map (constant_bits text) (named_bit []) ∙ length-constant text
 
-items_wide : (ds : List Declaration) (xs : List Item) → length (bits_of ds xs) ≡ sum_by (item_width (bounds_in ds)) xs
+pub items_wide : (ds : List Declaration) (xs : List Item) → length (bits_of ds xs) ≡ sum_by (item_width (bounds_in ds)) xs
 items_wide ds [] = refl
 items_wide ds (x ∷ xs) =
     length-append (item_bits ds x) (bits_of ds xs) ∙ ap₂ (λ (a b : ℕ). a + b) (item_wide ds x) (items_wide ds xs) ∙ sym (sum_by-cons (item_width (bounds_in ds)) x xs)
 
-index_wide : (ps : List Placed) (bit : NetBit) → IsKnownBit ps bit → item_width (bounds_in (declarations ps)) (net_item bit) ≡ 1
+pub index_wide : (ps : List Placed) (bit : NetBit) → IsKnownBit ps bit → item_width (bounds_in (declarations ps)) (net_item bit) ≡ 1
 index_wide ps bit known = by bit.index known.known
   where
     by : (i : Option ℕ) → IsKnown ps bit.name i → item_width (bounds_in (declarations ps)) (indexed_item bit.name i) ≡ 1
     by None is = ap (λ (q : List ℕ). width_or_one (bounds_in (declarations ps) q)) (name_again bit.name known.is.name) ∙ ap width_or_one is.1
     by (Some i) is = refl
 
-bit_bits : (ps : List Placed) (bit : NetBit) → IsKnownBit ps bit → item_bits (declarations ps) (net_item bit) ≡ Named (net_name bit) ∷ []
+pub bit_bits : (ps : List Placed) (bit : NetBit) → IsKnownBit ps bit → item_bits (declarations ps) (net_item bit) ≡ Named (net_name bit) ∷ []
 bit_bits ps bit known = bit_law (declarations ps) bit known.is (by bit.index known.known)
   where
     by : (i : Option ℕ) → IsKnown ps bit.name i → IsScalarWithout (declarations ps) bit.name i
@@ -210,12 +219,12 @@ module _ (ps : List Placed) (n : Netlist) (bits : List BitEdit) where
       (ap₂ (λ (q : List ℕ) (b : List NamedBit). let p : List ℕ × List NamedBit = (q, b) in p) (sym pin) new)
       (pins_come source cs conns others (λ y h. comes y (inr h)))
 
-  module _ (cells : Cells) (pins : List PinEdit) (comes : (k : ℕ) (placed : Instance) (c : NetConnection) → slice_get n.instances k ≡ Some placed → Has c placed.connections → Comes ps n bits c.expr.span (pin_source n cells pins k c.pin)) where
+  module _ (at_pin : ℕ → List ℕ → Option NetId) (comes : (k : ℕ) (placed : Instance) (c : NetConnection) → slice_get n.instances k ≡ Some placed → Has c placed.connections → Comes ps n bits c.expr.span (at_pin k c.pin)) where
     abbrev changed_instances : List Placed → List NamedInstance
     changed_instances olds = flat_map (λ (p : Placed). instances_named ds (changed_statement bits p.statement)) olds
 
     abbrev InstancesCome : ℕ → List Instance → List Placed → Type 0
-    InstancesCome k all olds = changed_instances olds ≡ map (named_instance n.nets) (map_from (edited_instance n cells pins) k all)
+    InstancesCome k all olds = changed_instances olds ≡ map (named_instance n.nets) (map_from (put_instance at_pin) k all)
 
     abbrev AreInstancesFrom : ℕ → List Instance → Type 0
     AreInstancesFrom k all = (j : ℕ) (i : Instance) → slice_get all j ≡ Some i → slice_get n.instances (k + j) ≡ Some i
@@ -225,7 +234,7 @@ module _ (ps : List Placed) (n : Netlist) (bits : List BitEdit) where
 
     instance_step : (s : Statement) (line : ℕ) (olds : List Placed) (k : ℕ) (all : List Instance) → map (seen_instance n.nets) all ≡ said_instances_in ds line s ++ said_rest olds → AreInstancesFrom k all
         → ((k : ℕ) (all : List Instance) → map (seen_instance n.nets) all ≡ said_rest olds → AreInstancesFrom k all → InstancesCome k all olds)
-        → instances_named ds (changed_statement bits s) ++ changed_instances olds ≡ map (named_instance n.nets) (map_from (edited_instance n cells pins) k all)
+        → instances_named ds (changed_statement bits s) ++ changed_instances olds ≡ map (named_instance n.nets) (map_from (put_instance at_pin) k all)
     instance_step (statements.Module name ports) line olds k all same at more = more k all same at
     instance_step (statements.Declare kind range names) line olds k all same at more = more k all same at
     instance_step (statements.Assign left right) line olds k all same at more = more k all same at
@@ -238,7 +247,7 @@ module _ (ps : List Placed) (n : Netlist) (bits : List BitEdit) where
         let here : slice_get n.instances k ≡ Some i = subst (λ (x : ℕ). slice_get n.instances x ≡ Some i) k_is (at 0 i refl) in
         let name_is : i.name ≡ unescaped name = ap (λ (s : SeenInstance). s.name) first in
         let cell_is : i.cell ≡ unescaped cell = ap (λ (s : SeenInstance). s.cell) first in
-        let pins_are = pins_come (pin_source n cells pins k) connections i.connections (ap (λ (s : SeenInstance). s.connections) first) (λ c h. comes k i c here h) in
+        let pins_are = pins_come (at_pin k) connections i.connections (ap (λ (s : SeenInstance). s.connections) first) (λ c h. comes k i c here h) in
         let behind : AreInstancesFrom (k + 1) all = λ j x is. let e : k + suc j ≡ (k + 1) + j = omega arith in subst (λ (y : ℕ). slice_get n.instances y ≡ Some x) e (at (suc j) x is) in
         ap₂ (λ (x : NamedInstance) (xs : List NamedInstance). x ∷ xs)
         (ap₂ (λ (a b : List ℕ). let x : NamedInstance = record { name = a; cell = b; pins = map (pin_named ds) (map (changed_connection bits) connections) } in x) (sym name_is) (sym cell_is)
@@ -250,8 +259,8 @@ module _ (ps : List Placed) (n : Netlist) (bits : List BitEdit) where
     instances_come [] k (i ∷ all) same at = absurd cc
     instances_come (p ∷ olds) k all same at = instance_step p.statement p.line olds k all same at (λ k all same at. instances_come olds k all same at)
 
-  module _ (ports : List PortEdit) (comes : (k : ℕ) (a : Assign) → slice_get n.assigns k ≡ Some a → Comes ps n bits a.right.span (assign_source ports k))
-      (wide : (k : ℕ) (a : Assign) (net : NetId) → slice_get n.assigns k ≡ Some a → assign_source ports k ≡ Some net → length a.left.bits ≡ 1) where
+  module _ (at_right : ℕ → Option NetId) (comes : (k : ℕ) (a : Assign) → slice_get n.assigns k ≡ Some a → Comes ps n bits a.right.span (at_right k))
+      (wide : (k : ℕ) (a : Assign) (net : NetId) → slice_get n.assigns k ≡ Some a → at_right k ≡ Some net → length a.left.bits ≡ 1) where
     abbrev changed_assigns : List Placed → List (List (NamedBit × NamedBit))
     changed_assigns olds = flat_map (λ (p : Placed). assigns_named ds (changed_statement bits p.statement)) olds
 
@@ -259,7 +268,7 @@ module _ (ps : List Placed) (n : Netlist) (bits : List BitEdit) where
     Fits s = differ_in_width (bounds_in ds) s ≡ false
 
     pub record AssignsCome (k : ℕ) (all : List Assign) (olds : List Placed) : Type 0 where
-      pub are_named : changed_assigns olds ≡ map (named_assign n.nets) (map_from (edited_assign ports) k all)
+      pub are_named : changed_assigns olds ≡ map (named_assign n.nets) (map_from (put_assign at_right) k all)
       pub widths : Each (λ (p : Placed). Fits (changed_statement bits p.statement)) olds
 
     abbrev AreAssignsFrom : ℕ → List Assign → Type 0
@@ -280,7 +289,7 @@ module _ (ps : List Placed) (n : Netlist) (bits : List BitEdit) where
         (let w = index_wide ps come.bit come.known in let s = sum_by-cons (item_width (bounds_in ds)) (net_item come.bit) [] in omega (arith, w, s))
 
     record StepComes (s : Statement) (k : ℕ) (all : List Assign) (olds : List Placed) : Type 0 where
-      are_named : assigns_named ds (changed_statement bits s) ++ changed_assigns olds ≡ map (named_assign n.nets) (map_from (edited_assign ports) k all)
+      are_named : assigns_named ds (changed_statement bits s) ++ changed_assigns olds ≡ map (named_assign n.nets) (map_from (put_assign at_right) k all)
       mine : Fits (changed_statement bits s)
       widths : Each (λ (p : Placed). Fits (changed_statement bits p.statement)) olds
 
@@ -299,14 +308,14 @@ module _ (ps : List Placed) (n : Netlist) (bits : List BitEdit) where
         let span : a.right.span ≡ right.span = ap (λ (s : SeenAssign). s.right.span) first in
         let lefts : map (named_bit n.nets) a.left.bits ≡ bits_of ds left.items = ap (λ (s : SeenAssign). s.left.bits) first in
         let rights : map (named_bit n.nets) a.right.bits ≡ bits_of ds right.items = ap (λ (s : SeenAssign). s.right.bits) first in
-        let come : Comes ps n bits right.span (assign_source ports k) = subst (λ (s : Span). Comes ps n bits s (assign_source ports k)) span (comes k a here) in
-        let new = place_bits right.span (assign_source ports k) right.items a.right come rights in
+        let come : Comes ps n bits right.span (at_right k) = subst (λ (s : Span). Comes ps n bits s (at_right k)) span (comes k a here) in
+        let new = place_bits right.span (at_right k) right.items a.right come rights in
         let behind : AreAssignsFrom (k + 1) all = λ j x is. let e : k + suc j ≡ (k + 1) + j = omega arith in subst (λ (y : ℕ). slice_get n.assigns y ≡ Some x) e (at (suc j) x is) in
         let m = more (k + 1) all others behind in
         record {
           are_named = ap₂ (λ (x : List (NamedBit × NamedBit)) (xs : List (List (NamedBit × NamedBit))). x ∷ xs)
-              (ap₂ (λ (x y : List NamedBit). pairs x y) (sym lefts) new ∙ sym (named_pairs n.nets a.left.bits (edited_expr (assign_source ports k) a.right).bits)) m.are_named;
-          mine = width_kept right.span (assign_source ports k) left right come fits
+              (ap₂ (λ (x y : List NamedBit). pairs x y) (sym lefts) new ∙ sym (named_pairs n.nets a.left.bits (edited_expr (at_right k) a.right).bits)) m.are_named;
+          mine = width_kept right.span (at_right k) left right come fits
               (λ net is. sym (items_wide ds left.items) ∙ ap (λ (l : List NamedBit). length l) (sym lefts) ∙ length-map a.left.bits (named_bit n.nets) ∙ wide k a net here is) refl;
           widths = m.widths;
         }

@@ -24,7 +24,7 @@ use Rattle.verilog_writer.proofs.Edited.{slot_edits}
 use Rattle.verilog_writer.proofs.KeptLists.{Has, has_left, has_right, has_map, Spaced, spaced_left, spaced_right, spaced_behind, no_common}
 
 -- the places of the slots
-abbrev slot_places : List Part → List Span
+abbrev pub slot_places : List Part → List Span
 slot_places [] = []
 slot_places (Fixed w ∷ ps) = slot_places ps
 slot_places (Slot o place ws c ∷ ps) = place ∷ slot_places ps
@@ -34,7 +34,7 @@ slots_spaced [] at end rising = tt
 slots_spaced (Fixed w ∷ ps) at end rising = slots_spaced ps at end rising
 slots_spaced (Slot o place ws c ∷ ps) at end rising = (rising.0, rising.1, rising.2, slots_spaced ps (place.end + 1) end rising.3)
 
-slots_append : (ps qs : List Part) → slot_places (ps ++ qs) ≡ slot_places ps ++ slot_places qs
+pub slots_append : (ps qs : List Part) → slot_places (ps ++ qs) ≡ slot_places ps ++ slot_places qs
 slots_append [] qs = refl
 slots_append (Fixed w ∷ ps) qs = slots_append ps qs
 slots_append (Slot o place ws c ∷ ps) qs = ap (λ (l : List Span). place ∷ l) (slots_append ps qs)
@@ -64,7 +64,7 @@ connection_slots closing [] = refl
 connection_slots closing (c ∷ []) = refl
 connection_slots closing (c ∷ d ∷ ds) = ap (λ (l : List Span). c.expression.span ∷ l) (connection_slots closing (d ∷ ds))
 
-statement_slots : (listed : Bool) (s : Statement) → slot_places (statement_parts listed s) ≡ places_in s
+pub statement_slots : (listed : Bool) (s : Statement) → slot_places (statement_parts listed s) ≡ places_in s
 statement_slots listed (statements.Module name ports) = no_header_slots listed ports
 statement_slots listed (statements.Declare kind range names) =
     slots_append (range_parts range) (list_parts name_parts 59 names)
@@ -79,7 +79,7 @@ statement_slots listed (statements.Instance cell name connections) =
 abbrev pub places : List Placed → List Span
 places ps = flat_map (λ (p : Placed). places_in p.statement) ps
 
-module_slots : (listed : Bool) (ps : List Placed) → slot_places (module_parts listed ps) ≡ places ps
+pub module_slots : (listed : Bool) (ps : List Placed) → slot_places (module_parts listed ps) ≡ places ps
 module_slots listed [] = refl
 module_slots listed (p ∷ ps) =
     slots_append (statement_parts listed p.statement) (module_parts listed ps)

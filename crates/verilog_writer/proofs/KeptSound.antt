@@ -28,23 +28,23 @@ use Rattle.verilog_writer.proofs.KeptBits.{IsKnownBit}
 use Rattle.verilog_writer.proofs.KeptFrames.{AreAlike, items_bare, widths_bare}
 
 -- an item with small numbers, within its declaration, and of a known name
-record IsFine (ps : List Placed) (x : Item) : Type 0 where
-  number : is_bad_number x ≡ false
-  select : is_bad_select (bounds_in (declarations ps)) x ≡ false
-  mentions : Each (λ q. named (entries ps) q ≡ true) (mentions_of x)
+pub record IsFine (ps : List Placed) (x : Item) : Type 0 where
+  pub number : is_bad_number x ≡ false
+  pub select : is_bad_select (bounds_in (declarations ps)) x ≡ false
+  pub mentions : Each (λ q. named (entries ps) q ≡ true) (mentions_of x)
 
-abbrev AreKnownNames : List Placed → List (List ℕ) → Type 0
+abbrev pub AreKnownNames : List Placed → List (List ℕ) → Type 0
 AreKnownNames ps names = Each (λ q. named (entries ps) q ≡ true) names
 
 -- a vector with a bit has a name
-vector_named : (ps : List Placed) (q : List ℕ) (i : ℕ) → selects (bounds_in (declarations ps) q) i ≡ true → named (entries ps) q ≡ true
+pub vector_named : (ps : List Placed) (q : List ℕ) (i : ℕ) → selects (bounds_in (declarations ps) q) i ≡ true → named (entries ps) q ≡ true
 vector_named ps q i is = by (named (entries ps) q) refl
   where
     by : (t : Bool) → named (entries ps) q ≡ t → t ≡ true
     by true there = refl
     by false none = absurd (false≢true (sym (ap (λ (b : Option Bounds). selects b i) (sym (bounds_are ps q) ∙ no_place (entries ps) q none)) ∙ is))
 
-item_fine : (ps : List Placed) (name : List ℕ) (index : Option ℕ) → is_escapable name ≡ true → IsIndex index → IsKnown ps name index → IsFine ps (indexed_item name index)
+pub item_fine : (ps : List Placed) (name : List ℕ) (index : Option ℕ) → is_escapable name ≡ true → IsIndex index → IsKnown ps name index → IsFine ps (indexed_item name index)
 item_fine ps name None black small known = record { number = refl; select = refl; mentions = (ap (named (entries ps)) (name_again name black) ∙ known.0, tt) }
 item_fine ps name (Some i) black small known =
     let low : i < 2 ^ 64 = omega arith in
@@ -56,11 +56,11 @@ item_fine ps name (Some i) black small known =
       mentions = (ap (named (entries ps)) again ∙ vector_named ps name i known.1, tt);
     }
 
-bit_fine : (ps : List Placed) (bit : NetBit) → IsKnownBit ps bit → IsFine ps (net_item bit)
+pub bit_fine : (ps : List Placed) (bit : NetBit) → IsKnownBit ps bit → IsFine ps (net_item bit)
 bit_fine ps bit known = item_fine ps bit.name bit.index known.is.name known.is.index known.known
 
 -- all items of a list
-all_fine : (ps : List Placed) (xs : List Item) → list_any is_bad_number xs ≡ false → list_any (is_bad_select (bounds_in (declarations ps))) xs ≡ false → AreKnownNames ps (flat_map mentions_of xs) → Each (IsFine ps) xs
+pub all_fine : (ps : List Placed) (xs : List Item) → list_any is_bad_number xs ≡ false → list_any (is_bad_select (bounds_in (declarations ps))) xs ≡ false → AreKnownNames ps (flat_map mentions_of xs) → Each (IsFine ps) xs
 all_fine ps [] number select known = tt
 all_fine ps (x ∷ xs) number select known =
     let numbers = or_parts (is_bad_number x) (list_any is_bad_number xs) number in
@@ -74,15 +74,15 @@ or_false : (a b : Bool) → a ≡ false → b ≡ false → (a || b) ≡ false
 or_false true b x y = x
 or_false false b x y = y
 
-numbers_fine : (ps : List Placed) (xs : List Item) → Each (IsFine ps) xs → list_any is_bad_number xs ≡ false
+pub numbers_fine : (ps : List Placed) (xs : List Item) → Each (IsFine ps) xs → list_any is_bad_number xs ≡ false
 numbers_fine ps [] fine = refl
 numbers_fine ps (x ∷ xs) fine = or_false (is_bad_number x) (list_any is_bad_number xs) fine.0.number (numbers_fine ps xs fine.1)
 
-selects_fine : (ps : List Placed) (xs : List Item) → Each (IsFine ps) xs → list_any (is_bad_select (bounds_in (declarations ps))) xs ≡ false
+pub selects_fine : (ps : List Placed) (xs : List Item) → Each (IsFine ps) xs → list_any (is_bad_select (bounds_in (declarations ps))) xs ≡ false
 selects_fine ps [] fine = refl
 selects_fine ps (x ∷ xs) fine = or_false (is_bad_select (bounds_in (declarations ps)) x) (list_any (is_bad_select (bounds_in (declarations ps))) xs) fine.0.select (selects_fine ps xs fine.1)
 
-mentions_fine : (ps : List Placed) (xs : List Item) → Each (IsFine ps) xs → AreKnownNames ps (flat_map mentions_of xs)
+pub mentions_fine : (ps : List Placed) (xs : List Item) → Each (IsFine ps) xs → AreKnownNames ps (flat_map mentions_of xs)
 mentions_fine ps [] fine = tt
 mentions_fine ps (x ∷ xs) fine = each_append (λ (q : List ℕ). named (entries ps) q ≡ true) (mentions_of x) (flat_map mentions_of xs) fine.0.mentions (mentions_fine ps xs fine.1)
 

@@ -53,6 +53,10 @@ identifier_black : (b : ℕ) (bs : List ℕ) → is_identifier (b ∷ bs) ≡ tr
 identifier_black b bs e =
     rw (positive (length bs), no_blank_start b (first_part (is_word_start b) _ e)) (words_black bs (second_part (is_word_start b) _ e))
 
+pub plain_black : (name : List ℕ) → is_identifier name ≡ true → is_escapable name ≡ true
+plain_black [] e = absurd cc
+plain_black (b ∷ bs) e = identifier_black b bs e
+
 escaped_black : (bs : List ℕ) → is_escaped bs ≡ true → is_escapable (take (prefix_len (λ c. not (is_blank c)) bs) bs) ≡ true
 escaped_black bs e = rw (run_length (λ c. not (is_blank c)) bs, first_part (nat_lt 0 (prefix_len (λ c. not (is_blank c)) bs)) _ e) (run_all (λ c. not (is_blank c)) bs)
 

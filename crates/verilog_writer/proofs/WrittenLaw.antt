@@ -24,10 +24,10 @@ texts_again : (text : List ℕ) (ss : List Span) → token_texts (tokens_of text
 texts_again text [] = refl
 texts_again text (s ∷ ss) = ap (λ (l : List (List ℕ)). bytes_of text s ∷ l) (texts_again text ss)
 
-tokens_texts : (text : List ℕ) → token_texts (tokens_in text) ≡ texts text
+pub tokens_texts : (text : List ℕ) → token_texts (tokens_in text) ≡ texts text
 tokens_texts text = texts_again text (verilog_tokens text) ∙ sym (texts_law text)
 
-slots_of : (listed : Bool) (ps : List Placed) (edits : List BitEdit) → Each (λ (e : BitEdit). IsPlaceIn e.span ps) edits → Each (λ (e : BitEdit). IsSlotOf e.span (module_parts listed ps)) edits
+pub slots_of : (listed : Bool) (ps : List Placed) (edits : List BitEdit) → Each (λ (e : BitEdit). IsPlaceIn e.span ps) edits → Each (λ (e : BitEdit). IsSlotOf e.span (module_parts listed ps)) edits
 slots_of listed ps [] places = tt
 slots_of listed ps (e ∷ edits) places = (in_module e.span listed ps places.0, slots_of listed ps edits places.1)
 

@@ -1,3 +1,5 @@
 pub mod VerilogText
 pub mod NetTexts
 pub mod Written
+pub mod Inserted
+pub mod Wired

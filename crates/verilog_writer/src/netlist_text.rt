@@ -13,7 +13,7 @@ use path_links::{Edits, PinEdit, PortEdit};
 use splice::{Edit, spliced};
 use std::alloc::Global;
 
-fn connection_at<'a>(pin: &Name, connections: &'a [Connection]) -> Option<&'a Connection>
+pub(crate) fn connection_at<'a>(pin: &Name, connections: &'a [Connection]) -> Option<&'a Connection>
     ensures value { option_map (λ connection. connection.now) result ≡ connection_at pin.now connections.now }
 {
     connections
@@ -35,7 +35,7 @@ pub fn in_connection<'a>(
     connection_at(&entered.input, placed.connections.as_slice())
 }
 
-fn text_of(netlist: &Netlist, net: NetId) -> &[u8]
+pub(crate) fn text_of(netlist: &Netlist, net: NetId) -> &[u8]
     ensures value { result.now ≡ text_of netlist.now net }
 {
     match netlist.nets.as_slice().get(net.0 as usize) {
@@ -107,7 +107,7 @@ fn edit_texts(
 
 /// The text of a netlist with edits: in the text that was read, the Verilog text of the new net stands in place of each edited
 /// expression, and every other byte stays (IEEE 1364-2005, 6.1 and 12.1.2); or want of memory.
-pub fn verilog_text(
+pub fn verilog_text_of_nets(
     alloc: Global,
     text: &[u8],
     netlist: &Netlist,

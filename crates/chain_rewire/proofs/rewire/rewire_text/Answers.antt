@@ -40,8 +40,8 @@ returns-in_err-new-clause-fault c =
     rw (p.1, p.2)
     (fault_weaker {X = Path} (Err c.in_err-new.field-0.0) (λ fault. (text : _) → IsTraced text w n path → IsRewireFault text w fault) (IsRewireFault text w) (λ fault is. is text traced) c.in_err-new.ensures.fault)
 
-pub verilog_text-requires-clause-edits : goal.verilog_text-requires-clause-edits
-verilog_text-requires-clause-edits c =
+pub verilog_text_of_nets-requires-clause-edits : goal.verilog_text_of_nets-requires-clause-edits
+verilog_text_of_nets-requires-clause-edits c =
     let traced = c.in_ok-path.ensures.path c.args.text.now c.in_ok-netlist.ensures.value in
     c.in_ok-edits.ensures.edits c.in_ok-path.path c.in_ok-new.new refl refl
     (is_reordered c.args.text.now c.args.rewire.now c.in_ok-netlist.netlist c.in_ok-path.path traced c.in_ok-new.ensures.instances c.in_ok-table.table c.in_ok-new.new c.requires.pins c.in_ok-new.ensures.last
