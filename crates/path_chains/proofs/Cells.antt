@@ -38,7 +38,7 @@ unfolding step_bits
 path_bits n cells [] = refl
 path_bits n cells (s ∷ steps) = bits_append (step_marks n cells s) (path_marks n cells steps) ∙ ap (λ (bs : List BitId). bits_in (step_marks n cells s) ++ bs) (path_bits n cells steps)
 
-all_of_steps : (n : Netlist) (cells : Cells) (paths : List Path) → bits_of_paths n cells paths ≡ flat_map (step_bits n cells) (steps_of paths)
+pub all_of_steps : (n : Netlist) (cells : Cells) (paths : List Path) → bits_of_paths n cells paths ≡ flat_map (step_bits n cells) (steps_of paths)
 all_of_steps n cells [] = refl
 all_of_steps n cells (p ∷ ps) =
     ap₂ (λ (a b : List BitId). a ++ b) (path_bits n cells p.steps) (all_of_steps n cells ps) ∙ sym (flat_map-append (step_bits n cells) p.steps (steps_of ps))
@@ -80,7 +80,7 @@ entry_once s None out = tt
 entry_once s (Some path) None = tt
 entry_once s (Some path) (Some out) = subst NoTwice (sym (last_turn (bit_marks s.instance s.path 0 path.bits) out.inverted)) (marks_once s.instance s.path 0 path.bits)
 
-bit_of : (n : Netlist) (cells : Cells) (s : Step) (b : BitId) → Has (step_bits n cells s) b → IsBitOf s.instance s.path 0 b
+pub bit_of : (n : Netlist) (cells : Cells) (s : Step) (b : BitId) → Has (step_bits n cells s) b → IsBitOf s.instance s.path 0 b
 unfolding step_bits
 bit_of n cells s b h = entry_of s (scan_path_at n cells s.instance s.path) (out_pin_at n cells s) b h
 
@@ -99,7 +99,7 @@ one_step (s ∷ ss) o a b (inl e) (inr g) same = absurd (o.0 b g (subst (λ (x :
 one_step (s ∷ ss) o a b (inr h) (inl f) same = absurd (o.0 a h (record { instance = ap (λ (x : Step). x.instance) f ∙ sym same.instance; path = ap (λ (x : Step). x.path) f ∙ sym same.path }))
 one_step (s ∷ ss) o a b (inr h) (inr g) same = one_step ss o.1 a b h g same
 
-bits_once : (n : Netlist) (cells : Cells) (steps : List Step) → Once steps → NoTwice (flat_map (step_bits n cells) steps)
+pub bits_once : (n : Netlist) (cells : Cells) (steps : List Step) → Once steps → NoTwice (flat_map (step_bits n cells) steps)
 bits_once n cells steps o =
     no_twice_flat (step_bits n cells) steps (steps_once steps o) (λ s h. step_once n cells s)
     (λ a b z h g x y.

@@ -1,8 +1,10 @@
 ghost use Rattle.path_chains.specs.Numbered.{CellsLaw, KeepsBitsLaw};
+ghost use Rattle.path_chains.specs.Ranked.{RankLaw};
 
-/// Paths over the same steps make scan chains (IEEE 1450-1999, ScanStructures) of the same cells, and after a legal plan no path loses
-/// its last bit. The call does nothing; its contract is the law.
+/// Paths over the same steps make scan chains (IEEE 1450-1999, ScanStructures) of the same cells, after a legal plan no path loses
+/// its last bit, and the ranks of the bits number them. The call does nothing; its contract is the law.
 pub fn cells_law()
     ensures cells { CellsLaw }
     ensures keeps { KeepsBitsLaw }
+    ensures ranks { RankLaw }
 {}
