@@ -16,37 +16,37 @@ use Rattle.stil_calls.specs.Scans.{gives_twice, has_unsound, is_foreign, is_shor
 abbrev pub is_pattern_syntax : Shape → Bool
 is_pattern_syntax NoForm = true
 is_pattern_syntax (Scan items) = gives_twice items
-is_pattern_syntax other = false
+is_pattern_syntax shape = false
 
 -- a form that isn't supported in a Pattern
 abbrev pub is_pattern_unsupported : Shape → Bool
 is_pattern_unsupported Unsupported = true
-is_pattern_unsupported other = false
+is_pattern_unsupported shape = false
 
 -- scan data hold another character or escape than their alphabet and \r n c
 abbrev pub is_scan_character : StilHead → Shape → Bool
 is_scan_character head (Scan items) = has_unsound head.chains items
-is_scan_character head other = false
+is_scan_character head shape = false
 
 -- a scan call gives data to a name that is no chain's ScanIn or ScanOut
 abbrev pub is_foreign_data : StilHead → Shape → Bool
 is_foreign_data head (Scan items) = is_foreign head.chains items
-is_foreign_data head other = false
+is_foreign_data head shape = false
 
 -- the call shifts at least once and fewer times than the longest chain has bits
 abbrev pub is_short_load : StilHead → Shape → Bool
 is_short_load head (Scan items) = is_short head.chains items
-is_short_load head other = false
+is_short_load head shape = false
 
 -- an L or H stands at an index that isn't below its chain's bits
 abbrev pub is_long_compare : StilHead → Shape → Bool
 is_long_compare head (Scan items) = is_long head.chains items
-is_long_compare head other = false
+is_long_compare head shape = false
 
 -- a string of a scan call is longer than 524288
 abbrev pub is_too_many_shifts : StilHead → Shape → Bool
 is_too_many_shifts head (Scan items) = is_vast head.chains items
-is_too_many_shifts head other = false
+is_too_many_shifts head shape = false
 
 -- the least kind that holds of a statement
 abbrev pub kind_of : StilHead → Shape → Option Kind
@@ -77,7 +77,7 @@ body_fault head line text (s ∷ ss) = fault_or (kind_of head (shape_of head tru
 -- the first fault in the block of a statement: that of a Loop is read
 abbrev pub inner_fault : StilHead → ℕ → List ℕ → Shape → Option PartFault
 inner_fault head line text (Loop times body) = body_fault head line text (body_statements body)
-inner_fault head line text other = None
+inner_fault head line text shape = None
 
 -- the first fault of a statement of this form: its own, and then those in its block
 abbrev pub shape_fault : StilHead → ℕ → List ℕ → Shape → Option PartFault

@@ -21,7 +21,7 @@ use Rattle.stil_calls.specs.Faults.{line_in, fault_in}
 -- the call of a Scan
 abbrev pub call_in : StilHead → Shape → Option ScanCall
 call_in head (Scan items) = Some (call_of head.chains items)
-call_in head other = None
+call_in head shape = None
 
 -- a statement in the block of a Loop, with its place in the Loop's text
 abbrev pub body_of : StilHead → ℕ → List ℕ → List Token → BodyStatement
