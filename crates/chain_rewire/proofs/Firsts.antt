@@ -1,6 +1,6 @@
 -- The first fault, stage by stage, and that what is rewired excludes every fault: a text denotes one netlist, a name tells the
 -- port, and that has one path or one fault.
-use Rattle.std.proofs.Common.{◌≡◌, ◌≢◌, ◌<◌, ◌⊎◌, inl, inr, ℕ, false, List, Result, Ok, Err, refl, sym, ap, ap₂, ◌∙◌, subst, arith}
+use Rattle.std.proofs.Common.{◌≡◌, ◌≢◌, ◌<◌, ◌⊎◌, inl, inr, ℕ, Bool, true, false, ◌||◌, List, Err, refl, sym, ap, ap₂, ◌∙◌, subst, arith}
 use Rattle.base_types.specs.declared.fault.Fault.{Fault}
 use Rattle.base_types.specs.declared.fault.ReadFault.{ReadFault}
 use Rattle.base_types.specs.declared.fault.ReadFault.TheVariants as faults
@@ -25,13 +25,27 @@ use Rattle.chain_trace.proofs.Meeting.{no_path}
 use Rattle.chain_trace.proofs.OneFault.{one_fault}
 use Rattle.chain_trace.proofs.TraceKinds.{trace_late, trace_early}
 use Rattle.path_links.specs.Free.{is_free}
+use Rattle.path_links.specs.Direct.{last_of, is_direct_from}
 use Rattle.chain_rewire.specs.declared.rewire.Rewire.{Rewire}
-use Rattle.chain_rewire.specs.Rewiring.{cells_of, instance_names, IsTraced}
+use Rattle.chain_rewire.specs.Rewiring.{cells_of, instance_names, is_free_at_end, IsTraced}
 use Rattle.chain_rewire.specs.Faults.{HasPorts, AreInstances, last_name, IsOfOutput, IsPortFault, IsOutputFault, IsInputFault, IsOrderFault, IsLastFault, HoldsInRewire, OfVerilog, OfPort, OfOutput, OfInput, OfOrder, OfLast}
 use Rattle.chain_rewire.proofs.Ports.{same_port, input_drives}
 
 of_kind : (g : Fault) (kind : Kind) → g ≡ of_words kind → number_of g.kind ≡ number_of kind
 of_kind g kind e = ap (λ (x : Fault). number_of x.kind) e
+
+-- neither of two tests passes
+left_false : (a b : Bool) → (a || b) ≡ false → a ≡ false
+left_false true b e = absurd cc
+left_false false b e = refl
+
+right_false : (a b : Bool) → (a || b) ≡ false → b ≡ false
+right_false true b e = absurd cc
+right_false false b e = e
+
+pub both_false : (a b : Bool) → a ≡ false → b ≡ false → (a || b) ≡ false
+both_false true b e f = absurd cc
+both_false false b e f = f
 
 module _ (text : List ℕ) (w : Rewire) where
   abbrev pub First : Fault → Type 0
@@ -160,18 +174,29 @@ module _ (text : List ℕ) (w : Rewire) where
       of_last f e g (OfOrder h) = absurd (no_order g h)
       of_last f e g (OfLast h) = inl (h.is ∙ sym e)
 
-      pub first_last : is_free n path.output ≡ false → last_name w.units ≢ last_name (instance_names n path) → First (of_words PinnedLast)
-      first_last pinned other =
-          first_of (HoldsInRewire text w) (of_words PinnedLast) (OfLast (record { netlist = n; path = path; found = of_traced; pinned = pinned; other = other; is = refl })) (of_last (of_words PinnedLast) refl)
+      abbrev pub IsPinned : Type 0
+      IsPinned = is_free_at_end n w path path.output ≡ false
 
-      no_last : (is_free n path.output ≡ false → last_name w.units ≡ last_name (instance_names n path)) → (g : Fault) → IsLastFault text w g → ⊥
+      pub first_last : IsPinned → last_name w.units ≢ last_name (instance_names n path) → First (of_words PinnedLast)
+      first_last pinned other =
+          let assigned = is_free n path.output in
+          let direct = is_direct_from n (cells_of w) path.output (last_of path) in
+          let it : IsLastFault text w (of_words PinnedLast)
+          = record { netlist = n; path = path; found = of_traced; pinned = left_false assigned direct pinned; indirect = right_false assigned direct pinned; other = other; is = refl }
+          in
+          first_of (HoldsInRewire text w) (of_words PinnedLast) (OfLast it) (of_last (of_words PinnedLast) refl)
+
+      no_last : (IsPinned → last_name w.units ≡ last_name (instance_names n path)) → (g : Fault) → IsLastFault text w g → ⊥
       no_last last g h =
-          let free : is_free n path.output ≡ false
-          = sym (ap₂ (λ (m : Netlist) (p : Path). is_free m p.output) (same_netlist n traced.reads h.netlist h.found.reads) (same_path n traced.reads path of_traced ports h.netlist h.path h.found)) ∙ h.pinned
+          let pinned : is_free_at_end h.netlist w h.path h.path.output ≡ false
+          = both_false (is_free h.netlist h.path.output) (is_direct_from h.netlist (cells_of w) h.path.output (last_of h.path)) h.pinned h.indirect
+          in
+          let free : IsPinned
+          = sym (ap₂ (λ (m : Netlist) (p : Path). is_free_at_end m w p p.output) (same_netlist n traced.reads h.netlist h.found.reads) (same_path n traced.reads path of_traced ports h.netlist h.path h.found)) ∙ pinned
           in
           h.other (last free ∙ ap last_name (names_same h.netlist h.path h.found))
 
-      pub excluded : (is_free n path.output ≡ false → last_name w.units ≡ last_name (instance_names n path)) → (g : Fault) → HoldsInRewire text w g → ⊥
+      pub excluded : (IsPinned → last_name w.units ≡ last_name (instance_names n path)) → (g : Fault) → HoldsInRewire text w g → ⊥
       excluded last g (OfVerilog h) = no_reading n traced.reads g h
       excluded last g (OfPort h) = no_port n traced.reads path.output ports g h
       excluded last g (OfOutput h) = no_met n traced.reads path of_traced ports g h

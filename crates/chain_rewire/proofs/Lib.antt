@@ -4,10 +4,11 @@ pub mod Instances
 pub mod Ordering
 pub mod NameRefusals
 pub mod PathRefusals
-pub mod TailErased
 pub mod Units
 pub mod Rearrangings
 pub mod Reorderings
 pub mod Ports
 pub mod Firsts
 pub mod NewPaths
+pub mod ErasedAlike
+pub mod IsMade

@@ -1,5 +1,5 @@
 -- The refusals of the words' names.
-use Rattle.std.proofs.Common.{◌≡◌, ◌≢◌, ℕ, Bool, true, false, List, Result, Err, refl, sym, ap, ◌∙◌}
+use Rattle.std.proofs.Common.{◌≡◌, ◌≢◌, ℕ, Bool, true, false, List, Result, Err, sym, ap, ◌∙◌}
 use Rattle.std.specs.Str.{bytes_eq}
 use Rattle.std.proofs.lemmas.Slice.Eq.{bytes_eq-Decides}
 use Rattle.base_types.specs.declared.fault.ReadFault.{ReadFault}
@@ -10,9 +10,8 @@ use Rattle.chain_trace.specs.declared.path.Path.{Path}
 use Rattle.base_types.specs.declared.fault.Fault.{Fault}
 use Rattle.base_types.specs.Faults.{of_words}
 use Rattle.base_types.specs.FirstFault.{IfFault}
-use Rattle.path_links.specs.Free.{is_free}
 use Rattle.chain_rewire.specs.declared.rewire.Rewire.{Rewire}
-use Rattle.chain_rewire.specs.Rewiring.{instance_names, IsTraced}
+use Rattle.chain_rewire.specs.Rewiring.{instance_names, is_free_at_end, IsTraced}
 use Rattle.chain_rewire.specs.Faults.{AreInstances, last_name, IsRewireFault}
 use Rattle.chain_rewire.specs.Names.{are_instances}
 use Rattle.chain_rewire.proofs.Firsts.{first_order, first_last}
@@ -36,7 +35,7 @@ not_permutation X n w path words names is e u m test f fault =
     rw fault (λ text traced. first_order text w n path traced (λ are. let yes = sym (instances_test w.units (instance_names n path) are) ∙ other in absurd cc))
 
 pub pinned_last : (X : Type 0) (n : Netlist) (w : Rewire) (path : Path) (words names : List (List ℕ)) (is : Bool) (a b : List ℕ) (free : Bool) (e : Fault) → words ≡ w.units → names ≡ instance_names n path
-    → is ≡ are_instances words names → is ≡ true → a ≡ last_name words → b ≡ last_name names → bytes_eq a b ≡ false → free ≡ is_free n path.output → free ≡ false → e ≡ of_words PinnedLast → Refuses {X = X} n w path (Err (faults.Fault e))
+    → is ≡ are_instances words names → is ≡ true → a ≡ last_name words → b ≡ last_name names → bytes_eq a b ≡ false → free ≡ is_free_at_end n w path path.output → free ≡ false → e ≡ of_words PinnedLast → Refuses {X = X} n w path (Err (faults.Fault e))
 pinned_last X n w path words names is a b free e u m test t last_a last_b differ free_is pinned fault =
     let are = passed n w path words names is u m test t in
     let apart : last_name w.units ≢ last_name (instance_names n path)

@@ -1,26 +1,27 @@
 -- The path of the written text: its instances are those of the words, in their order.
-use Rattle.std.proofs.Common.{◌≡◌, ℕ, ◌+◌, List, [], ◌∷◌, map, slice_get, Option, Some, None, option_map, refl, sym, ap, ap₂, ◌∙◌, subst}
+use Rattle.std.proofs.Common.{◌≡◌, ℕ, ◌+◌, ◌<◌, List, [], ◌∷◌, length, map, slice_get, Option, Some, None, option_map, refl, sym, ap, ap₂, ◌∙◌}
 use Rattle.std.proofs.lemmas.Option.{slice_get-map}
+use Rattle.netlist_core.specs.declared.netlist.NetId.{NetId}
 use Rattle.netlist_core.specs.declared.netlist.NetName.{NetName}
 use Rattle.netlist_core.specs.declared.netlist.Instance.{Instance}
 use Rattle.netlist_core.specs.declared.netlist.Netlist.{Netlist}
-use Rattle.netlist_core.specs.Netlists.{NamedNetlist, NamedInstance, NamedPort, NamedBit, named, named_instance, plain_of, AreWiredAlike, IsNetlist}
+use Rattle.netlist_core.specs.Netlists.{NamedInstance, named_instance, plain_of, AreWiredAlike, IsNetlist}
 use Rattle.cell_table.specs.Cells.{Cells}
 use Rattle.chain_trace.specs.declared.path.Step.{Step}
 use Rattle.chain_trace.specs.declared.path.Path.{Path}
-use Rattle.chain_trace.specs.Paths.{IsScanPath}
+use Rattle.chain_trace.specs.Paths.{drives, is_driven, IsScanPath}
 use Rattle.chain_trace.specs.Named.{HasSamePath, NamesLaw}
 use Rattle.chain_trace.proofs.NamedNets.{turned_wiring}
+use Rattle.chain_trace.proofs.Ranges.{port_within}
 use Rattle.path_links.specs.declared.edits.PinEdit.{PinEdit}
-use Rattle.path_links.specs.declared.edits.Edits.{Edits}
-use Rattle.path_links.specs.Edited.{edited, edited_instance, map_from}
-use Rattle.path_links.specs.Erasure.{erased_netlist}
-use Rattle.path_links.specs.Reordered.{sinks_of}
-use Rattle.verilog_reader.specs.Denoted.{DeclareAlike}
-use Rattle.verilog_writer.specs.Written.{IsWrittenFrom, DenotesAlike}
+use Rattle.path_links.specs.Edited.{map_from}
+use Rattle.net_edit.specs.declared.changes.Change.{Change}
+use Rattle.net_edit.specs.Tails.{freed_between, pin_edits, changed_instance, net_named, rewired}
+use Rattle.verilog_writer.specs.Written.{DenotesAlike}
+use Rattle.verilog_writer.proofs.TailSeen.{front_net}
 use Rattle.chain_rewire.specs.declared.rewire.Rewire.{Rewire}
-use Rattle.chain_rewire.specs.Rewiring.{cells_of, name_of, instance_name, instance_names, ordered, IsTraced, AreErasedAlike, HasPath}
-use Rattle.chain_rewire.proofs.Ports.{output_is_driven}
+use Rattle.chain_rewire.specs.Rewiring.{cells_of, name_of, instance_name, instance_names, ordered, IsTraced, HasPath}
+use Rattle.chain_rewire.proofs.Ports.{input_drives, output_is_driven}
 
 -- the names of a netlist's instances, in order
 abbrev all_names : List Instance → List (List ℕ)
@@ -30,20 +31,13 @@ named_names : (nets : List NetName) (instances : List Instance) → map (λ (i :
 named_names nets [] = refl
 named_names nets (i ∷ is) = ap (λ (l : List (List ℕ)). i.name ∷ l) (named_names nets is)
 
-edited_names : (n : Netlist) (cells : Cells) (pins : List PinEdit) (k : ℕ) (instances : List Instance) → all_names (map_from (edited_instance n cells pins) k instances) ≡ all_names instances
-edited_names n cells pins k [] = refl
-edited_names n cells pins k (i ∷ is) = ap (λ (l : List (List ℕ)). i.name ∷ l) (edited_names n cells pins (k + 1) is)
+changed_names : (n : Netlist) (cells : Cells) (fs : List Change) (pins : List PinEdit) (k : ℕ) (instances : List Instance) → all_names (map_from (changed_instance n cells fs pins) k instances) ≡ all_names instances
+changed_names n cells fs pins k [] = refl
+changed_names n cells fs pins k (i ∷ is) = ap (λ (l : List (List ℕ)). i.name ∷ l) (changed_names n cells fs pins (k + 1) is)
 
 names_alike : (n m : Netlist) → AreWiredAlike n m → all_names n.instances ≡ all_names m.instances
 names_alike n m same =
     sym (named_names n.nets n.instances) ∙ ap (λ (instances : List NamedInstance). map (λ (i : NamedInstance). i.name) instances) same.instances ∙ named_names m.nets m.instances
-
--- where no net stands in front, all names are the same
-same_names : (n m : Netlist) → IsWrittenFrom n m [] → named n ≡ named m
-same_names n m same =
-    ap₂ (λ (name : List ℕ) (nets : List (List ℕ)). let x : NamedNetlist = record { module_name = name; nets = nets; ports = (named n).ports; assigns = (named n).assigns; instances = (named n).instances } in x) same.module_name same.nets
-    ∙ ap₂ (λ (ports : List NamedPort) (assigns : List (List (NamedBit × NamedBit))). let x : NamedNetlist = record { module_name = (named m).module_name; nets = (named m).nets; ports = ports; assigns = assigns; instances = (named n).instances } in x) same.wired.ports same.wired.assigns
-    ∙ ap (λ (instances : List NamedInstance). let x : NamedNetlist = record { module_name = (named m).module_name; nets = (named m).nets; ports = (named m).ports; assigns = (named m).assigns; instances = instances } in x) same.wired.instances
 
 abbrev or_none : Option (List ℕ) → List ℕ
 or_none None = []
@@ -62,37 +56,41 @@ steps_alike n m (s ∷ ss) e =
     let here = name_among n s ∙ ap (λ (l : List (List ℕ)). or_none (slice_get l s.instance)) e ∙ sym (name_among m s) in
     ap₂ (λ (x : List ℕ) (l : List (List ℕ)). x ∷ l) here (steps_alike n m ss e)
 
-module _ (text : List ℕ) (w : Rewire) (n : Netlist) (path : Path) (traced : IsTraced text w n path) (cells : Cells) (same : cells ≡ cells_of w) (edits : Edits) (written : List ℕ)
-    (after : DenotesAlike written (edited n cells edits) []) where
-  pub erased : DeclareAlike text written → erased_netlist (sinks_of n cells path) (named (edited n cells edits)) ≡ erased_netlist (sinks_of n cells path) (named n) → AreErasedAlike text w written
-  erased declared e =
-      let alike = ap (erased_netlist (sinks_of n cells path)) (same_names after.netlist (edited n cells edits) after.same) ∙ e in
-      record {
-        before = n;
-        path = path;
-        traced = traced;
-        after = after.netlist;
-        denoted = after.is;
-        declared = declared;
-        same = subst (λ (cells : Cells). erased_netlist (sinks_of n cells path) (named after.netlist) ≡ erased_netlist (sinks_of n cells path) (named n)) same alike;
-      }
+module _ (text : List ℕ) (w : Rewire) (n : Netlist) (path : Path) (traced : IsTraced text w n path) (names : List (List ℕ)) (written : List ℕ) where
+  abbrev new : Path
+  new = ordered n path w.units
 
-  after_names : all_names after.netlist.instances ≡ all_names n.instances
-  after_names = names_alike after.netlist (edited n cells edits) after.same.wired ∙ edited_names n cells edits.pins 0 n.instances
+  -- the netlist in which the path is made another one
+  abbrev rewired_to : Cells → Path → Netlist
+  rewired_to cells made = rewired n cells names (path ∷ []) (made ∷ [])
 
-  pub has_path : NamesLaw → (new : Path) → new ≡ ordered n path w.units → instance_names n (ordered n path w.units) ≡ w.units → IsNetlist (edited n cells edits) → IsScanPath (edited n cells edits) cells new.output new → HasPath written w w.units
-  has_path law new new_is words sound is =
-      let h : HasSamePath (edited n cells edits) after.netlist cells new = law (edited n cells edits) after.netlist cells new sound after.is.sound (turned_wiring after.netlist (edited n cells edits) after.same.wired) is in
-      let here : IsScanPath after.netlist (cells_of w) h.path.output h.path = subst (λ (cells : Cells). IsScanPath after.netlist cells h.path.output h.path) same h.is in
-      let output = h.same.output ∙ ap (λ (p : Path). plain_of n.nets p.output) new_is ∙ traced.output.named in
+  abbrev after : Netlist
+  after = rewired_to (cells_of w) new
+
+  front_plain : (net : NetId) → net.0 < length n.nets → plain_of after.nets net ≡ plain_of n.nets net
+  front_plain net within = front_net n.nets (map net_named names) net within
+
+  path_here : NamesLaw → instance_names n new ≡ w.units → DenotesAlike written after names → IsNetlist after → IsScanPath after (cells_of w) path.output new → HasPath written w w.units
+  path_here law words denoted sound is =
+      let h : HasSamePath after denoted.netlist (cells_of w) new = law after denoted.netlist (cells_of w) new sound denoted.is.sound (turned_wiring denoted.netlist after denoted.same.wired) is in
+      let after_names : all_names denoted.netlist.instances ≡ all_names n.instances
+      = names_alike denoted.netlist after denoted.same.wired ∙ changed_names n (cells_of w) (freed_between n (cells_of w) (path ∷ []) (new ∷ [])) (pin_edits n (cells_of w) (path ∷ []) (new ∷ [])) 0 n.instances
+      in
+      let output = front_plain path.output (port_within n is_driven path.output traced.reads.sound traced.output.port) in
+      let input = front_plain path.input (port_within n drives path.input traced.reads.sound (input_drives n (cells_of w) path.output path traced.is)) in
       record {
-        netlist = after.netlist;
+        netlist = denoted.netlist;
         path = h.path;
         traced = record {
-          reads = after.is;
-          output = record { named = output; port = output_is_driven after.netlist (cells_of w) h.path.output h.path here };
-          is = here;
-          input = h.same.input ∙ ap (λ (p : Path). plain_of n.nets p.input) new_is ∙ traced.input;
+          reads = denoted.is;
+          output = record { named = h.same.output ∙ output ∙ traced.output.named; port = output_is_driven denoted.netlist (cells_of w) h.path.output h.path h.is };
+          is = h.is;
+          input = h.same.input ∙ input ∙ traced.input;
         };
-        same = steps_alike after.netlist n h.path.steps after_names ∙ ap (map (instance_name n)) (h.same.steps ∙ ap (λ (p : Path). p.steps) new_is) ∙ words;
+        same = steps_alike denoted.netlist n h.path.steps after_names ∙ ap (map (instance_name n)) h.same.steps ∙ words;
       }
+
+  -- so it is with what is computed
+  pub has_path : (cells : Cells) (made : Path) → cells ≡ cells_of w → made ≡ new → NamesLaw → instance_names n new ≡ w.units → DenotesAlike written (rewired_to cells made) names → IsNetlist (rewired_to cells made)
+      → IsScanPath (rewired_to cells made) cells made.output made → HasPath written w w.units
+  has_path cells made same made_is = rw (same, made_is) path_here

@@ -1,6 +1,6 @@
 -- The path in the order of the words is the read one rearranged, where another last one is only asked of an output that is
 -- assigned or direct.
-use Rattle.std.proofs.Common.{◌≡◌, ◌≢◌, ℕ, true, false, List, [], ◌∷◌, ◌++◌, inl, inr, refl, sym, ap, ◌∙◌, subst, arith}
+use Rattle.std.proofs.Common.{◌≡◌, ◌≢◌, ℕ, false, List, [], ◌∷◌, ◌++◌, inl, inr, refl, sym, ap, ◌∙◌, subst, arith}
 use Rattle.std.proofs.lemmas.Bool.{cases_Bool}
 use Rattle.std.proofs.lemmas.List.{append-nil}
 use Rattle.std.specs.Prelude.{Contains, filter_map}
@@ -12,14 +12,14 @@ use Rattle.chain_trace.specs.declared.path.Path.{Path}
 use Rattle.chain_trace.specs.declared.path.Source.TheVariants as sources
 use Rattle.chain_trace.specs.Paths.{StandOnce}
 use Rattle.path_links.specs.Free.{is_free}
-use Rattle.path_links.specs.Reordered.{last_of}
-use Rattle.net_edit.specs.Changes.{is_direct_from}
+use Rattle.path_links.specs.Direct.{last_of, is_direct_from}
 use Rattle.net_edit.specs.Rearranged.{AreRearranged}
 use Rattle.net_edit.proofs.TablePins.{pins_once}
 use Rattle.chain_rewire.specs.declared.rewire.Rewire.{Rewire}
-use Rattle.chain_rewire.specs.Rewiring.{cells_of, instance_names, step_named, ordered, IsTraced}
+use Rattle.chain_rewire.specs.Rewiring.{cells_of, instance_names, step_named, ordered, is_free_at_end, IsTraced}
 use Rattle.chain_rewire.specs.Faults.{last_name, AreInstances}
 use Rattle.chain_rewire.proofs.Members.{IsIn}
+use Rattle.chain_rewire.proofs.Firsts.{both_false}
 use Rattle.chain_rewire.proofs.Reorderings.{in_contains, contains_in, last_same, ordered_names, units, new_units, to_old, to_new, once}
 
 none_left : {X : Type 0} (xs ys : List X) → ((x : X) → IsIn x ys → IsIn x xs) → xs ≡ [] → ys ≡ []
@@ -36,7 +36,7 @@ module _ (text : List ℕ) (w : Rewire) (n : Netlist) (path : Path) (traced : Is
   new_in : (step : Step) → IsIn step path.steps → IsIn step new
   new_in step i = to_new text w n path traced are step i
 
-  pub rearranged : w.in_pin ≢ w.out_pin → (is_free n path.output ≡ false → is_direct_from n (cells_of w) path.output (last_of path) ≡ false → last_name w.units ≡ last_name (instance_names n path))
+  pub rearranged : w.in_pin ≢ w.out_pin → (is_free_at_end n w path path.output ≡ false → last_name w.units ≡ last_name (instance_names n path))
       → AreRearranged n (cells_of w) (path ∷ []) (ordered n path w.units ∷ [])
   rearranged differ last =
       let news : new ++ [] ≡ new = append-nil new in
@@ -54,7 +54,7 @@ module _ (text : List ℕ) (w : Rewire) (n : Netlist) (path : Path) (traced : Is
               | inr pinned ↦ elim (cases_Bool (is_direct_from n (cells_of w) path.output (last_of path))) [
                 | inl direct ↦ inr direct
                 | inr indirect ↦ absurd (moved (last_same n (sources.Port path.input) new path.steps traced.reads.sound (new_units text w n path traced are) (units text w n path traced are) old_in new_in
-                    (ap last_name (ordered_names text w n path traced are) ∙ last pinned indirect)))
+                    (ap last_name (ordered_names text w n path traced are) ∙ last (both_false (is_free n path.output) (is_direct_from n (cells_of w) path.output (last_of path)) pinned indirect))))
               ]
             ];
           },
@@ -69,6 +69,6 @@ module _ (text : List ℕ) (w : Rewire) (n : Netlist) (path : Path) (traced : Is
         pins = pins_once n (cells_of w) (one_cell_once w.cell w.in_pin w.out_pin differ);
       }
 
-  pub are_rearranged : (cells : Cells) (made : Path) → w.in_pin ≢ w.out_pin → (is_free n path.output ≡ false → is_direct_from n (cells_of w) path.output (last_of path) ≡ false → last_name w.units ≡ last_name (instance_names n path))
+  pub are_rearranged : (cells : Cells) (made : Path) → w.in_pin ≢ w.out_pin → (is_free_at_end n w path path.output ≡ false → last_name w.units ≡ last_name (instance_names n path))
       → cells ≡ cells_of w → made ≡ ordered n path w.units → AreRearranged n cells (path ∷ []) (made ∷ [])
   are_rearranged cells made differ last same made_is = rw (same, made_is) (rearranged differ last)

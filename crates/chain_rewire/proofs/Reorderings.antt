@@ -1,27 +1,22 @@
 -- The path in the order of the words is the read one, its steps put into another order.
-use Rattle.std.proofs.Common.{◌≡◌, ◌≢◌, ℕ, zero, suc, ◌<◌, Bool, false, cond, List, [], ◌∷◌, length, map, get_or, slice_get, Option, Some, find, filter_map, Contains, refl, sym, ap, ◌∙◌, subst, inl, inr, arith}
+use Rattle.std.proofs.Common.{◌≡◌, ℕ, zero, suc, ◌<◌, Bool, cond, List, [], ◌∷◌, length, map, get_or, slice_get, Option, Some, find, filter_map, Contains, refl, sym, ap, ◌∙◌, subst, inl, inr, arith}
 use Rattle.std.specs.List.{cons_option}
 use Rattle.std.specs.Str.{bytes_eq}
-use Rattle.std.proofs.lemmas.Bool.{cases_Bool}
 use Rattle.std.specs.List.{AllByRecursion as Each}
 use Rattle.netlist_core.specs.declared.netlist.Netlist.{Netlist}
 use Rattle.netlist_core.specs.Netlists.{IsNetlist}
-use Rattle.cell_table.specs.declared.paths.ScanPath.{ScanPath}
-use Rattle.cell_table.specs.declared.paths.OutPin.{OutPin}
-use Rattle.cell_table.specs.Cells.{Cells}
 use Rattle.chain_trace.specs.declared.path.Step.{Step}
 use Rattle.chain_trace.specs.declared.path.Path.{Path}
 use Rattle.chain_trace.specs.declared.path.Source.{Source}
 use Rattle.chain_trace.specs.declared.path.Source.TheVariants as sources
 use Rattle.chain_trace.specs.declared.path.Sink.TheVariants as sinks
 use Rattle.chain_trace.specs.Paths.{StandOnce}
-use Rattle.path_links.specs.Free.{is_free}
-use Rattle.path_links.specs.Reordered.{last_source, ArePinsApart, IsReordered}
+use Rattle.path_links.specs.Direct.{last_source}
 use Rattle.chain_rewire.specs.declared.rewire.Rewire.{Rewire}
-use Rattle.chain_rewire.specs.Rewiring.{cells_of, name_of, instance_name, instance_names, step_named, ordered, IsTraced}
+use Rattle.chain_rewire.specs.Rewiring.{name_of, instance_name, instance_names, step_named, ordered, IsTraced}
 use Rattle.chain_rewire.specs.Faults.{last_from, last_name, AreInstances}
 use Rattle.chain_rewire.proofs.Members.{IsIn, Same, Other, names, name_same, has_in, in_has, in_map, AreApart, IsDistinct_apart}
-use Rattle.chain_rewire.proofs.Units.{IsUnit, lead_units, same_unit, entered, left}
+use Rattle.chain_rewire.proofs.Units.{IsUnit, lead_units, same_unit}
 
 -- members by their places
 in_at : {X : Type 0} (xs : List X) (k : ℕ) (d : X) → k < length xs → IsIn (get_or xs k d) xs
@@ -140,14 +135,6 @@ last_same n source (x ∷ xs) (y ∷ ys) sound u v to back e =
     let same = same_unit n (final x xs) (final y ys) sound (final_each (IsUnit n) x xs u) (final_each (IsUnit n) y ys v) (sym (final_name n [] x xs) ∙ e ∙ final_name n [] y ys) in
     final_source source x xs ∙ ap sources.Out same ∙ sym (final_source source y ys)
 
-pins_apart : (n : Netlist) (w : Rewire) (steps : List Step) → w.in_pin ≢ w.out_pin → ArePinsApart n (cells_of w) steps
-pins_apart n w steps differ = record {
-  outs = λ step there scan is other at out out_is same.
-      differ (sym (ap (λ (p : ScanPath). p.input) (entered n w step.instance step.path scan is).only.same) ∙ same ∙ ap (λ (o : OutPin). o.pin) (left n w other out out_is).same);
-  inputs = λ a b there_a there_b at scan other scan_is other_is same.
-      (entered n w a.instance a.path scan scan_is).only.first ∙ sym (entered n w b.instance b.path other other_is).only.first;
-}
-
 module _ (text : List ℕ) (w : Rewire) (n : Netlist) (path : Path) (traced : IsTraced text w n path) (are : AreInstances w.units (instance_names n path)) where
   known : (name : List ℕ) → IsIn name w.units → IsIn name (instance_names n path)
   known name i = has_in name (instance_names n path) (sym (are.same name) ∙ in_has name w.units i)
@@ -182,22 +169,3 @@ module _ (text : List ℕ) (w : Rewire) (n : Netlist) (path : Path) (traced : Is
   once i j d lt ut one =
       once_by (instance_name n) new i j d (subst AreApart (sym ordered_names) (IsDistinct_apart w.units are.once)) lt ut
       (ap (λ (k : ℕ). name_of (slice_get n.instances k)) one.instance)
-
-  pub reordered : w.in_pin ≢ w.out_pin → (is_free n path.output ≡ false → last_name w.units ≡ last_name (instance_names n path)) → IsReordered n (cells_of w) path (ordered n path w.units)
-  reordered differ last = record {
-    read = traced.is;
-    input = refl;
-    output = refl;
-    steps = λ step. ((λ c. in_contains path.steps step (to_old step (contains_in new step c))), (λ c. in_contains new step (to_new step (contains_in path.steps step c))));
-    once = once;
-    apart = pins_apart n w path.steps differ;
-    free = λ moved. elim (cases_Bool (is_free n path.output)) [
-      | inl free ↦ free
-      | inr pinned ↦ absurd (moved (last_same n (sources.Port path.input) new path.steps traced.reads.sound new_units units to_old to_new (ap last_name ordered_names ∙ last pinned)))
-    ];
-  }
-
-  -- so is what is computed
-  pub is_reordered : (cells : Cells) (made : Path) → w.in_pin ≢ w.out_pin → (is_free n path.output ≡ false → last_name w.units ≡ last_name (instance_names n path)) → cells ≡ cells_of w → made ≡ ordered n path w.units
-      → IsReordered n cells path made
-  is_reordered cells made differ last same made_is = rw (same, made_is) (reordered differ last)

@@ -16,6 +16,7 @@ use Rattle.chain_trace.specs.Paths.{drives, is_driven, IsScanPath}
 use Rattle.chain_trace.specs.Faults.{IsTraceFault}
 use Rattle.chain_trace.specs.Named.{IsPortNamed}
 use Rattle.path_links.specs.Free.{is_free}
+use Rattle.path_links.specs.Direct.{last_of, is_direct_from}
 use Rattle.chain_rewire.specs.declared.rewire.Rewire.{Rewire}
 use Rattle.chain_rewire.specs.Rewiring.{cells_of, instance_names}
 
@@ -80,12 +81,13 @@ pub record IsOrderFault (text : List ℕ) (w : Rewire) (fault : Fault) : Type 0 
   pub other : AreInstances w.units (instance_names netlist path) → ⊥
   pub is : fault ≡ of_words NotPermutation
 
--- PinnedLast: the words have another last one, though the scan-out isn't free
+-- PinnedLast: the words have another last one, though the scan-out isn't free, so neither assigned nor direct
 pub record IsLastFault (text : List ℕ) (w : Rewire) (fault : Fault) : Type 0 where
   pub netlist : Netlist
   pub path : Path
   pub found : IsOfOutput text w netlist path
   pub pinned : is_free netlist path.output ≡ false
+  pub indirect : is_direct_from netlist (cells_of w) path.output (last_of path) ≡ false
   pub other : last_name w.units ≢ last_name (instance_names netlist path)
   pub is : fault ≡ of_words PinnedLast
 

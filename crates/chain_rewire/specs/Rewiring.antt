@@ -1,22 +1,29 @@
 -- The path of a scan output put into the order of given names: what is written, and what it means.
-use Rattle.std.specs.Prelude.{◌≡◌, ℕ, ◌+◌, List, [], ◌∷◌, length, map, find, filter_map, Option, Some, None}
+use Rattle.std.specs.Prelude.{◌≡◌, ℕ, ◌+◌, Bool, ◌||◌, List, [], ◌∷◌, length, map, find, filter_map, Option, Some, None}
 use Rattle.std.specs.List.{slice_get}
 use Rattle.std.specs.Str.{bytes_eq}
+use Rattle.netlist_core.specs.declared.netlist.NetId.{NetId}
 use Rattle.netlist_core.specs.declared.netlist.Instance.{Instance}
 use Rattle.netlist_core.specs.declared.netlist.Netlist.{Netlist}
 use Rattle.netlist_core.specs.Netlists.{named, plain_of}
-use Rattle.verilog_reader.specs.Denoted.{DenotesNetlist, DeclareAlike}
+use Rattle.verilog_reader.specs.Denoted.{DenotesNetlist}
 use Rattle.cell_table.specs.Cells.{Cells}
 use Rattle.cell_table.specs.Table.{one_path}
 use Rattle.chain_trace.specs.declared.path.Step.{Step}
 use Rattle.chain_trace.specs.declared.path.Path.{Path}
 use Rattle.chain_trace.specs.Paths.{is_driven, IsScanPath}
 use Rattle.chain_trace.specs.Named.{IsPortNamed}
-use Rattle.path_links.specs.declared.edits.Edits.{Edits}
-use Rattle.path_links.specs.Edits.{edits_between}
+use Rattle.path_links.specs.declared.sinks.Sinks.{Sinks}
 use Rattle.path_links.specs.Erasure.{erased_netlist}
-use Rattle.path_links.specs.Reordered.{sinks_of}
-use Rattle.verilog_writer.specs.Written.{IsWritten}
+use Rattle.path_links.specs.Free.{is_free}
+use Rattle.path_links.specs.Direct.{last_of, is_direct_from}
+use Rattle.net_edit.specs.declared.edits.Edits.{Edits}
+use Rattle.net_edit.specs.declared.changes.Change.{Change}
+use Rattle.net_edit.specs.Tails.{freed_between}
+use Rattle.net_edit.specs.TailNames.{AreLeastNames}
+use Rattle.net_edit.specs.Wires.{AreEditsFor}
+use Rattle.net_edit.specs.Erased.{without_tails, tails_of, scan_sinks}
+use Rattle.verilog_writer.specs.Wired.{IsWiredText, DeclareBehind}
 use Rattle.chain_rewire.specs.declared.rewire.Rewire.{Rewire}
 
 -- the table of the one cell kind
@@ -51,28 +58,43 @@ step_named n path name = find (λ step. bytes_eq (instance_name n step) name) pa
 abbrev pub ordered : Netlist → Path → List (List ℕ) → Path
 ordered n path names = record { input = path.input; output = path.output; steps = filter_map (step_named n path) names }
 
--- the edits that put the path into the order of the names
-abbrev pub edits_of : Netlist → Rewire → Path → Edits
-edits_of n w path = edits_between n (cells_of w) (path ∷ []) (ordered n path w.units ∷ [])
-
--- what is written, and how many in pins and ports are edited
+-- what is written, with the edits that put the path into the order of the words, and how many in pins and ports have another
+-- source than before
 pub record IsRewired (text : List ℕ) (w : Rewire) (verilog : List ℕ) (moved : ℕ) : Type 0 where
   pub netlist : Netlist
   pub path : Path
   pub traced : IsTraced text w netlist path
-  pub written : IsWritten text netlist (cells_of w) (edits_of netlist w path) verilog
-  pub count : moved ≡ length (edits_of netlist w path).pins + length (edits_of netlist w path).ports
+  pub edits : Edits
+  pub are : AreEditsFor netlist (cells_of w) (path ∷ []) (ordered netlist path w.units ∷ []) edits
+  pub written : IsWiredText text netlist (cells_of w) edits verilog
+  pub count : moved ≡ length edits.pins + length edits.ports + length edits.tails
 
--- the read and the written text declare the same and denote netlists that are the same by names, but for the scan sinks of the
--- read path
+-- the output of the path, if it is freed: where it is direct, and the order of the words has another last one
+abbrev pub freed_of : Netlist → Rewire → Path → List Change
+freed_of n w path = freed_between n (cells_of w) (path ∷ []) (ordered n path w.units ∷ [])
+
+-- a port is free at the end of the path: it is assigned, or the path's last out pin drives it directly
+abbrev pub is_free_at_end : Netlist → Rewire → Path → NetId → Bool
+is_free_at_end n w path port = is_free n port || is_direct_from n (cells_of w) port (last_of path)
+
+-- the scan sinks of the path: the in pins of its steps, and its output where that is free
+abbrev pub sinks_of : Netlist → Rewire → Path → Sinks
+sinks_of n w path = scan_sinks n (cells_of w) (is_free_at_end n w path) (path ∷ [])
+
+-- the written text declares the tail of the read path's output, if that is freed, and then what the read text declares; both
+-- denote netlists that are the same by names, but for the scan sinks of the read path, and but for the tail, for which the
+-- output stands at its out pin and whose assign is left out
 pub record AreErasedAlike (text : List ℕ) (w : Rewire) (written : List ℕ) : Type 0 where
   pub before : Netlist
   pub path : Path
   pub traced : IsTraced text w before path
+  pub names : List (List ℕ)
+  pub each : length names ≡ length (freed_of before w path)
+  pub least : AreLeastNames before names
   pub after : Netlist
   pub denoted : DenotesNetlist written after
-  pub declared : DeclareAlike text written
-  pub same : erased_netlist (sinks_of before (cells_of w) path) (named after) ≡ erased_netlist (sinks_of before (cells_of w) path) (named before)
+  pub declared : DeclareBehind text names written
+  pub same : erased_netlist (sinks_of before w path) (without_tails (tails_of before (cells_of w) (freed_of before w path) names) (named after)) ≡ erased_netlist (sinks_of before w path) (named before)
 
 -- the scan path of a text from the scan-in to the scan-out has these instances, in this order
 pub record HasPath (text : List ℕ) (w : Rewire) (names : List (List ℕ)) : Type 0 where

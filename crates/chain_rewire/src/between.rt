@@ -1,8 +1,9 @@
 //! The scan path between the ports of the words.
-ghost use Rattle.std.specs.Prelude.{◌≡◌, ◌<◌, ℕ, List, length, IfOk};
+ghost use Rattle.std.specs.Prelude.{◌≡◌, ◌<◌, ◌||◌, ℕ, List, length, IfOk};
 ghost use Rattle.netlist_core.specs.Netlists.{IsNetlist};
 ghost use Rattle.verilog_reader.specs.Denoted.{DenotesNetlist};
 ghost use Rattle.path_links.specs.Free.{is_free};
+ghost use Rattle.path_links.specs.Direct.{is_direct};
 ghost use Rattle.base_types.specs.FirstFault.{IfFault};
 ghost use Rattle.chain_rewire.specs.Rewiring.{cells_of, IsTraced};
 ghost use Rattle.chain_rewire.specs.Faults.{IsRewireFault};
@@ -12,7 +13,7 @@ use base_types::{Fault, Kind, NoMemory, ReadFault};
 use cell_table::CellTable;
 use chain_trace::{Path, input_named, output_named, plain_of, trace};
 use netlist_core::{Netlist, classes_of};
-use path_links::Uses;
+use path_links::FreeOutputs;
 use std::alloc::Global;
 
 /// The scan path from the scan-in to the scan-out of a netlist.
@@ -41,15 +42,17 @@ pub(crate) fn path_between(
     Ok(path)
 }
 
-/// Whether a path's output is free.
+/// Whether a path's output is free: assigned, or driven directly by the path's last out pin.
 pub(crate) fn is_output_free(
     alloc: Global,
     netlist: &Netlist,
+    table: &CellTable,
     path: &Path,
 ) -> Result<bool, NoMemory>
     requires netlist { IsNetlist netlist.now }
     requires output { path.now.output.0 < length netlist.now.nets }
-    ensures value { IfOk result (λ free. free ≡ is_free netlist.now path.now.output) }
+    ensures value { IfOk result (λ free. free ≡ (is_free netlist.now path.now.output || is_direct netlist.now table.now path.now)) }
 {
-    Ok(Uses::of(alloc, netlist)?.is_free(path.output))
+    let outputs = FreeOutputs::of(alloc, netlist)?;
+    Ok(outputs.is_assigned(path.output) || outputs.is_direct(table, path))
 }

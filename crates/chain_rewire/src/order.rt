@@ -6,8 +6,7 @@ ghost use Rattle.std.specs.Str.{bytes_eq};
 ghost use Rattle.std.specs.HashMap.{get};
 ghost use Rattle.chain_trace.specs.declared.path.Step.{Step};
 ghost use Rattle.base_types.specs.FirstFault.{IfFault};
-ghost use Rattle.path_links.specs.Free.{is_free};
-ghost use Rattle.chain_rewire.specs.Rewiring.{instance_name, instance_names, step_named, ordered, IsTraced};
+ghost use Rattle.chain_rewire.specs.Rewiring.{instance_name, instance_names, step_named, ordered, is_free_at_end, IsTraced};
 ghost use Rattle.chain_rewire.specs.Faults.{AreInstances, last_name, IsRewireFault};
 
 use crate::names::Names;
@@ -100,9 +99,9 @@ fn check_names(
     output_free: bool,
     rewire: &Rewire,
 ) -> Result<(), ReadFault>
-    requires free { output_free ≡ is_free netlist.now path.now.output }
+    requires free { output_free ≡ is_free_at_end netlist.now rewire.now path.now path.now.output }
     ensures instances { IfOk result (λ _. AreInstances rewire.now.units (instance_names netlist.now path.now)) }
-    ensures last { IfOk result (λ _. is_free netlist.now path.now.output ≡ false → last_name rewire.now.units ≡ last_name (instance_names netlist.now path.now)) }
+    ensures last { IfOk result (λ _. is_free_at_end netlist.now rewire.now path.now path.now.output ≡ false → last_name rewire.now.units ≡ last_name (instance_names netlist.now path.now)) }
     ensures fault { IfFault result (λ fault. (text : List ℕ) → IsTraced text rewire.now netlist.now path.now → IsRewireFault text rewire.now fault) }
 {
     let units = unit_names(alloc, rewire)?;
@@ -124,10 +123,10 @@ pub(crate) fn ordered_path(
     output_free: bool,
     rewire: &Rewire,
 ) -> Result<Path, ReadFault>
-    requires free { output_free ≡ is_free netlist.now path.now.output }
+    requires free { output_free ≡ is_free_at_end netlist.now rewire.now path.now path.now.output }
     ensures value { IfOk result (λ new. new ≡ ordered netlist.now path.now rewire.now.units) }
     ensures instances { IfOk result (λ _. AreInstances rewire.now.units (instance_names netlist.now path.now)) }
-    ensures last { IfOk result (λ _. is_free netlist.now path.now.output ≡ false → last_name rewire.now.units ≡ last_name (instance_names netlist.now path.now)) }
+    ensures last { IfOk result (λ _. is_free_at_end netlist.now rewire.now path.now path.now.output ≡ false → last_name rewire.now.units ≡ last_name (instance_names netlist.now path.now)) }
     ensures fault { IfFault result (λ fault. (text : List ℕ) → IsTraced text rewire.now netlist.now path.now → IsRewireFault text rewire.now fault) }
 {
     check_names(alloc, netlist, path, output_free, rewire)?;

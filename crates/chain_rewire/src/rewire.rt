@@ -10,10 +10,10 @@ use crate::order::ordered_path;
 use base_types::{Name, ReadFault, Rows, Text};
 use cell_table::CellTable;
 use chain_trace::names_law;
-use path_links::edits_for;
+use net_edit::edits_for;
 use std::alloc::Global;
 use verilog_reader::read_netlist;
-use verilog_writer::verilog_text_of_nets;
+use verilog_writer::verilog_text;
 
 /// What the words of `rewire` ask for.
 #[derive(Debug, Drop)]
@@ -42,18 +42,22 @@ pub struct Rewired {
 }
 
 /// The Verilog text in which the scan path of the scan-out has its instances in the order of the words, and how many in pins
-/// and ports have another source than before. Only their expressions are replaced.
+/// and ports have another source than before. Only their expressions are replaced. A scan-out that the path's last out pin
+/// drives directly is freed where another unit becomes the last one: the out pin gets a new wire `scan_tail_K` (IEEE 1364-2005,
+/// 4.2) with the least K from 0 whose name nothing in the module has, and the scan-out gets an assign (6.1).
 ///
 /// Refused by the first fault, that of the least kind: of the Verilog (VerilogSyntax, SecondModule, VerilogNumber,
 /// VerilogTwice, BadSelect); NoPort where no bit of an output or inout port has the name of the scan-out, or no bit of an
 /// input or inout port that of the scan-in; NoDriver, TwoDrivers or Loop where the scan-out has no path; WrongPort where the
 /// path begins at another port than the scan-in; NotPermutation where the units aren't the path's instances, each once; and
-/// PinnedLast where another unit would be last though the scan-out isn't free.
+/// PinnedLast where another unit would be last though the scan-out isn't free: besides the header and its declarations its net
+/// bit stands at more than one place, or neither as the whole left side of an assign of one net bit nor, at an output port, as
+/// the whole expression at the path's last out pin.
 pub fn rewire_text(alloc: Global, text: &[u8], rewire: &Rewire) -> Result<Rewired, ReadFault>
     requires size { length text.now < 2 ^ 32 }
     requires pins { rewire.now.in_pin ≢ rewire.now.out_pin }
     ensures rewired { IfOk result (λ made. IsRewired text.now rewire.now made.verilog made.moved) }
-    // Both texts declare the same, and denote netlists that are the same by names but for the scan sinks.
+    // But for the scan sinks and the tail both texts declare the same, and denote netlists that are the same by names.
     ensures erased { IfOk result (λ made. AreErasedAlike text.now rewire.now made.verilog) }
     // The written text has the path with the instances in the order of the words.
     ensures path { IfOk result (λ made. HasPath made.verilog rewire.now rewire.now.units) }
@@ -65,13 +69,14 @@ pub fn rewire_text(alloc: Global, text: &[u8], rewire: &Rewire) -> Result<Rewire
     let netlist = read_netlist(alloc, text)?;
     let table = CellTable::one(alloc, &rewire.cell, &rewire.in_pin, &rewire.out_pin)?;
     let path = path_between(alloc, &netlist, &table, rewire)?;
-    let output_free = is_output_free(alloc, &netlist, &path)?;
+    let output_free = is_output_free(alloc, &netlist, &table, &path)?;
     let new = ordered_path(alloc, &netlist, &path, output_free, rewire)?;
     let edits = edits_for(alloc, &netlist, &table, &[path], &[new])?;
-    let verilog = verilog_text_of_nets(alloc, text, &netlist, &table, &edits)?;
-    let moved = edits.pins.as_slice().len() + edits.ports.as_slice().len();
+    let verilog = verilog_text(alloc, text, &netlist, &table, &edits)?;
+    let pins = edits.pins.as_slice().len();
+    let outputs = edits.ports.as_slice().len() + edits.tails.as_slice().len();
     Ok(Rewired {
         verilog,
-        moved: moved as u64,
+        moved: (pins + outputs) as u64,
     })
 }

@@ -2,13 +2,13 @@
 ghost use Rattle.std.specs.Prelude.{◌<◌, ◌^◌, length, IfOk, OnOk};
 ghost use Rattle.base_types.specs.declared.fault.Fault.{Fault};
 ghost use Rattle.base_types.specs.FirstFault.{IfFault};
-ghost use Rattle.check_report.specs.Checks.{texts_of, IsCheckText, IsCheckFault, HoldsInCheck};
+ghost use Rattle.design_files.specs.Files.{texts_of};
+ghost use Rattle.design_files.specs.Faults.{HoldsInFiles, IsFilesFault};
+ghost use Rattle.check_report.specs.Checks.{IsCheckText};
 
-use crate::files::read_files;
 use crate::report::report_of;
-use crate::ruled::ruled_in;
-use crate::traced::traced_in;
 use base_types::{NoMemory, ReadFault, Text};
+use design_files::read_design_files;
 use std::alloc::Global;
 
 /// What `check` says of a placed design, its scan chains and its netlist, from the texts of the cell table, the LEF, the Verilog and the DEF:
@@ -30,13 +30,11 @@ pub fn check_text(
     requires verilog { length verilog.now < 2 ^ 32 }
     requires def { length def.now < 2 ^ 32 }
     ensures text { IfOk result (IsCheckText (texts_of table.now lef.now verilog.now def.now)) }
-    ensures fault { IfFault result (IsCheckFault (texts_of table.now lef.now verilog.now def.now)) }
-    ensures no_fault { OnOk result ((fault : Fault) → HoldsInCheck (texts_of table.now lef.now verilog.now def.now) fault → ⊥) }
+    ensures fault { IfFault result (IsFilesFault (texts_of table.now lef.now verilog.now def.now)) }
+    ensures no_fault { OnOk result ((fault : Fault) → HoldsInFiles (texts_of table.now lef.now verilog.now def.now) fault → ⊥) }
 {
-    let files = read_files(alloc, table, lef, verilog, def)?;
-    let traced = traced_in(alloc, &files)?;
-    let ruled = ruled_in(alloc, &files, &traced)?;
-    match report_of(alloc, &files.design, &ruled.rules, &ruled.ends) {
+    let files = read_design_files(alloc, table, lef, verilog, def)?;
+    match report_of(alloc, &files.design, &files.rules, &files.ends) {
         Ok(text) => Ok(text),
         Err(NoMemory) => Err(ReadFault::NoMemory),
     }

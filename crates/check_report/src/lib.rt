@@ -1,15 +1,12 @@
 //! The text of `check`: whether a placed design, its scan chains and its netlist agree, and how long the chains are, from the texts of the
 //! cell table, the LEF, the Verilog and the DEF.
 //!
-//! Floor: top, on netlist_core, cell_table, lef_pins, verilog_checks, verilog_reader, def_syntax, def_reader,
-//! chain_trace, chain_rules, wire_cost, design_elements, traced_paths, design_places, design_checks and base_types.
-//! Contract: `check_text` gives the text that `specs/Checks.antt` says, or the first fault. Begin with `check.rt`.
+//! Floor: top, on netlist_core, cell_table, lef_pins, verilog_reader, def_reader, chain_trace, chain_rules, wire_cost,
+//! design_elements, traced_paths, design_places, design_files and base_types.
+//! Contract: `check_text` gives the text that `specs/Checks.antt` says, or the first fault of the files. Begin with `check.rt`.
 #![tactic(auto)]
 
 mod check;
-mod files;
 mod report;
-mod ruled;
-mod traced;
 
 pub use check::check_text;

@@ -19,7 +19,7 @@ use Rattle.def_reader.specs.declared.design.Net.{Net}
 use Rattle.def_reader.specs.declared.design.Design.{Design}
 use Rattle.def_reader.specs.Agreement.{instance_named, port_named, net_of_pin, Connects, Agree}
 use Rattle.net_edit.specs.Agreement.{Pin, OfInstance, OfPort, is_any, net_at_pin, AgreeOnPins}
-use Rattle.design_nets.specs.Placing.{same_pin, instance_name, net_pin, placing}
+use Rattle.design_nets.specs.Placing.{same_pin, instance_name, net_pin, is_there, placing}
 use Rattle.std.proofs.lemmas.List.{length-map}
 use Rattle.std.proofs.lemmas.Option.{slice_get-map, slice_get_within, get_or_from_slice_get}
 use Rattle.std.proofs.lemmas.Map.Views.{Contains-from_any}
@@ -47,8 +47,12 @@ then_shown : {A B : Type 0} (f : A → Option B) (o : Option A) (b : B) → opti
 then_shown f None b e = absurd (none-some (Some b) e)
 then_shown f (Some a) b e = same_Some (f a) (Some b) e
 
+there_some : (b : Bool) (o : Option ℕ) (x : ℕ) → cond b o None ≡ Some x → o ≡ Some x
+there_some true o x e = e
+there_some false o x e = absurd (none-some x e)
+
 -- the same pin is the pin
-pin_is : (p q : NetPin) → same_pin p q ≡ true → p ≡ q
+pub pin_is : (p q : NetPin) → same_pin p q ≡ true → p ≡ q
 pin_is (Cell c p) (Cell d q) e =
     ap (λ (x : List ℕ). Cell x p) ((bytes_eq-Decides c d).0 (and_left (bytes_eq c d) (bytes_eq p q) e))
     ∙ ap (λ (x : List ℕ). Cell d x) ((bytes_eq-Decides p q).0 (and_right (bytes_eq c d) (bytes_eq p q) e))
@@ -114,7 +118,7 @@ module _ (n : Netlist) (d : Design) (ok : IsNetlist n) where
   stands_in p a x e at =
       let test = λ (net : Net). list_any (same_pin (net_pin n p)) net.pins in
       let nowhere : Net = record { name = []; pins = []; span = record { start = 0; end = 0 }; line = 0 } in
-      let found = position-Some test d.nets x nowhere at in
+      let found = position-Some test d.nets x nowhere (there_some (is_there n p) (position test d.nets) x at) in
       let pins = (slice_index_or d.nets x nowhere).pins in
       record {
         net = slice_index_or d.nets x nowhere;

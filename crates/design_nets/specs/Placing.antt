@@ -1,5 +1,5 @@
 -- In which nets of a placed design the pins of a netlist stand (LEF/DEF 5.8, NETS).
-use Rattle.std.specs.Prelude.{◌≡◌, ℕ, Bool, false, ◌&&◌, List, [], Option, Some, None}
+use Rattle.std.specs.Prelude.{◌≡◌, ℕ, nat_lt, Bool, false, ◌&&◌, if◌then◌else◌, List, [], length, Option, Some, None}
 use Rattle.std.specs.List.{list_any, position, slice_get}
 use Rattle.std.specs.Str.{bytes_eq}
 use Rattle.netlist_core.specs.declared.netlist.Instance.{Instance}
@@ -29,9 +29,14 @@ abbrev pub net_pin : Netlist → Pin → NetPin
 net_pin n (OfInstance instance pin) = Cell (instance_name (slice_get n.instances instance)) pin
 net_pin n (OfPort net) = Port (plain_of n.nets net)
 
--- the number of the first net in which each pin stands
+-- the netlist has the instance of the pin, or the net of the port bit
+abbrev pub is_there : Netlist → Pin → Bool
+is_there n (OfInstance instance pin) = nat_lt instance (length n.instances)
+is_there n (OfPort net) = nat_lt net.0 (length n.nets)
+
+-- the number of the first net in which each pin of the netlist stands
 abbrev pub placing : Netlist → Design → Placing
-placing n d pin = position (λ net. list_any (same_pin (net_pin n pin)) net.pins) d.nets
+placing n d pin = if is_there n pin then position (λ net. list_any (same_pin (net_pin n pin)) net.pins) d.nets else None
 
 -- a netlist and a design that agree do so on pins
 abbrev pub PlacingLaw : Type 0

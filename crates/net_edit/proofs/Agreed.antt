@@ -25,12 +25,12 @@ use Rattle.chain_trace.proofs.Ranges.{then_some, port_within, source_within, net
 use Rattle.path_links.specs.declared.edits.PinEdit.{PinEdit}
 use Rattle.path_links.specs.Edits.{links, same_source, moved}
 use Rattle.path_links.specs.Edited.{input_of, is_edit_of_pin}
-use Rattle.path_links.specs.Reordered.{last_of}
+use Rattle.path_links.specs.Direct.{last_of, is_direct_from}
 use Rattle.path_links.proofs.PathLists.{Has, has, contains, filter_from, filter_has}
 use Rattle.path_links.proofs.PathPorts.{no_pin}
 use Rattle.path_links.proofs.PathSame.{net_is, and_left, source_true, source_self}
 use Rattle.path_links.proofs.PathLinks.{out_step}
-use Rattle.net_edit.specs.Changes.{Change, changes, tail_or, tail_of, is_direct_from, new_net}
+use Rattle.net_edit.specs.Changes.{Change, changes, tail_or, tail_of, new_net}
 use Rattle.net_edit.specs.Rearranged.{AreRearranged}
 use Rattle.net_edit.specs.Tails.{is_out_pin, tail_at, rewired}
 use Rattle.net_edit.specs.Agreement.{Pin, OfInstance, OfPort, is_any, net_at_pin, Placing, AgreeOnPins, pin_of_source, pin_of_sink, AreMoved}

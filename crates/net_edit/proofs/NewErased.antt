@@ -32,8 +32,7 @@ use Rattle.path_links.specs.declared.sinks.SinkPin.{SinkPin}
 use Rattle.path_links.specs.declared.sinks.Sinks.{Sinks}
 use Rattle.path_links.specs.Free.{count_in}
 use Rattle.path_links.specs.Edited.{input_of, edited_expr, is_edit_of_pin, map_from, assign_source, edited_assign}
-use Rattle.path_links.specs.Erasure.{is_sink_pin, erased_pin, erased_instance, has_name, erased_assign, erased_netlist}
-use Rattle.path_links.specs.Reordered.{sink_pin_of, sink_pin}
+use Rattle.path_links.specs.Erasure.{sink_pin_of, sink_pin, is_sink_pin, erased_pin, erased_instance, has_name, erased_assign, erased_netlist}
 use Rattle.path_links.proofs.EditNetlist.{map-map_from, map_twice}
 use Rattle.path_links.proofs.PathLists.{Has, contains, has_left, has_right, has_split, flat_from, flat_has, find_none, find_one}
 use Rattle.path_links.proofs.PathLinks.{out_step}

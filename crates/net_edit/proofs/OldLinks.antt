@@ -14,7 +14,7 @@ use Rattle.chain_trace.specs.declared.path.Sink.TheVariants as sinks
 use Rattle.chain_trace.specs.Paths.{IsOnlySource, AreApart, is_driven, has_port, scan_path_at, pin_net, sink_net}
 use Rattle.chain_trace.proofs.Ranges.{then_some}
 use Rattle.path_links.specs.Edits.{Link, links_from, links}
-use Rattle.path_links.specs.Reordered.{last_source, last_of}
+use Rattle.path_links.specs.Direct.{last_source, last_of}
 use Rattle.path_links.proofs.PathLists.{Has, has, contains, flat_from, flat_has}
 use Rattle.path_links.proofs.PathLinks.{links_of_leads, First, Later, link_source, source_sink, step_sink, Once, once}
 use Rattle.path_links.proofs.PathSame.{cases_source}

@@ -18,11 +18,12 @@ use Rattle.chain_trace.specs.declared.path.Sink.{Sink}
 use Rattle.chain_trace.specs.declared.path.Sink.TheVariants as sinks
 use Rattle.chain_trace.specs.Paths.{drives, has_port, scan_path_at, out_pin_at, pin_net, source_net, sink_net}
 use Rattle.chain_trace.proofs.Ranges.{then_some}
+use Rattle.path_links.specs.Direct.{is_output, is_net, is_left_at, is_direct_from}
 use Rattle.path_links.specs.Free.{count_in_assign, count_in_instance, count_of, is_free}
 use Rattle.path_links.proofs.PathLists.{Has, filter_from, filter_has}
 use Rattle.path_links.proofs.PathSame.{and_left, and_right, net_is}
 use Rattle.path_links.proofs.PathPorts.{no_in, port_net, only_port}
-use Rattle.net_edit.specs.Changes.{Change, changes, is_output, is_net, is_left_at, is_direct_from, freed}
+use Rattle.net_edit.specs.Changes.{Change, changes, freed}
 use Rattle.net_edit.specs.Rearranged.{AreRearranged}
 use Rattle.net_edit.proofs.Links.{HasLink, change_from}
 use Rattle.net_edit.proofs.OldLinks.{step_apart, not_own, port_to, old_only, aligned, was_of_step, was_link}

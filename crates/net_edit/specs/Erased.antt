@@ -14,7 +14,7 @@ use Rattle.chain_trace.specs.declared.path.Source.{Source}
 use Rattle.chain_trace.specs.declared.path.Source.TheVariants as sources
 use Rattle.chain_trace.specs.Paths.{out_pin_at}
 use Rattle.path_links.specs.declared.sinks.Sinks.{Sinks}
-use Rattle.path_links.specs.Reordered.{sink_pin}
+use Rattle.path_links.specs.Erasure.{sink_pin}
 use Rattle.net_edit.specs.Changes.{Change}
 use Rattle.net_edit.specs.Rearranged.{steps_of}
 

@@ -1,11 +1,10 @@
 -- What is edited between several paths, with wires: a tail by its place among the freed ports.
-use Rattle.std.specs.Prelude.{◌≡◌, ℕ, ◌+◌, ◌<◌, ◌^◌, ◌==◌, ◌&&◌, Bool, false, List, [], ◌∷◌, length, slice_index_or, Option, Some, None, option_map}
-use Rattle.std.specs.List.{flat_map, list_any, position_from, zip}
+use Rattle.std.specs.Prelude.{◌≡◌, ℕ, ◌+◌, ◌<◌, ◌^◌, ◌==◌, ◌&&◌, Bool, List, [], ◌∷◌, length, Option, Some, None, option_map}
+use Rattle.std.specs.List.{flat_map, position_from, zip}
 use Rattle.std.specs.Borrow.{Bor}
 use Rattle.std.specs.Option.{option_eq}
 use Rattle.std.specs.HashMap.{HashMap, get}
 use Rattle.netlist_core.specs.declared.netlist.NetId.{NetId}
-use Rattle.netlist_core.specs.declared.netlist.Port.{Port}
 use Rattle.netlist_core.specs.declared.netlist.Netlist.{Netlist}
 use Rattle.cell_table.specs.declared.paths.OutPin.{OutPin}
 use Rattle.cell_table.specs.Cells.{Cells}
@@ -21,7 +20,7 @@ use Rattle.net_edit.specs.declared.edits.PinEdit.{PinEdit}
 use Rattle.net_edit.specs.declared.edits.PortEdit.{PortEdit}
 use Rattle.net_edit.specs.declared.edits.TailEdit.{TailEdit}
 use Rattle.net_edit.specs.declared.edits.Edits.{Edits}
-use Rattle.net_edit.specs.Changes.{Change, is_output}
+use Rattle.net_edit.specs.Changes.{Change}
 use Rattle.net_edit.specs.Tails.{freed_between}
 use Rattle.net_edit.specs.TailNames.{tail_name, AreLeastFree}
 
@@ -94,10 +93,6 @@ HasPlaces fs places = (source : Source) → get same_key places (source_key sour
 -- the name is that of the out pin, where there is one
 abbrev pub IsNameOf : Option (Bor (List ℕ)) → Option OutPin → Type 0
 IsNameOf name out = option_map (λ n. n.now) name ≡ option_map (λ o. o.pin) out
-
--- the nets that are bits of output ports are marked, and no others
-pub record AreMarked (ports : List Port) (marks : List Bool) : Type 0 where
-  pub each : (k : ℕ) → k < length marks → slice_index_or marks k false ≡ list_any (λ port. port.net.0 == k && is_output port.direction) ports
 
 -- the edits between the paths with wires: the tails have the least numbers that are free, one for each freed port
 pub record AreWired (n : Netlist) (cells : Cells) (old new : List Path) (edits : Edits) : Type 0 where

@@ -10,8 +10,7 @@ use Rattle.chain_trace.specs.declared.path.Step.{Step}
 use Rattle.chain_trace.specs.declared.path.Path.{Path}
 use Rattle.chain_trace.specs.Paths.{scan_path_at, out_pin_at, IsScanPath, StandOnce}
 use Rattle.path_links.specs.Free.{is_free}
-use Rattle.path_links.specs.Reordered.{last_of}
-use Rattle.net_edit.specs.Changes.{is_direct_from}
+use Rattle.path_links.specs.Direct.{last_of, is_direct_from}
 
 -- the pins of an instance: no in pin is an out pin, each in pin is that of one scan path, each out pin is one out pin of one
 -- scan path

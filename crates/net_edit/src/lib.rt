@@ -4,7 +4,8 @@
 //! Floor: paths, on cell_table, netlist_core, chain_trace, path_links and base_types.
 //! Contract: `edits_for` gives the edits of `specs/Wires.antt`, whose tails have the names of `specs/TailNames.antt`, and says that
 //! with them the netlist has the new paths, is a netlist, is the read one but for the scan wiring, and agrees with a design whose
-//! sinks were moved; `apply` gives that netlist, `rewired` of `specs/Tails.antt`. Begin with `specs/Laws.antt`.
+//! sinks were moved; `apply` gives that netlist, `rewired` of `specs/Tails.antt`; `moved_links` gives the sinks with another source.
+//! Begin with `specs/Laws.antt`.
 #![tactic(auto)]
 
 mod applied;
@@ -12,7 +13,6 @@ mod between;
 mod changes;
 mod edits;
 mod laws;
-mod marks;
 mod moved;
 mod names;
 mod nets;
@@ -23,3 +23,4 @@ pub use applied::apply;
 pub use between::edits_for;
 pub use edits::{Edits, PinEdit, PortEdit, TailEdit, Wire};
 pub use laws::edits_law;
+pub use moved::{Link, moved_links};

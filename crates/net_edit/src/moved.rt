@@ -10,7 +10,7 @@ use std::alloc::Global;
 use std::collections::HashSet;
 
 /// A sink and the source that feeds it.
-pub(crate) type Link = (Source, Sink);
+pub type Link = (Source, Sink);
 
 /// A link, as a set keeps it: of the source and the sink the place of a step, none at a port, and a number.
 type Key = (Option<(u32, u32)>, u32, Option<u32>, u32);
@@ -74,8 +74,8 @@ fn lacks(set: &HashSet<Key>, link: Link) -> bool
     !set.contains(&key_of(link))
 }
 
-/// The links of the new paths that the old ones haven't, in their order.
-pub(crate) fn moved_links(alloc: Global, old: &[Path], new: &[Path]) -> Result<Vec<Link>, NoMemory>
+/// The links of the new paths that the old ones haven't, in their order; or want of memory.
+pub fn moved_links(alloc: Global, old: &[Path], new: &[Path]) -> Result<Vec<Link>, NoMemory>
     ensures value { IfOk result (λ all. all.items ≡ moved old.now new.now) }
 {
     let set = set_of(alloc, links_of(alloc, old)?.as_slice())?;

@@ -27,10 +27,6 @@ just_one nets sinks (l ∷ []) (r ∷ rs) bit others one is = let e : bit ≡ l 
 just_one nets sinks (l ∷ m ∷ ls) (r ∷ []) bit others one is = let e : bit ≡ l = cc in ap (λ b. is_sink_bit sinks (named_bit nets b)) e
 just_one nets sinks (l ∷ m ∷ ls) (r ∷ s ∷ rs) bit others one is = absurd (omega (arith, one))
 
-pub no_left : (nets : List NetName) (sinks : Sinks) (left right : List Bit) → left ≡ [] → false ≡ is_sink_assign sinks (named_pairs nets left right)
-no_left nets sinks [] right is = refl
-no_left nets sinks (l ∷ ls) right is = absurd cc
-
 -- the copy with its right side blank at a sink
 pub erased_is : (nets : List NetName) (sinks : Sinks) (left right : List Bit) (b : Bool) → b ≡ is_sink_assign sinks (named_pairs nets left right)
     → named_pairs nets left (cond b (Unknown ∷ []) right) ≡ erased_assign sinks (named_pairs nets left right)

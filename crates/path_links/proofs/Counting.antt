@@ -1,18 +1,13 @@
 -- Counts of all nets, and how they grow.
-use Rattle.std.proofs.Common.{◌≡◌, ◌<◌, ◌+◌, ◌||◌, ℕ, Bool, true, false, List, [], ◌∷◌, length, take, get_or, min, refl, ap, sym, ◌∙◌, arith, ◌⊎◌, inl, inr}
-use Rattle.std.specs.Prelude.{sum_by, count_by}
-use Rattle.std.specs.List.{list_any}
-use Rattle.std.proofs.lemmas.List.Sums.{count_by_more_no, count_by_more_yes, sum_by_more}
+use Rattle.std.proofs.Common.{◌≡◌, ◌<◌, ◌+◌, ℕ, Bool, true, false, List, [], ◌∷◌, length, take, get_or, min, refl, ap, sym, ◌∙◌, arith}
+use Rattle.std.specs.Prelude.{count_by}
+use Rattle.std.proofs.lemmas.List.Sums.{count_by_more_no, count_by_more_yes}
 use Rattle.netlist_core.specs.declared.netlist.NetId.{NetId}
-use Rattle.path_links.specs.Uses.{AreCounts, AreMarks}
+use Rattle.path_links.specs.Uses.{AreCounts}
 
 -- counts of what counts alike
 pub counts_as : (cs : List ℕ) (f g : NetId → ℕ) → ((net : NetId) → f net ≡ g net) → AreCounts cs f → AreCounts cs g
 counts_as cs f g same a = record { each = λ net within. a.each net within ∙ ap (λ (x : ℕ). min x 2) (same net) }
-
--- marks of tests that say alike
-pub marks_as : (bs : List Bool) (f g : NetId → Bool) → ((net : NetId) → f net ≡ g net) → AreMarks bs f → AreMarks bs g
-marks_as bs f g same a = record { each = λ net within. a.each net within ∙ same net }
 
 -- one more member is counted, or not
 pub count_more : {X : Type 0} (p : X → Bool) (xs : List X) (i : ℕ) (d : X) → i < length xs → count_by p (take (i + 1) xs) ≡ count_by p (take i xs) + count_by p (get_or xs i d ∷ [])

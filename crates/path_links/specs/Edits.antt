@@ -3,17 +3,14 @@ use Rattle.std.specs.Prelude.{ℕ, Bool, false, not, ◌&&◌, ◌==◌, List, [
 use Rattle.std.specs.List.{flat_map, list_any}
 use Rattle.netlist_core.specs.declared.netlist.NetId.{NetId}
 use Rattle.netlist_core.specs.declared.netlist.Netlist.{Netlist}
-use Rattle.cell_table.specs.Cells.{Cells}
 use Rattle.chain_trace.specs.declared.path.Step.{Step}
 use Rattle.chain_trace.specs.declared.path.Path.{Path}
 use Rattle.chain_trace.specs.declared.path.Source.{Source}
 use Rattle.chain_trace.specs.declared.path.Source.TheVariants as sources
 use Rattle.chain_trace.specs.declared.path.Sink.{Sink}
 use Rattle.chain_trace.specs.declared.path.Sink.TheVariants as sinks
-use Rattle.chain_trace.specs.Paths.{source_net}
 use Rattle.path_links.specs.declared.edits.PinEdit.{PinEdit}
 use Rattle.path_links.specs.declared.edits.PortEdit.{PortEdit}
-use Rattle.path_links.specs.declared.edits.Edits.{Edits}
 use Rattle.path_links.specs.Free.{is_one_net}
 
 -- a sink and the source that feeds it
@@ -60,11 +57,6 @@ abbrev pub pin_edit_of : ℕ → ℕ → Option NetId → List PinEdit
 pin_edit_of instance path None = []
 pin_edit_of instance path (Some net) = record { instance = instance; path = path; source = net } ∷ []
 
--- the edit of an in pin: the net of its new source
-abbrev pub pin_edit : Netlist → Cells → Link → List PinEdit
-pin_edit n cells (source, sinks.Port net) = []
-pin_edit n cells (source, sinks.In instance path) = pin_edit_of instance path (source_net n cells source)
-
 -- the place of the first assign whose whole left side is the net
 abbrev pub assign_at : Netlist → NetId → Option ℕ
 assign_at n net = position (λ assign. is_one_net net assign.left.bits) n.assigns
@@ -74,15 +66,3 @@ abbrev pub port_edit_of : NetId → Option ℕ → Option NetId → List PortEdi
 port_edit_of port None source = []
 port_edit_of port (Some assign) None = []
 port_edit_of port (Some assign) (Some net) = record { port = port; assign = assign; source = net } ∷ []
-
--- the edit of a port: the net of its new source, at its assign
-abbrev pub port_edit : Netlist → Cells → Link → List PortEdit
-port_edit n cells (source, sinks.Port net) = port_edit_of net (assign_at n net) (source_net n cells source)
-port_edit n cells (source, sinks.In instance path) = []
-
--- the edits between the old and the new paths, in the order of the new ones
-abbrev pub edits_between : Netlist → Cells → List Path → List Path → Edits
-edits_between n cells old new = record {
-  pins = flat_map (pin_edit n cells) (moved old new);
-  ports = flat_map (port_edit n cells) (moved old new);
-}

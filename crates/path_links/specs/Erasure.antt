@@ -1,9 +1,26 @@
 -- A netlist in which the scan wiring is erased: what connects the scan sinks is blank, and all else stands.
-use Rattle.std.specs.Prelude.{ℕ, Bool, false, ◌&&◌, if◌then◌else◌, List, [], ◌∷◌, map}
-use Rattle.std.specs.List.{list_any}
+use Rattle.std.specs.Prelude.{ℕ, Bool, false, ◌&&◌, if◌then◌else◌, List, [], ◌∷◌, map, Option, Some, None}
+use Rattle.std.specs.List.{list_any, slice_get}
 use Rattle.std.specs.Str.{bytes_eq}
+use Rattle.netlist_core.specs.declared.netlist.Instance.{Instance}
+use Rattle.netlist_core.specs.declared.netlist.Netlist.{Netlist}
 use Rattle.netlist_core.specs.Netlists.{NamedBit, Named, Low, High, Undefined, NamedInstance, NamedNetlist}
+use Rattle.cell_table.specs.declared.paths.ScanPath.{ScanPath}
+use Rattle.cell_table.specs.Cells.{Cells}
+use Rattle.chain_trace.specs.declared.path.Step.{Step}
+use Rattle.chain_trace.specs.Paths.{scan_path_at}
+use Rattle.path_links.specs.declared.sinks.SinkPin.{SinkPin}
 use Rattle.path_links.specs.declared.sinks.Sinks.{Sinks}
+
+-- the in pin of a step
+abbrev pub sink_pin_of : Option Instance → Option ScanPath → List SinkPin
+sink_pin_of None path = []
+sink_pin_of (Some placed) None = []
+sink_pin_of (Some placed) (Some path) = record { instance = placed.name; pin = path.input } ∷ []
+
+-- the in pin of a step, by names
+abbrev pub sink_pin : Netlist → Cells → Step → List SinkPin
+sink_pin n cells step = sink_pin_of (slice_get n.instances step.instance) (scan_path_at n cells step.instance step.path)
 
 -- the pin of an instance is a scan sink
 abbrev pub is_sink_pin : Sinks → List ℕ → List ℕ → Bool

@@ -1,7 +1,7 @@
 pub mod Erasure
 pub mod Free
+pub mod Direct
 pub mod Uses
 pub mod Edits
 pub mod Edited
-pub mod Reordered
 pub mod EditKeys

@@ -1,8 +1,11 @@
--- What is counted of all nets of a netlist at once.
-use Rattle.std.specs.Prelude.{◌≡◌, ◌<◌, ◌+◌, ◌||◌, ℕ, Bool, false, List, length, min, slice_index_or}
+-- What is counted and marked of all nets of a netlist at once.
+use Rattle.std.specs.Prelude.{◌≡◌, ◌<◌, ◌==◌, ◌&&◌, ℕ, Bool, false, List, length, min, slice_index_or}
 use Rattle.netlist_core.specs.declared.netlist.NetId.{NetId}
+use Rattle.netlist_core.specs.declared.netlist.Port.{Port}
 use Rattle.netlist_core.specs.declared.netlist.Netlist.{Netlist}
+use Rattle.netlist_core.specs.Netlists.{IsNetlist}
 use Rattle.path_links.specs.Free.{count_of, is_assign_of}
+use Rattle.path_links.specs.Direct.{is_output}
 use Rattle.std.specs.List.{list_any}
 
 -- of each net the count, where more than two counts as two
@@ -19,3 +22,13 @@ pub record AreUses (n : Netlist) (counts : List ℕ) (marks : List Bool) : Type 
   pub marked : length marks ≡ length n.nets
   pub counts_are : AreCounts counts (count_of n)
   pub marks_are : AreMarks marks (λ net. list_any (is_assign_of net) n.assigns)
+
+-- the nets that are bits of output ports are marked, and no others
+pub record AreOutputMarks (ports : List Port) (marks : List Bool) : Type 0 where
+  pub each : (k : ℕ) → k < length marks → slice_index_or marks k false ≡ list_any (λ port. port.net.0 == k && is_output port.direction) ports
+
+-- what is counted and what is marked are those of a netlist
+pub record AreOfNetlist (n counted marked : Netlist) : Type 0 where
+  pub sound : IsNetlist n
+  pub counted_is : counted ≡ n
+  pub marked_is : marked ≡ n

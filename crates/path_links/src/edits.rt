@@ -1,4 +1,3 @@
-use base_types::Rows;
 use netlist_core::NetId;
 
 /// The in pin of a scan path of an instance, and the net that is to stand there.
@@ -15,11 +14,4 @@ pub struct PortEdit {
     pub port: NetId,
     pub assign: u32,
     pub source: NetId,
-}
-
-/// The edits that make other paths of a netlist's paths, in the order of the new paths.
-#[derive(Debug, Drop)]
-pub struct Edits {
-    pub pins: Rows<PinEdit>,
-    pub ports: Rows<PortEdit>,
 }

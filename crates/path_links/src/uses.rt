@@ -15,7 +15,7 @@ use std::marker::Model;
 /// A netlist, and of each of its nets how often it stands there (up to two) and whether an assign drives it as a whole.
 /// Contracts see it as the netlist.
 #[derive(Drop)]
-pub struct Uses<'a> {
+pub(crate) struct Uses<'a> {
     netlist: &'a Netlist,
     counts: Vec<u8>,
     assigned: Vec<bool>,
@@ -89,7 +89,7 @@ fn mark(assigned: &mut Vec<bool>, assign: &Assign)
 
 impl<'a> Uses<'a> {
     /// Counts in one pass over the netlist; a net takes two bytes of memory.
-    pub fn of(alloc: Global, netlist: &'a Netlist) -> Result<Uses<'a>, NoMemory>
+    pub(crate) fn of(alloc: Global, netlist: &'a Netlist) -> Result<Uses<'a>, NoMemory>
         requires netlist { IsNetlist netlist.now }
         ensures value { IfOk result (λ uses. uses ≡ netlist.now) }
     {
@@ -111,7 +111,7 @@ impl<'a> Uses<'a> {
     }
 
     /// Whether a net bit stands at one place, besides the header and its declarations.
-    pub fn stands_once(&self, net: NetId) -> bool
+    pub(crate) fn stands_once(&self, net: NetId) -> bool
         requires within { net.0 < length self.now.nets }
         ensures value { result ≡ (count_of self.now net == 1) }
     {
@@ -120,7 +120,7 @@ impl<'a> Uses<'a> {
 
     /// Whether a port is free: besides the header and its declarations its net bit stands at one place, as the whole left side
     /// of an assign whose right side is one net bit.
-    pub fn is_free(&self, port: NetId) -> bool
+    pub(crate) fn is_free(&self, port: NetId) -> bool
         requires within { port.0 < length self.now.nets }
         ensures value { result ≡ is_free self.now port }
     {

@@ -2,11 +2,12 @@
 use base_types::{Name, Rows, Span};
 use cell_table::CellTable;
 use chain_trace::{Path, Step};
+use net_edit::{Edits, PinEdit, PortEdit, Wire, edits_for};
 use netlist_core::{
     Assign, Bit, Bits, Connection, Direction, Expr, Instance, NetId, NetName, Netlist, Port,
     is_netlist,
 };
-use path_links::{Edits, PinEdit, PortEdit, SinkPin, Sinks, Uses, edits_for, erased};
+use path_links::{FreeOutputs, SinkPin, Sinks, erased};
 use std::alloc::Global;
 use std::test::Fail;
 
@@ -115,27 +116,27 @@ fn two_orders_of_a_chain_are_alike(rt: HostRuntime) -> Result<(), Fail> {
     Ok(())
 }
 
-fn is_free(alloc: Global, netlist: &Netlist, port: u32) -> Result<bool, Fail> {
+fn is_assigned(alloc: Global, netlist: &Netlist, port: u32) -> Result<bool, Fail> {
     if !is_netlist(alloc, netlist)? {
         return Err("no netlist".into());
     }
     if netlist.nets.as_slice().len() <= port as usize {
         return Err("no port".into());
     }
-    let uses = Uses::of(alloc, netlist)?;
-    Ok(uses.is_free(NetId(port)))
+    let outputs = FreeOutputs::of(alloc, netlist)?;
+    Ok(outputs.is_assigned(NetId(port)))
 }
 
 #[test]
-fn a_port_is_free_at_an_assign_of_its_own(rt: HostRuntime) -> Result<(), Fail> {
+fn a_port_is_assigned_at_an_assign_of_its_own(rt: HostRuntime) -> Result<(), Fail> {
     let alloc = rt.alloc();
-    assert!(rt; is_free(alloc, &chain(alloc, 0, 1, 2)?, 3)?);
+    assert!(rt; is_assigned(alloc, &chain(alloc, 0, 1, 2)?, 3)?);
     // Also a pin reads it.
-    assert!(rt; !is_free(alloc, &chain(alloc, 0, 3, 2)?, 3)?);
+    assert!(rt; !is_assigned(alloc, &chain(alloc, 0, 3, 2)?, 3)?);
     // A pin drives it, and nothing else is there.
-    assert!(rt; !is_free(alloc, &chain(alloc, 0, 1, 1)?, 2)?);
+    assert!(rt; !is_assigned(alloc, &chain(alloc, 0, 1, 1)?, 2)?);
     // It stands at no place.
-    assert!(rt; !is_free(alloc, &chain(alloc, 1, 1, 2)?, 0)?);
+    assert!(rt; !is_assigned(alloc, &chain(alloc, 1, 1, 2)?, 0)?);
     Ok(())
 }
 
@@ -221,21 +222,21 @@ fn the_worked_chain_takes_three_edits(rt: HostRuntime) -> Result<(), Fail> {
         PinEdit {
             instance: 2,
             path: 0,
-            source: NetId(1),
+            source: Wire::Net(NetId(1)),
         },
         PinEdit {
             instance: 1,
             path: 0,
-            source: NetId(3),
+            source: Wire::Net(NetId(3)),
         },
     ];
     let ports = [PortEdit {
         port: NetId(4),
         assign: 0,
-        source: NetId(2),
+        source: Wire::Net(NetId(2)),
     }];
     assert!(rt; edits.pins.as_slice() == pins.as_slice());
-    assert!(rt; edits.ports.as_slice() == ports.as_slice());
+    assert!(rt; edits.ports.as_slice() == ports.as_slice() && edits.tails.as_slice().is_empty());
     let none = edits_of(alloc, &[0, 1, 2])?;
     assert!(rt; none.pins.as_slice().is_empty() && none.ports.as_slice().is_empty());
     Ok(())

@@ -6,6 +6,7 @@ use net_edit::{Edits, PinEdit, Wire, apply, edits_for};
 use netlist_core::{
     Bit, Bits, Connection, Direction, Expr, Instance, NetId, NetName, Netlist, Port, is_netlist,
 };
+use path_links::FreeOutputs;
 use std::alloc::Global;
 use std::test::Fail;
 
@@ -33,6 +34,19 @@ fn cell(alloc: Global, unit: &str, pins: &[(&str, u32)]) -> Result<Instance, Fai
     })
 }
 
+/// The ports si, an input, and so.
+fn ports(alloc: Global, last: Direction) -> Result<Rows<Port>, Fail> {
+    let mut ports = Rows::new(alloc);
+    for (number, direction) in [(0, Direction::Input), (1, last)] {
+        ports.push(Port {
+            net: NetId(number),
+            direction,
+            line: 1,
+        })?;
+    }
+    Ok(ports)
+}
+
 /// Nets si, so, qa, qb and one of this text; the flops a, b and c from si to so, and an instance of this name.
 fn direct(alloc: Global, text: &str, unit: &str) -> Result<Netlist, Fail> {
     let mut nets = Rows::new(alloc);
@@ -48,14 +62,6 @@ fn direct(alloc: Global, text: &str, unit: &str) -> Result<Netlist, Fail> {
             text: name(alloc, text)?,
         })?;
     }
-    let mut ports = Rows::new(alloc);
-    for (number, direction) in [(0, Direction::Input), (1, Direction::Output)] {
-        ports.push(Port {
-            net: NetId(number),
-            direction,
-            line: 1,
-        })?;
-    }
     let mut instances = Rows::new(alloc);
     instances.push(cell(alloc, "a", &[("SI", 0), ("Q", 2)])?)?;
     instances.push(cell(alloc, "b", &[("SI", 2), ("Q", 3)])?)?;
@@ -66,7 +72,7 @@ fn direct(alloc: Global, text: &str, unit: &str) -> Result<Netlist, Fail> {
         line: 1,
         nets,
         declared: 5,
-        ports,
+        ports: ports(alloc, Direction::Output)?,
         assigns: Rows::new(alloc),
         instances,
     })
@@ -110,6 +116,33 @@ fn edits_of(alloc: Global, netlist: &Netlist, flops: &[u32]) -> Result<Edits, Fa
         old.as_slice(),
         new.as_slice(),
     )?)
+}
+
+/// Whether the path over flops has a direct output.
+fn is_direct(alloc: Global, netlist: &Netlist, flops: &[u32]) -> Result<bool, Fail> {
+    if !is_netlist(alloc, netlist)? {
+        return Err("no netlist")?;
+    }
+    let outputs = FreeOutputs::of(alloc, netlist)?;
+    Ok(outputs.is_direct(&table(alloc)?, &path(alloc, flops)?))
+}
+
+#[test]
+fn an_output_is_direct_at_an_out_pin_of_its_own(rt: HostRuntime) -> Result<(), Fail> {
+    let alloc = rt.alloc();
+    let mut netlist = direct(alloc, "d", "x")?;
+    assert!(rt; is_direct(alloc, &netlist, &[0, 1, 2])?);
+    // Another flop is the last one, or there is none.
+    assert!(rt; !is_direct(alloc, &netlist, &[0, 2, 1])?);
+    assert!(rt; !is_direct(alloc, &netlist, &[])?);
+    // The port is inout.
+    netlist.ports = ports(alloc, Direction::Inout)?;
+    assert!(rt; !is_direct(alloc, &netlist, &[0, 1, 2])?);
+    // Also a pin reads it.
+    netlist.ports = ports(alloc, Direction::Output)?;
+    netlist.instances.push(cell(alloc, "y", &[("SI", 1)])?)?;
+    assert!(rt; !is_direct(alloc, &netlist, &[0, 1, 2])?);
+    Ok(())
 }
 
 #[test]

@@ -26,10 +26,9 @@ use Rattle.chain_rules.specs.Legality.{unit_at, rule_at, chain_at, last_of as la
 use Rattle.chain_rules.specs.Stretches.{path_at, step_at, spec_at, no_path as no_path_spec, no_step as no_step_spec, EndsAt, StepsOnce, IsOf}
 use Rattle.chain_rules.specs.Rules.{IsPort, PinsLast, AreRulesOf}
 use Rattle.path_links.specs.Free.{is_free}
-use Rattle.path_links.specs.Reordered.{last_source, last_of}
+use Rattle.path_links.specs.Direct.{last_source, last_of, is_direct_from}
 use Rattle.path_links.proofs.PathLists.{Has, has, contains, flat_from, flat_has}
 use Rattle.path_links.proofs.PathLinks.{Once}
-use Rattle.net_edit.specs.Changes.{is_direct_from}
 use Rattle.net_edit.specs.Rearranged.{ArePinsOnce, steps_of, IsAligned, AreAligned, AreOutputsApart, AreRearranged}
 use Rattle.net_edit.proofs.Links.{has_get, stand_once}
 use Rattle.net_edit.proofs.NewAssigns.{has_index}
@@ -381,7 +380,7 @@ module _ (N : PathNumbers) (old : List Path) (chains : List ChainSpec) (rules : 
   last_place k l len not_free = last_case k l len not_free (chain_on rules k l) (on rules plan (length specs) count runs k l) refl
 
   -- where the output isn't free the last source stays
-  last_steps : (k : ℕ) (steps : List Step) → (path_in old k).steps ≡ steps → (path_at specs k).free_out ≡ false
+  pub last_steps : (k : ℕ) (steps : List Step) → (path_in old k).steps ≡ steps → (path_at specs k).free_out ≡ false
       → last_source (sources.Port (path_in old k).input) (map (step_in old) (new_of k)) ≡ last_source (sources.Port (path_in old k).input) steps
   last_steps k [] e not_free = ap (λ (m : ℕ). last_source (sources.Port (path_in old k).input) (map (step_in old) (new_places rules plan k m))) (ap length e)
   last_steps k (s ∷ ss) e not_free =
@@ -393,7 +392,7 @@ module _ (N : PathNumbers) (old : List Path) (chains : List ChainSpec) (rules : 
       ∙ ap (λ (x : Step). sources.Out x) step
       ∙ sym (last_is (sources.Port (path_in old k).input) (s ∷ ss) (get_or (s ∷ ss) (length ss) absent_step) (ends_steps s ss absent_step))
 
-  spec_free : (k : ℕ) → k < length old → (path_at specs k).free_out ≡ N.free (path_in old k)
+  pub spec_free : (k : ℕ) → k < length old → (path_at specs k).free_out ≡ N.free (path_in old k)
   spec_free k lt = ap (λ (q : PathSpec). q.free_out) (get_map (numbered_path N) old k absent_path no_path_spec lt)
 
   module _ (n : Netlist) (cells : Cells) (reads : (p : Path) → Contains old p → IsScanPath n cells p.output p) (frees : (p : Path) → Contains old p → N.free p ≡ true → CanBeFreed n cells p) where

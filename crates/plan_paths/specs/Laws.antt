@@ -10,8 +10,7 @@ use Rattle.chain_rules.specs.declared.plan.Plan.{Plan}
 use Rattle.chain_rules.specs.Legality.{IsLegal}
 use Rattle.chain_rules.specs.Rules.{AreRulesOf}
 use Rattle.path_links.specs.Free.{is_free}
-use Rattle.path_links.specs.Reordered.{last_of}
-use Rattle.net_edit.specs.Changes.{is_direct_from}
+use Rattle.path_links.specs.Direct.{last_of, is_direct_from}
 use Rattle.net_edit.specs.Rearranged.{ArePinsOnce, AreOutputsApart, AreRearranged}
 use Rattle.plan_paths.specs.NewPaths.{new_paths}
 use Rattle.plan_paths.specs.Numbered.{PathNumbers, numbered_paths}

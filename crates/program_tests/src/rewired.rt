@@ -61,6 +61,97 @@ const JOINED: &str = "module top ( se, si, so, through );
 endmodule
 ";
 
+/// An escaped name, a word of the language and the bits of a vector are the nets between three flops.
+const NAMES: &str = "module m ( si, so, \\a.b , v );
+  input si; // the only one
+  output so, \\a.b ;
+  output [1:0] v;
+  wire x, y;
+  assign so =v[1] ;
+  SDF f ( .D({x, /* both */ y}), .SI(si), .Q(\\a.b ) );
+  SDF g ( .D(v[0]), .SI(\\a.b ), .Q(\\wire ) );
+  SDF h ( .SI(\\wire ), .Q(v[1]) );
+endmodule
+";
+
+/// In the order g, h, f.
+const NAMES_GHF: &str = "module m ( si, so, \\a.b , v );
+  input si; // the only one
+  output so, \\a.b ;
+  output [1:0] v;
+  wire x, y;
+  assign so =\\a.b  ;
+  SDF f ( .D({x, /* both */ y}), .SI(v[1]), .Q(\\a.b ) );
+  SDF g ( .D(v[0]), .SI(si), .Q(\\wire ) );
+  SDF h ( .SI(\\wire ), .Q(v[1]) );
+endmodule
+";
+
+/// In the order h, f, g.
+const NAMES_HFG: &str = "module m ( si, so, \\a.b , v );
+  input si; // the only one
+  output so, \\a.b ;
+  output [1:0] v;
+  wire x, y;
+  assign so =\\wire  ;
+  SDF f ( .D({x, /* both */ y}), .SI(v[1]), .Q(\\a.b ) );
+  SDF g ( .D(v[0]), .SI(\\a.b ), .Q(\\wire ) );
+  SDF h ( .SI(si), .Q(v[1]) );
+endmodule
+";
+
+/// The out pin of c drives the scan-out itself, and an instance has the name that would be the tail's.
+const DIRECT: &str = "module top ( clk, se, si, so, d0, d1, d2 );
+  input clk, se, si, d0, d1, d2;
+  output so;
+  wire qa, qb, qc;
+  SDF a ( .D(d0), .CK(clk), .SE(se), .SI(si), .Q(qa) );
+  SDF b ( .D(d1), .CK(clk), .SE(se), .SI(qa), .Q(qb) );
+  SDF c ( .D(d2), .CK(clk), .SE(se), .SI(qb), .Q(so) );
+  AN scan_tail_0 ( );
+endmodule
+";
+
+/// In the order a, c, b.
+const FREED: &str = "module top ( clk, se, si, so, d0, d1, d2 );
+  wire scan_tail_1;
+  input clk, se, si, d0, d1, d2;
+  output so;
+  wire qa, qb, qc;
+  SDF a ( .D(d0), .CK(clk), .SE(se), .SI(si), .Q(qa) );
+  SDF b ( .D(d1), .CK(clk), .SE(se), .SI(scan_tail_1), .Q(qb) );
+  SDF c ( .D(d2), .CK(clk), .SE(se), .SI(qa), .Q(scan_tail_1) );
+  AN scan_tail_0 ( );
+  assign so = qb;
+endmodule
+";
+
+/// In the order c, b, a.
+const FREED_CBA: &str = "module top ( clk, se, si, so, d0, d1, d2 );
+  wire scan_tail_1;
+  input clk, se, si, d0, d1, d2;
+  output so;
+  wire qa, qb, qc;
+  SDF a ( .D(d0), .CK(clk), .SE(se), .SI(qb), .Q(qa) );
+  SDF b ( .D(d1), .CK(clk), .SE(se), .SI(scan_tail_1), .Q(qb) );
+  SDF c ( .D(d2), .CK(clk), .SE(se), .SI(si), .Q(scan_tail_1) );
+  AN scan_tail_0 ( );
+  assign so = qa;
+endmodule
+";
+
+/// In the order b, a, c, where the same unit stays the last one.
+const DIRECT_BAC: &str = "module top ( clk, se, si, so, d0, d1, d2 );
+  input clk, se, si, d0, d1, d2;
+  output so;
+  wire qa, qb, qc;
+  SDF a ( .D(d0), .CK(clk), .SE(se), .SI(qb), .Q(qa) );
+  SDF b ( .D(d1), .CK(clk), .SE(se), .SI(si), .Q(qb) );
+  SDF c ( .D(d2), .CK(clk), .SE(se), .SI(qa), .Q(so) );
+  AN scan_tail_0 ( );
+endmodule
+";
+
 /// A flop and what is at its SI.
 fn push_flop(text: &mut Vec<u8>, start: &str, input: &str, end: &str) -> Result<(), NoMemory> {
     text.extend_from_slice(start.as_bytes())?;
@@ -178,12 +269,14 @@ fn other_names_and_assigns(rt: HostRuntime) -> Result<(), Fail> {
   assign through = si;
 endmodule
 ";
-    let rows: [(&str, &str, &[&str], &str, u64); 5] = [
+    let rows: [(&str, &str, &[&str], &str, u64); 7] = [
         (BUS, "so[1]", &["b", "u1/r[0]"], BUS_WRITTEN, 3),
         (BUS_WRITTEN, "so[1]", &["u1/r[0]", "b"], BUS, 3),
         (BUS, "so[1]", &["u1/r[0]", "b"], BUS, 0),
         (JOINED, "so", &["b", "a"], reordered, 3),
         (JOINED, "through", &[], JOINED, 0),
+        (NAMES, "so", &["g", "h", "f"], NAMES_GHF, 3),
+        (NAMES, "so", &["h", "f", "g"], NAMES_HFG, 3),
     ];
     for (text, scan_out, units, written, moved) in rows {
         check_written(
@@ -262,21 +355,44 @@ fn refuses_the_words(rt: HostRuntime) -> Result<(), Fail> {
     Ok(())
 }
 
-/// An out pin on the scan-out itself can't be exchanged for another.
+/// An out pin on the scan-out itself gets a wire of its own, where another unit becomes the last one.
+#[test]
+fn a_port_on_an_out_pin_is_freed(rt: HostRuntime) -> Result<(), Fail> {
+    let rows: [(&str, &[&str], &str, u64); 5] = [
+        (DIRECT, &["a", "c", "b"], FREED, 3),
+        (DIRECT, &["c", "b", "a"], FREED_CBA, 4),
+        (DIRECT, &["b", "a", "c"], DIRECT_BAC, 3),
+        (DIRECT, &["a", "b", "c"], DIRECT, 0),
+        (FREED, &["a", "c", "b"], FREED, 0),
+    ];
+    for (text, units, written, moved) in rows {
+        check_written(&rt, text.as_bytes(), "so", units, written.as_bytes(), moved)?;
+    }
+    Ok(())
+}
+
+/// Where the scan-out is read besides, or is an inout port, the out pin on it can't be exchanged for another.
 #[test]
 fn a_port_on_an_out_pin_is_pinned(rt: HostRuntime) -> Result<(), Fail> {
-    let text = b"module top ( si, so );
-  input si;
-  output so;
-  SDF a ( .SI(si), .Q(qa) );
-  SDF b ( .SI(qa), .Q(so) );
-endmodule
-";
-    let Err(fault) = answer(rt.alloc(), text, "si", "so", &["b", "a"])? else {
-        return Err("no fault")?;
-    };
-    check_fault(&rt, &fault, Kind::PinnedLast, FileKind::Words, 0)?;
-    check_written(&rt, text, "so", &["a", "b"], text, 0)
+    let read = DIRECT.replace(rt.alloc(), "AN scan_tail_0 ( );", "AN g ( .A(so) );")?;
+    let inout = DIRECT.replace(rt.alloc(), "output so;", "inout so;")?;
+    for text in [&read, &inout] {
+        for units in [["a", "c", "b"], ["c", "b", "a"]] {
+            let Err(fault) = answer(rt.alloc(), text.as_bytes(), "si", "so", &units)? else {
+                return Err("no fault")?;
+            };
+            check_fault(&rt, &fault, Kind::PinnedLast, FileKind::Words, 0)?;
+        }
+        check_written(
+            &rt,
+            text.as_bytes(),
+            "so",
+            &["a", "b", "c"],
+            text.as_bytes(),
+            0,
+        )?;
+    }
+    Ok(())
 }
 
 #[test]

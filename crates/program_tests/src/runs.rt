@@ -15,6 +15,13 @@ const THREE_FLOPS: &str =
 const REWIRED: &str =
     "module top ( clk, se, si, so, d0, d1, d2 );\n  input clk, se, si, d0, d1, d2;\n  output so;\n  wire qa, qb, qc;\n  SDF a ( .D(d0), .CK(clk), .SE(se), .SI(si), .Q(qa) );\n  SDF b ( .D(d1), .CK(clk), .SE(se), .SI(qc), .Q(qb) );\n  SDF c ( .D(d2), .CK(clk), .SE(se), .SI(qa), .Q(qc) );\n  assign so = qb;\nendmodule\n";
 
+/// The out pin of c drives the scan-out itself.
+const DIRECT: &str =
+    "module top ( clk, se, si, so, d0, d1, d2 );\n  input clk, se, si, d0, d1, d2;\n  output so;\n  wire qa, qb, qc;\n  SDF a ( .D(d0), .CK(clk), .SE(se), .SI(si), .Q(qa) );\n  SDF b ( .D(d1), .CK(clk), .SE(se), .SI(qa), .Q(qb) );\n  SDF c ( .D(d2), .CK(clk), .SE(se), .SI(qb), .Q(so) );\nendmodule\n";
+
+const FREED: &str =
+    "module top ( clk, se, si, so, d0, d1, d2 );\n  wire scan_tail_0;\n  input clk, se, si, d0, d1, d2;\n  output so;\n  wire qa, qb, qc;\n  SDF a ( .D(d0), .CK(clk), .SE(se), .SI(si), .Q(qa) );\n  SDF b ( .D(d1), .CK(clk), .SE(se), .SI(scan_tail_0), .Q(qb) );\n  SDF c ( .D(d2), .CK(clk), .SE(se), .SI(qa), .Q(scan_tail_0) );\n  assign so = qb;\nendmodule\n";
+
 const TABLE: &str =
     "[[cell.SDF.path]]\nin = \"SI\"\nbits = [0]\nout = { Q = 0, QN = 1 }\n[[cell.LK.path]]\nin = \"D\"\nbits = []\nout = { Q = 0 }\n[[cell.BUF.path]]\nin = \"A\"\nbits = []\nout = { Z = 0 }\n";
 
@@ -92,6 +99,8 @@ fn a_chain_is_rewired(rt: HostRuntime) -> Result<(), Fail> {
         ("a c b", THREE_FLOPS, REWIRED, "moved 3\n"),
         ("a b c", THREE_FLOPS, THREE_FLOPS, "moved 0\n"),
         ("a c b", constant.as_str(), rewired.as_str(), "moved 3\n"),
+        ("a c b", DIRECT, FREED, "moved 3\n"),
+        ("a b c", DIRECT, DIRECT, "moved 0\n"),
     ] {
         let mut desk = desk(alloc, "", text, 0, 0)?;
         let words = rewiring(alloc, units)?;
@@ -111,8 +120,7 @@ fn a_chain_is_refused_by_its_first_fault(rt: HostRuntime) -> Result<(), Fail> {
     let alloc = rt.alloc();
     let unclosed = THREE_FLOPS.replace(alloc, "endmodule\n", "")?;
     let undriven = THREE_FLOPS.replace(alloc, ".SI(si)", ".SI(sx)")?;
-    let direct = THREE_FLOPS.replace(alloc, ".Q(qc)", ".Q(so)")?;
-    let direct = direct.replace(alloc, "  assign so = qc;\n", "")?;
+    let read = DIRECT.replace(alloc, "endmodule", "  AN g ( .A(so) );\nendmodule")?;
     for (line, text, console) in [
         ("si so a c", THREE_FLOPS, "words:0: NotPermutation\n"),
         ("si so a c b b", THREE_FLOPS, "words:0: NotPermutation\n"),
@@ -121,7 +129,7 @@ fn a_chain_is_refused_by_its_first_fault(rt: HostRuntime) -> Result<(), Fail> {
         ("se so a c b", THREE_FLOPS, "words:0: WrongPort\n"),
         ("si so a c b", undriven.as_str(), "v.v:5: NoDriver\n"),
         ("si so a c b", unclosed.as_str(), "v.v:1: VerilogSyntax\n"),
-        ("si so a c b", direct.as_str(), "words:0: PinnedLast\n"),
+        ("si so a c b", read.as_str(), "words:0: PinnedLast\n"),
     ] {
         let mut desk = desk(alloc, "", text, 0, 0)?;
         let words = rewiring_between(alloc, line)?;

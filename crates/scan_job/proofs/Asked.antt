@@ -1,9 +1,11 @@
 -- Words that say an order say a request, and one at most.
-use Rattle.std.proofs.Common.{◌≡◌, ◌≢◌, ◌==◌, ℕ, Bool, true, false, cond, ◌&&◌, ◌++◌, List, [], ◌∷◌, length, codes, Option, Some, None, refl, sym, ap, ◌∙◌, subst, arith}
+use Rattle.std.proofs.Common.{◌≡◌, ◌≢◌, ◌==◌, ℕ, Bool, true, false, cond, ◌&&◌, ◌||◌, ◌++◌, if◌then◌else◌, List, [], ◌∷◌, length, codes, Option, Some, None, refl, sym, ap, ◌∙◌, subst, arith}
 use Rattle.std.specs.Str.{bytes_eq}
 use Rattle.std.proofs.lemmas.Bool.Decides.{nat_tests}
 use Rattle.std.proofs.lemmas.Option.{same_Some}
 use Rattle.std.proofs.lemmas.Slice.Eq.{bytes_eq-Decides}
+use Rattle.order_search.specs.declared.effort.Effort.{Effort}
+use Rattle.order_search.specs.declared.effort.Effort.TheVariants as efforts
 use Rattle.scan_words.specs.declared.order.Order.{Order}
 use Rattle.scan_words.specs.declared.verb.Verb.{Verb}
 use Rattle.scan_words.specs.declared.verb.Verb.TheVariants as verbs
@@ -16,7 +18,7 @@ use Rattle.scan_words.specs.Orders.{needed, options_of, takes_further, is_count,
 use Rattle.scan_words.specs.Written.{Says}
 use Rattle.scan_job.specs.declared.request.Request.{Request}
 use Rattle.scan_job.specs.declared.request.Request.TheVariants as requests
-use Rattle.scan_job.specs.Requests.{order_of, ArePinsApart, IsAsked}
+use Rattle.scan_job.specs.Requests.{effort_word, order_of, ArePinsApart, IsAsked}
 
 -- the request of a verb, its values and the further words
 request_by : Verb → List Text → List Text → Request
@@ -27,12 +29,20 @@ request_by verbs.Trace (a ∷ b ∷ c ∷ []) further = requests.Trace (record {
 request_by verbs.Trace values further = requests.Trace (record { table = []; verilog = []; scan_out = [] })
 request_by verbs.Check (a ∷ b ∷ c ∷ d ∷ []) further = requests.Check (record { table = a; lef = b; verilog = c; def = d })
 request_by verbs.Check values further = requests.Trace (record { table = []; verilog = []; scan_out = [] })
+request_by verbs.Reorder (a ∷ b ∷ c ∷ d ∷ e ∷ f ∷ g ∷ []) further =
+    requests.Reorder (record { table = a; lef = b; verilog = c; def = d; out_verilog = e; out_def = f; effort = if bytes_eq g (codes "order") then efforts.Order else efforts.Full })
+request_by verbs.Reorder values further = requests.Trace (record { table = []; verilog = []; scan_out = [] })
+
+effort_back : (effort : Effort) → (if bytes_eq (effort_word effort) (codes "order") then efforts.Order else efforts.Full) ≡ effort
+effort_back efforts.Order = refl
+effort_back efforts.Full = refl
 
 request_back : (request : Request) → request_by (order_of request).verb (order_of request).values (order_of request).further ≡ request
 unfolding request_by
 request_back (requests.Rewire r) = refl
 request_back (requests.Trace r) = refl
 request_back (requests.Check r) = refl
+request_back (requests.Reorder r) = ap (λ (effort : Effort). requests.Reorder (record r { effort = effort })) (effort_back r.effort)
 
 -- an order is that of one request at most
 pub order_once : (one other : Request) → order_of one ≡ order_of other → one ≡ other
@@ -47,20 +57,21 @@ record First (values : Values) (name : OptionName) (table : List OptionForm) (gi
   value : Text
   rest : List Text
   is : values (option_text name) ≡ value ∷ []
+  formed : has_form (value_form name) value ≡ true
   others : each_value values table ≡ Some rest
   same : given ≡ value ∷ rest
 
 module _ (values : Values) (name : OptionName) (table : List OptionForm) (given : List Text) where
-  by_form : (v : Text) (b : Bool) → values (option_text name) ≡ v ∷ [] → (others : Option (List Text)) → each_value values table ≡ others
+  by_form : (v : Text) (b : Bool) → has_form (value_form name) v ≡ b → values (option_text name) ≡ v ∷ [] → (others : Option (List Text)) → each_value values table ≡ others
       → (cond b (Some (Some v)) None >>= λ value. others >>= λ vs. Some (value_list value ++ vs)) ≡ Some given → First values name table given
-  by_form v false is others e h = absurd cc
-  by_form v true is None e h = absurd cc
-  by_form v true is (Some vs) e h = record { value = v; rest = vs; is = is; others = e; same = sym (same_Some _ _ h) }
+  by_form v false formed is others e h = absurd cc
+  by_form v true formed is None e h = absurd cc
+  by_form v true formed is (Some vs) e h = record { value = v; rest = vs; is = is; formed = formed; others = e; same = sym (same_Some _ _ h) }
 
   by_values : (vs : List Text) → values (option_text name) ≡ vs
       → (value_among (needed name) values vs >>= λ value. each_value values table >>= λ others. Some (value_list value ++ others)) ≡ Some given → First values name table given
   by_values [] is h = absurd cc
-  by_values (v ∷ []) is h = by_form v (has_form (value_form name) v) is (each_value values table) refl h
+  by_values (v ∷ []) is h = by_form v (has_form (value_form name) v) refl is (each_value values table) refl h
   by_values (v ∷ w ∷ ws) is h = absurd cc
 
   first : each_value values (needed name ∷ table) ≡ Some given → First values name table given
@@ -138,11 +149,48 @@ made_check values given [] h count =
     }
 made_check values given (w ∷ ws) h count = let none = zero_is (length (w ∷ ws)) count in absurd (omega (arith, none))
 
+-- an effort's word is that of an effort
+record IsEffort (word : Text) : Type 0 where
+  effort : Effort
+  is : effort_word effort ≡ word
+
+effort_by : (g : Text) (a b : Bool) → bytes_eq g (codes "order") ≡ a → bytes_eq g (codes "full") ≡ b → (a || b) ≡ true → IsEffort g
+effort_by g true b order full h = record { effort = efforts.Order; is = sym ((bytes_eq-Decides g (codes "order")).0 order) }
+effort_by g false true order full h = record { effort = efforts.Full; is = sym ((bytes_eq-Decides g (codes "full")).0 full) }
+effort_by g false false order full h = absurd cc
+
+effort_is : (g : Text) → has_form (value_form options.Effort) g ≡ true → IsEffort g
+effort_is g h = effort_by g (bytes_eq g (codes "order")) (bytes_eq g (codes "full")) refl refl h
+
+made_reorder : (values : Values) (given further : List Text) → each_value values (options_of verbs.Reorder) ≡ Some given → is_count false (length further) ≡ true → IsMade verbs.Reorder given further
+made_reorder values given [] h count =
+    let a = first values options.Table _ given h in
+    let b = first values options.Lef _ a.rest a.others in
+    let c = first values options.Verilog _ b.rest b.others in
+    let d = first values options.Def _ c.rest c.others in
+    let e = first values options.OutVerilog _ d.rest d.others in
+    let f = first values options.OutDef _ e.rest e.others in
+    let g = first values options.Effort _ f.rest f.others in
+    let last = none_left values g.rest g.others in
+    let effort = effort_is g.value g.formed in
+    let same : a.value ∷ b.value ∷ c.value ∷ d.value ∷ e.value ∷ f.value ∷ g.value ∷ [] ≡ given
+    = sym (a.same ∙ ap (λ (xs : List Text). a.value ∷ xs) (b.same ∙ ap (λ (xs : List Text). b.value ∷ xs) (c.same ∙ ap (λ (xs : List Text). c.value ∷ xs)
+    (d.same ∙ ap (λ (xs : List Text). d.value ∷ xs) (e.same ∙ ap (λ (xs : List Text). e.value ∷ xs) (f.same ∙ ap (λ (xs : List Text). f.value ∷ xs)
+    (g.same ∙ ap (λ (xs : List Text). g.value ∷ xs) last))))))) in
+    record {
+      request = requests.Reorder (record { table = a.value; lef = b.value; verilog = c.value; def = d.value; out_verilog = e.value; out_def = f.value; effort = effort.effort });
+      order_is = ap (λ (w : Text). record { verb = verbs.Reorder; values = a.value ∷ b.value ∷ c.value ∷ d.value ∷ e.value ∷ f.value ∷ w ∷ []; further = [] }) effort.is
+          ∙ ap (λ (vs : List Text). record { verb = verbs.Reorder; values = vs; further = [] }) same;
+      pins = tt;
+    }
+made_reorder values given (w ∷ ws) h count = let none = zero_is (length (w ∷ ws)) count in absurd (omega (arith, none))
+
 made : (verb : Verb) (values : Values) (given further : List Text) → each_value values (options_of verb) ≡ Some given → are_apart values (options_of verb) ≡ true
     → is_count (takes_further verb) (length further) ≡ true → IsMade verb given further
 made verbs.Rewire values given further each apart count = made_rewire values given further each apart
 made verbs.Trace values given further each apart count = made_trace values given further each count
 made verbs.Check values given further each apart count = made_check values given further each count
+made verbs.Reorder values given further each apart count = made_reorder values given further each count
 
 abbrev further_in : Values → List Text
 further_in values = values (codes "further")

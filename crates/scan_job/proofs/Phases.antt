@@ -18,11 +18,12 @@ use Rattle.scan_job.specs.declared.stop.Stop.{Stop}
 use Rattle.scan_job.specs.declared.stop.Stop.TheVariants.{NoForm, Refused, InputFailed, OutputFailed, NoMemory}
 use Rattle.chain_rewire.specs.Faults.{IsRewireFault}
 use Rattle.path_report.specs.Reports.{IsPathText, IsPathFault}
-use Rattle.check_report.specs.Checks.{Texts, texts_of, IsCheckText, IsCheckFault}
-use Rattle.scan_job.specs.declared.request.CheckRequest.{CheckRequest}
+use Rattle.design_files.specs.Files.{Texts, texts_of}
+use Rattle.design_files.specs.Faults.{IsFilesFault}
+use Rattle.check_report.specs.Checks.{IsCheckText}
 use Rattle.scan_job.specs.Requests.{names_of, rewire_of}
 use Rattle.scan_job.specs.Faults.{size_fault, IsCommandFault, HasNoCommandFault, IsRunFault, HasNoFault, IsFoundWriting}
-use Rattle.scan_job.specs.Texts.{AreTexts, AreRewired, AreOutputsOf, AreOutputsBefore}
+use Rattle.scan_job.specs.Texts.{AreTexts, AreRewired, AreReordered, AreOutputsOf, AreOutputsBefore}
 use Rattle.scan_job.specs.TopCall.{Slots, IsUsed, Reads, SameEverywhere, SameUnused, SameOutputs, SameDesign, AreFilesRefused}
 use Rattle.scan_job.specs.Ended.{IsDone, IsRefused, IsInputFailed, IsOutputFailed, IsOutOfMemory, HasEnded}
 use Rattle.scan_job.specs.Phases.{HasPutLine, HasFailedAtLine, HasSaid, AreJudged, HasPutAll, HasPutSome, HasFinished}
@@ -186,25 +187,28 @@ risen_since now a b e risen = subst (λ (s : SlotState). HasRisen s.faults now) 
 abbrev AgreeAt : Request → (Slot → List ℕ) → (Slot → List ℕ) → Type 0
 AgreeAt request one other = (slot : Slot) → IsInput slot → IsUsed request slot → one slot ≡ other slot
 
-check_same : (r : CheckRequest) (one other : Slot → List ℕ) → AgreeAt (requests.Check r) one other
+-- the four files of a design
+design_same : (one other : Slot → List ℕ) → one Table ≡ other Table → one Lef ≡ other Lef → one Verilog ≡ other Verilog → one Def ≡ other Def
     → texts_of (one Table) (one Lef) (one Verilog) (one Def) ≡ texts_of (other Table) (other Lef) (other Verilog) (other Def)
-check_same r one other agree =
-    ap (λ (text : List ℕ). texts_of text (one Lef) (one Verilog) (one Def)) (agree Table tt refl) ∙ ap (λ (text : List ℕ). texts_of (other Table) text (one Verilog) (one Def)) (agree Lef tt refl)
-    ∙ ap (λ (text : List ℕ). texts_of (other Table) (other Lef) text (one Def)) (agree Verilog tt refl) ∙ ap (texts_of (other Table) (other Lef) (other Verilog)) (agree Def tt refl)
+design_same one other table lef verilog def =
+    ap (λ (text : List ℕ). texts_of text (one Lef) (one Verilog) (one Def)) table ∙ ap (λ (text : List ℕ). texts_of (other Table) text (one Verilog) (one Def)) lef
+    ∙ ap (λ (text : List ℕ). texts_of (other Table) (other Lef) text (one Def)) verilog ∙ ap (texts_of (other Table) (other Lef) (other Verilog)) def
 
 command_same : (request : Request) (one other : Slot → List ℕ) (fault : Fault) → AgreeAt request one other → IsCommandFault request one fault → IsCommandFault request other fault
 command_same (requests.Rewire r) one other fault agree is = subst (λ (text : List ℕ). IsRewireFault text (rewire_of r) fault) (agree Verilog tt refl) is
 command_same (requests.Trace r) one other fault agree is =
     subst (λ (table : List ℕ). IsPathFault table (other Verilog) r.scan_out fault) (agree Table tt refl)
     (subst (λ (text : List ℕ). IsPathFault (one Table) text r.scan_out fault) (agree Verilog tt refl) is)
-command_same (requests.Check r) one other fault agree is = subst (λ (t : Texts). IsCheckFault t fault) (check_same r one other agree) is
+command_same (requests.Check r) one other fault agree is = subst (λ (t : Texts). IsFilesFault t fault) (design_same one other (agree Table tt refl) (agree Lef tt refl) (agree Verilog tt refl) (agree Def tt refl)) is
+command_same (requests.Reorder r) one other fault agree is = subst (λ (t : Texts). IsFilesFault t fault) (design_same one other (agree Table tt refl) (agree Lef tt refl) (agree Verilog tt refl) (agree Def tt refl)) is
 
 texts_same : (request : Request) (one other : Slot → List ℕ) (outputs : Outputs) → AgreeAt request one other → AreTexts request one outputs → AreTexts request other outputs
 texts_same (requests.Rewire r) one other outputs agree are = subst (λ (text : List ℕ). AreRewired r text outputs) (agree Verilog tt refl) are
 texts_same (requests.Trace r) one other outputs agree are =
     subst (λ (table : List ℕ). IsPathText table (other Verilog) r.scan_out outputs.console) (agree Table tt refl)
     (subst (λ (text : List ℕ). IsPathText (one Table) text r.scan_out outputs.console) (agree Verilog tt refl) are)
-texts_same (requests.Check r) one other outputs agree are = subst (λ (t : Texts). IsCheckText t outputs.console) (check_same r one other agree) are
+texts_same (requests.Check r) one other outputs agree are = subst (λ (t : Texts). IsCheckText t outputs.console) (design_same one other (agree Table tt refl) (agree Lef tt refl) (agree Verilog tt refl) (agree Def tt refl)) are
+texts_same (requests.Reorder r) one other outputs agree are = subst (λ (t : Texts). AreReordered r t outputs) (design_same one other (agree Table tt refl) (agree Lef tt refl) (agree Verilog tt refl) (agree Def tt refl)) are
 
 -- the inputs of a request were taken
 
@@ -257,6 +261,7 @@ none_late : (request : Request) (fault : Fault) → IsFoundWriting request fault
 none_late (requests.Rewire r) fault late = late
 none_late (requests.Trace r) fault late = late
 none_late (requests.Check r) fault late = late
+none_late (requests.Reorder r) fault late = late
 
 pub before_of : (request : Request) (files : Slot → List ℕ) (outputs : Outputs) → AreOutputsOf request files outputs → AreOutputsBefore request files outputs
 before_of request files outputs are = record { no_fault = λ fault is. absurd (are.no_fault fault is); texts = are.texts }

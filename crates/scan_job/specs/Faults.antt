@@ -17,11 +17,13 @@ use Rattle.desk_io.specs.Inputs.{limit_of}
 use Rattle.desk_io.specs.Names.{IsNamed}
 use Rattle.chain_rewire.specs.Faults.{HoldsInRewire}
 use Rattle.path_report.specs.Reports.{HoldsInTrace}
-use Rattle.check_report.specs.Checks.{texts_of, HoldsInCheck}
+use Rattle.design_files.specs.Files.{texts_of}
+use Rattle.design_files.specs.Faults.{HoldsInFiles}
 use Rattle.scan_job.specs.declared.request.Request.{Request}
 use Rattle.scan_job.specs.declared.request.RewireRequest.{RewireRequest}
 use Rattle.scan_job.specs.declared.request.TraceRequest.{TraceRequest}
 use Rattle.scan_job.specs.declared.request.CheckRequest.{CheckRequest}
+use Rattle.scan_job.specs.declared.request.ReorderRequest.{ReorderRequest}
 use Rattle.scan_job.specs.declared.request.Request.TheVariants as requests
 use Rattle.scan_job.specs.Requests.{names_of, rewire_of}
 
@@ -57,7 +59,8 @@ AreSmall request files = (slot : Slot) → IsInput slot → IsNamed (names_of re
 abbrev pub HoldsInCommand : Request → (Slot → List ℕ) → Fault → Type 0
 HoldsInCommand (requests.Rewire r) files = HoldsInRewire (files Verilog) (rewire_of r)
 HoldsInCommand (requests.Trace r) files = HoldsInTrace (files Table) (files Verilog) r.scan_out
-HoldsInCommand (requests.Check r) files = HoldsInCheck (texts_of (files Table) (files Lef) (files Verilog) (files Def))
+HoldsInCommand (requests.Check r) files = HoldsInFiles (texts_of (files Table) (files Lef) (files Verilog) (files Def))
+HoldsInCommand (requests.Reorder r) files = HoldsInFiles (texts_of (files Table) (files Lef) (files Verilog) (files Def))
 
 -- the first of them
 abbrev pub IsCommandFault : Request → (Slot → List ℕ) → Fault → Type 0
@@ -85,6 +88,7 @@ abbrev pub IsFoundWriting : Request → Kind → Type 0
 IsFoundWriting (requests.Rewire r) kind = ⊥
 IsFoundWriting (requests.Trace r) kind = ⊥
 IsFoundWriting (requests.Check r) kind = ⊥
+IsFoundWriting (requests.Reorder r) kind = ⊥
 
 -- no fault but those that are found while the STIL output is written
 abbrev pub HasNoFaultBefore : Request → (Slot → List ℕ) → Type 0
@@ -117,11 +121,21 @@ check_word r kinds.Def = r.def
 check_word r kinds.Stil = codes "words"
 check_word r kinds.Words = codes "words"
 
+-- the file words of `reorder`
+abbrev pub reorder_word : ReorderRequest → FileKind → List ℕ
+reorder_word r kinds.Table = r.table
+reorder_word r kinds.Lef = r.lef
+reorder_word r kinds.Verilog = r.verilog
+reorder_word r kinds.Def = r.def
+reorder_word r kinds.Stil = codes "words"
+reorder_word r kinds.Words = codes "words"
+
 -- the word by which a fault of the command names its file
 abbrev pub file_word : Request → FileKind → List ℕ
 file_word (requests.Rewire r) file = rewire_word r file
 file_word (requests.Trace r) file = trace_word r file
 file_word (requests.Check r) file = check_word r file
+file_word (requests.Reorder r) file = reorder_word r file
 
 -- the place in the file: a line, a cell's name, or a hyphen
 abbrev pub spot_text : Spot → List ℕ

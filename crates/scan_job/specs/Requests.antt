@@ -1,6 +1,8 @@
 -- What the words of a command ask for, and the files that it names.
-use Rattle.std.specs.Prelude.{◌≡◌, ◌≢◌, ℕ, List, [], ◌∷◌, Some, None}
+use Rattle.std.specs.Prelude.{◌≡◌, ◌≢◌, ℕ, List, [], ◌∷◌, Some, None, codes}
 use Rattle.desk_io.specs.declared.names.Names.{Names}
+use Rattle.order_search.specs.declared.effort.Effort.{Effort}
+use Rattle.order_search.specs.declared.effort.Effort.TheVariants as efforts
 use Rattle.scan_words.specs.declared.order.Order.{Order}
 use Rattle.scan_words.specs.declared.verb.Verb.TheVariants as verbs
 use Rattle.scan_words.specs.Written.{Says}
@@ -8,6 +10,11 @@ use Rattle.chain_rewire.specs.declared.rewire.Rewire.{Rewire}
 use Rattle.scan_job.specs.declared.request.Request.{Request}
 use Rattle.scan_job.specs.declared.request.RewireRequest.{RewireRequest}
 use Rattle.scan_job.specs.declared.request.Request.TheVariants as requests
+
+-- the word of an effort
+abbrev pub effort_word : Effort → List ℕ
+effort_word efforts.Order = codes "order"
+effort_word efforts.Full = codes "full"
 
 -- the order whose values a request gives names: those of the options in the order in which the command lists them
 abbrev pub order_of : Request → Order
@@ -18,6 +25,11 @@ order_of (requests.Rewire r) = record {
 }
 order_of (requests.Trace r) = record { verb = verbs.Trace; values = r.table ∷ r.verilog ∷ r.scan_out ∷ []; further = [] }
 order_of (requests.Check r) = record { verb = verbs.Check; values = r.table ∷ r.lef ∷ r.verilog ∷ r.def ∷ []; further = [] }
+order_of (requests.Reorder r) = record {
+  verb = verbs.Reorder;
+  values = r.table ∷ r.lef ∷ r.verilog ∷ r.def ∷ r.out_verilog ∷ r.out_def ∷ effort_word r.effort ∷ [];
+  further = [];
+}
 
 -- the words say this request
 abbrev pub Asks : List (List ℕ) → Request → Type 0
@@ -28,6 +40,7 @@ abbrev pub ArePinsApart : Request → Type 0
 ArePinsApart (requests.Rewire r) = r.in_pin ≢ r.out_pin
 ArePinsApart (requests.Trace r) = Unit {0}
 ArePinsApart (requests.Check r) = Unit {0}
+ArePinsApart (requests.Reorder r) = Unit {0}
 
 -- the order is that of a request whose pins are apart
 pub record IsAsked (order : Order) : Type 0 where
@@ -65,6 +78,16 @@ names_of (requests.Check r) = record {
   stil = None;
   out_verilog = None;
   out_def = None;
+  out_stil = None;
+}
+names_of (requests.Reorder r) = record {
+  table = Some r.table;
+  lef = Some r.lef;
+  verilog = Some r.verilog;
+  def = Some r.def;
+  stil = None;
+  out_verilog = Some r.out_verilog;
+  out_def = Some r.out_def;
   out_stil = None;
 }
 

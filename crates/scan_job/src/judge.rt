@@ -6,9 +6,12 @@ ghost use Rattle.scan_job.specs.Requests.{ArePinsApart};
 ghost use Rattle.scan_job.specs.Faults.{IsCommandFault, HasNoCommandFault};
 ghost use Rattle.scan_job.specs.Texts.{AreTexts};
 
-use crate::line::moved_line;
-use crate::request::{CheckRequest, Request, RewireRequest, TraceRequest, rewire_of};
+use crate::line::{figure_lines, moved_line};
+use crate::request::{
+    CheckRequest, ReorderRequest, Request, RewireRequest, TraceRequest, rewire_of,
+};
 use base_types::{ReadFault, Text};
+use chain_reorder::reorder_texts;
 use chain_rewire::rewire_text;
 use check_report::check_text;
 use desk_io::{Inputs, Outputs, Slot};
@@ -78,6 +81,32 @@ fn judge_check(alloc: Global, request: &CheckRequest, inputs: &Inputs) -> Result
     })
 }
 
+/// The texts of `reorder`, or the first fault of its files.
+fn judge_reorder(
+    alloc: Global,
+    request: &ReorderRequest,
+    inputs: &Inputs,
+) -> Result<Outputs, ReadFault>
+    requires small_lef { length (input_at inputs.now Lef) < 2 ^ 32 }
+    requires small { length (input_at inputs.now Verilog) < 2 ^ 32 }
+    requires small_def { length (input_at inputs.now Def) < 2 ^ 32 }
+    ensures no_fault { IfOk result (λ outputs. HasNoCommandFault (Request.Reorder request.now) (input_at inputs.now)) }
+    ensures texts { IfOk result (AreTexts (Request.Reorder request.now) (input_at inputs.now)) }
+    ensures fault { IfFault result (IsCommandFault (Request.Reorder request.now) (input_at inputs.now)) }
+{
+    let table = inputs.text(Slot::Table);
+    let lef = inputs.text(Slot::Lef);
+    let verilog = inputs.text(Slot::Verilog);
+    let def = inputs.text(Slot::Def);
+    let made = reorder_texts(alloc, table, lef, verilog, def, request.effort)?;
+    Ok(Outputs {
+        verilog: made.verilog,
+        def: made.def,
+        stil: Text::of(Vec::new(alloc)),
+        console: figure_lines(alloc, &made.figures)?,
+    })
+}
+
 /// The texts of the command, or the first fault that it finds in its files.
 pub(crate) fn judge(alloc: Global, request: &Request, inputs: &Inputs) -> Result<Outputs, ReadFault>
     requires small_lef { length (input_at inputs.now Lef) < 2 ^ 32 }
@@ -92,5 +121,6 @@ pub(crate) fn judge(alloc: Global, request: &Request, inputs: &Inputs) -> Result
         Request::Rewire(request) => judge_rewire(alloc, request, inputs),
         Request::Trace(request) => judge_trace(alloc, request, inputs),
         Request::Check(request) => judge_check(alloc, request, inputs),
+        Request::Reorder(request) => judge_reorder(alloc, request, inputs),
     }
 }

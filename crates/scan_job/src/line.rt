@@ -1,9 +1,10 @@
 ghost use Rattle.std.specs.Prelude.{◌≡◌, ◌++◌, IfOk, OnOk};
-ghost use Rattle.scan_job.specs.Faults.{rewire_word, trace_word, check_word, file_word, spot_text, fault_text};
-ghost use Rattle.scan_job.specs.Texts.{moved_text};
+ghost use Rattle.scan_job.specs.Faults.{rewire_word, trace_word, check_word, reorder_word, file_word, spot_text, fault_text};
+ghost use Rattle.scan_job.specs.Texts.{moved_text, figure_line, figures_text};
 
-use crate::request::{CheckRequest, Request, RewireRequest, TraceRequest};
+use crate::request::{CheckRequest, ReorderRequest, Request, RewireRequest, TraceRequest};
 use base_types::{Fault, FileKind, NoMemory, Spot, Text};
+use chain_reorder::Figures;
 use std::alloc::Global;
 
 fn rewire_word(request: &RewireRequest, file: FileKind) -> &str
@@ -37,6 +38,18 @@ fn check_word(request: &CheckRequest, file: FileKind) -> &str
     }
 }
 
+fn reorder_word(request: &ReorderRequest, file: FileKind) -> &str
+    ensures value { result.now ≡ reorder_word request.now file }
+{
+    match file {
+        FileKind::Table => request.table.as_str(),
+        FileKind::Lef => request.lef.as_str(),
+        FileKind::Verilog => request.verilog.as_str(),
+        FileKind::Def => request.def.as_str(),
+        _ => "words",
+    }
+}
+
 /// The word by which a fault of the command names its file.
 fn file_word(request: &Request, file: FileKind) -> &str
     ensures value { result.now ≡ file_word request.now file }
@@ -45,6 +58,7 @@ fn file_word(request: &Request, file: FileKind) -> &str
         Request::Rewire(request) => rewire_word(request, file),
         Request::Trace(request) => trace_word(request, file),
         Request::Check(request) => check_word(request, file),
+        Request::Reorder(request) => reorder_word(request, file),
     }
 }
 
@@ -84,4 +98,31 @@ pub(crate) fn moved_line(alloc: Global, moved: u64) -> Result<Text, NoMemory>
 {
     let line = format!(in alloc; "moved {moved}\n")?;
     Ok(Text::of(line.into_bytes()))
+}
+
+/// Appends the line of a figure.
+fn push_figure(alloc: Global, text: &mut Vec<u8>, word: &[u8], number: u64) -> Result<(), NoMemory>
+    ensures value { OnOk result (text.new.items ≡ text.old.items ++ figure_line word.now number) }
+{
+    let number = format!(in alloc; "{number}")?;
+    text.extend_from_slice(word)?;
+    text.push(b' ')?;
+    text.extend_from_slice(number.as_bytes())?;
+    text.push(b'\n')?;
+    Ok(())
+}
+
+/// What `reorder` says: a line for each figure, its word, a blank and its number.
+pub(crate) fn figure_lines(alloc: Global, figures: &Figures) -> Result<Text, NoMemory>
+    ensures value { IfOk result (λ text. text ≡ figures_text figures.now) }
+{
+    let mut text = Vec::new(alloc);
+    push_figure(alloc, &mut text, b"chains", figures.chains)?;
+    push_figure(alloc, &mut text, b"units", figures.units)?;
+    push_figure(alloc, &mut text, b"length_read", figures.length_read)?;
+    push_figure(alloc, &mut text, b"length_nearest", figures.length_nearest)?;
+    push_figure(alloc, &mut text, b"length_written", figures.length_written)?;
+    push_figure(alloc, &mut text, b"pins_moved", figures.pins_moved)?;
+    push_figure(alloc, &mut text, b"nets_cut", figures.nets_cut)?;
+    Ok(Text::of(text))
 }

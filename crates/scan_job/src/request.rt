@@ -1,11 +1,13 @@
-ghost use Rattle.std.specs.Prelude.{◌≡◌, ◌≢◌, IfOk, length};
+ghost use Rattle.std.specs.Prelude.{◌≡◌, ◌≢◌, IfOk, length, true, false, codes};
+ghost use Rattle.std.specs.Str.{bytes_eq};
 ghost use Rattle.desk_io.specs.declared.names.Names.{Names};
 ghost use Rattle.scan_words.specs.declared.verb.Verb.TheVariants as verbs;
-ghost use Rattle.scan_job.specs.Requests.{order_of, names_of, rewire_of, IsAsked};
+ghost use Rattle.scan_job.specs.Requests.{effort_word, order_of, names_of, rewire_of, IsAsked};
 
 use base_types::{Name, NoMemory, Rows, Word};
 use chain_rewire::Rewire;
 use desk_io::Names;
+use order_search::Effort;
 use scan_words::{Order, Verb};
 use std::alloc::Global;
 
@@ -54,6 +56,25 @@ pub struct CheckRequest {
     pub def: Word,
 }
 
+/// What the words of `reorder` ask for, by the names of its options.
+#[derive(Debug, Drop)]
+pub struct ReorderRequest {
+    /// The name of the cell table that is read.
+    pub table: Word,
+    /// The name of the LEF file that is read.
+    pub lef: Word,
+    /// The name of the Verilog file that is read.
+    pub verilog: Word,
+    /// The name of the DEF file that is read.
+    pub def: Word,
+    /// The name of the Verilog file that is written.
+    pub out_verilog: Word,
+    /// The name of the DEF file that is written.
+    pub out_def: Word,
+    /// Which steps are searched.
+    pub effort: Effort,
+}
+
 /// What the words ask for.
 #[derive(Debug, Drop)]
 pub enum Request {
@@ -63,6 +84,8 @@ pub enum Request {
     Trace(TraceRequest),
     /// To tell whether a placed design, its scan chains and its netlist agree, and how long the chains are.
     Check(CheckRequest),
+    /// To put the units of a placed design's scan chains into another order, by which they are shorter.
+    Reorder(ReorderRequest),
 }
 
 fn name_of(alloc: Global, word: &Word) -> Result<Name, NoMemory>
@@ -148,6 +171,37 @@ fn check_request(alloc: Global, values: &[Word]) -> Result<CheckRequest, NoMemor
     }
 }
 
+/// The effort of a word; a word that is no effort's counts as `full`.
+fn effort_of(word: &Word) -> Effort
+    ensures order { bytes_eq word.now (codes "order") ≡ true → result ≡ Effort.Order }
+    ensures full { bytes_eq word.now (codes "order") ≡ false → result ≡ Effort.Full }
+{
+    if word.as_str() == "order" {
+        Effort::Order
+    } else {
+        Effort::Full
+    }
+}
+
+fn reorder_request(alloc: Global, values: &[Word]) -> Result<ReorderRequest, NoMemory>
+    requires count { length values.now ≡ 7 }
+    requires effort { (r : ReorderRequest) × ((order_of (Request.Reorder r)).values ≡ values.now) }
+    ensures values { IfOk result (λ r. (order_of (Request.Reorder r)).values ≡ values.now) }
+{
+    match values {
+        [table, lef, verilog, def, out_verilog, out_def, effort] => Ok(ReorderRequest {
+            table: word_of(alloc, table)?,
+            lef: word_of(alloc, lef)?,
+            verilog: word_of(alloc, verilog)?,
+            def: word_of(alloc, def)?,
+            out_verilog: word_of(alloc, out_verilog)?,
+            out_def: word_of(alloc, out_def)?,
+            effort: effort_of(effort),
+        }),
+        _ => unreachable!(),
+    }
+}
+
 /// The request that an order's values make. This is the one place at which a value is known by its place.
 pub(crate) fn request_of(alloc: Global, order: &Order) -> Result<Request, NoMemory>
     requires asked { IsAsked order.now }
@@ -161,6 +215,7 @@ pub(crate) fn request_of(alloc: Global, order: &Order) -> Result<Request, NoMemo
         }
         Verb::Trace => Ok(Request::Trace(trace_request(alloc, values)?)),
         Verb::Check => Ok(Request::Check(check_request(alloc, values)?)),
+        Verb::Reorder => Ok(Request::Reorder(reorder_request(alloc, values)?)),
     }
 }
 
@@ -197,6 +252,16 @@ pub(crate) fn names_of(alloc: Global, request: &Request) -> Result<Names, NoMemo
             stil: None,
             out_verilog: None,
             out_def: None,
+            out_stil: None,
+        }),
+        Request::Reorder(request) => Ok(Names {
+            table: Some(word_of(alloc, &request.table)?),
+            lef: Some(word_of(alloc, &request.lef)?),
+            verilog: Some(word_of(alloc, &request.verilog)?),
+            def: Some(word_of(alloc, &request.def)?),
+            stil: None,
+            out_verilog: Some(word_of(alloc, &request.out_verilog)?),
+            out_def: Some(word_of(alloc, &request.out_def)?),
             out_stil: None,
         }),
     }

@@ -67,13 +67,15 @@ fn program<'a>(alloc: Global) -> Result<Command<'a>, AllocError>
     let rewire = verb_command(alloc, Verb::Rewire)?;
     let trace = verb_command(alloc, Verb::Trace)?;
     let check = verb_command(alloc, Verb::Check)?;
+    let reorder = verb_command(alloc, Verb::Reorder)?;
     let command = Command::new(alloc, "wrenpewter")
         .no_binary_name(true)
         .disable_help_flag(true)
         .disable_help_subcommand(true)
         .subcommand(rewire)?
         .subcommand(trace)?
-        .subcommand(check)?;
+        .subcommand(check)?
+        .subcommand(reorder)?;
     Ok(command)
 }
 

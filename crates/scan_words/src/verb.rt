@@ -12,6 +12,8 @@ pub enum Verb {
     Trace,
     /// Tells whether a placed design, its scan chains and its netlist agree, and the chains' lengths.
     Check,
+    /// Puts the units of the scan chains of a placed design into another order, by which they are shorter.
+    Reorder,
 }
 
 static REWIRE: [OptionForm; 7] = [
@@ -79,6 +81,37 @@ static CHECK: [OptionForm; 4] = [
     },
 ];
 
+static REORDER: [OptionForm; 7] = [
+    OptionForm {
+        name: OptionName::Table,
+        need: Need::Needed,
+    },
+    OptionForm {
+        name: OptionName::Lef,
+        need: Need::Needed,
+    },
+    OptionForm {
+        name: OptionName::Verilog,
+        need: Need::Needed,
+    },
+    OptionForm {
+        name: OptionName::Def,
+        need: Need::Needed,
+    },
+    OptionForm {
+        name: OptionName::OutVerilog,
+        need: Need::Needed,
+    },
+    OptionForm {
+        name: OptionName::OutDef,
+        need: Need::Needed,
+    },
+    OptionForm {
+        name: OptionName::Effort,
+        need: Need::Needed,
+    },
+];
+
 impl Verb {
     #[tactic(auto, unfolding(crate::specs::Orders::verb_of))]
     pub(crate) fn of(word: &str) -> Option<Verb>
@@ -90,6 +123,8 @@ impl Verb {
             Some(Verb::Trace)
         } else if word == "check" {
             Some(Verb::Check)
+        } else if word == "reorder" {
+            Some(Verb::Reorder)
         } else {
             None
         }
@@ -103,6 +138,7 @@ impl Verb {
             Verb::Rewire => "rewire",
             Verb::Trace => "trace",
             Verb::Check => "check",
+            Verb::Reorder => "reorder",
         }
     }
 
@@ -114,6 +150,7 @@ impl Verb {
             Verb::Rewire => REWIRE.as_slice(),
             Verb::Trace => TRACE.as_slice(),
             Verb::Check => CHECK.as_slice(),
+            Verb::Reorder => REORDER.as_slice(),
         }
     }
 

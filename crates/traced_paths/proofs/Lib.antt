@@ -1,7 +1,7 @@
 pub mod ExtraNames
 pub mod FirstMet
 pub mod LacksLines
-pub mod Lasts
+pub mod PathNumbers
 pub mod OnceNames
 pub mod PathsFaults
 pub mod PortNames

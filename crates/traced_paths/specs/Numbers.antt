@@ -1,25 +1,20 @@
 -- Paths as numbers: their bits, and which of their outputs are free to get another source.
-use Rattle.std.specs.Prelude.{◌≡◌, ◌<◌, ℕ, Bool, false, true, ◌&&◌, ◌||◌, not, ◌==◌, List, ◌++◌, length, map, sum_by, take, codes, Option, Some, None}
+use Rattle.std.specs.Prelude.{◌≡◌, ◌<◌, ℕ, Bool, false, ◌&&◌, ◌||◌, not, List, ◌++◌, length, map, sum_by, take, codes, Option, Some, None}
 use Rattle.std.specs.List.{list_any}
 use Rattle.std.specs.Str.{bytes_eq}
 use Rattle.base_types.specs.Faults.{at_line}
 use Rattle.base_types.specs.declared.fault.Fault.{Fault}
 use Rattle.base_types.specs.declared.fault.FileKind.TheVariants.{Verilog}
 use Rattle.base_types.specs.declared.kind.Kind.TheVariants.{TooManyBits}
-use Rattle.netlist_core.specs.declared.netlist.NetId.{NetId}
-use Rattle.netlist_core.specs.declared.netlist.Direction.{Direction}
-use Rattle.netlist_core.specs.declared.netlist.Direction.TheVariants.{Input, Output, Inout}
 use Rattle.netlist_core.specs.declared.netlist.Netlist.{Netlist}
 use Rattle.netlist_core.specs.Netlists.{plain_of}
 use Rattle.cell_table.specs.declared.paths.ScanPath.{ScanPath}
 use Rattle.cell_table.specs.Cells.{Cells}
 use Rattle.chain_trace.specs.declared.path.Path.{Path}
 use Rattle.chain_trace.specs.declared.path.Step.{Step}
-use Rattle.chain_trace.specs.declared.path.Source.{Source}
-use Rattle.chain_trace.specs.declared.path.Source.TheVariants as sources
-use Rattle.chain_trace.specs.Paths.{has_port, scan_path_at, source_net}
-use Rattle.path_links.specs.Free.{count_of, is_free as is_assigned}
-use Rattle.path_links.specs.Reordered.{last_of}
+use Rattle.chain_trace.specs.Paths.{scan_path_at}
+use Rattle.path_links.specs.Free.{is_free as is_assigned}
+use Rattle.path_links.specs.Direct.{is_direct}
 use Rattle.def_reader.specs.declared.design.Design.{Design}
 use Rattle.chain_rules.specs.declared.spec.PathSpec.{PathSpec}
 use Rattle.chain_rules.specs.declared.spec.StepSpec.{StepSpec}
@@ -45,26 +40,6 @@ all_bits n cells paths = sum_by (path_bits n cells) paths
 pub record HaveTooManyBits (n : Netlist) (cells : Cells) (paths : List Path) (fault : Fault) : Type 0 where
   pub many : 262144 < all_bits n cells paths
   pub is : fault ≡ at_line TooManyBits Verilog n.line
-
--- an output port, which isn't inout
-abbrev pub is_output : Direction → Bool
-is_output Input = false
-is_output Output = true
-is_output Inout = false
-
--- the net is that of the number
-abbrev pub is_net : NetId → Option NetId → Bool
-is_net net None = false
-is_net net (Some other) = other.0 == net.0
-
--- the source is an out pin that stands on the net, as its whole expression
-abbrev pub is_left_at : Netlist → Cells → NetId → Source → Bool
-is_left_at n cells net (sources.Port port) = false
-is_left_at n cells net (sources.Out step) = is_net net (source_net n cells (sources.Out step))
-
--- the output is direct: an output port whose net bit stands at one place, the whole expression at the out pin of the path's last step
-abbrev pub is_direct : Netlist → Cells → Path → Bool
-is_direct n cells path = has_port is_output n path.output && (count_of n path.output == 1) && is_left_at n cells path.output (last_of path)
 
 -- the name begins with these bytes
 abbrev pub begins_with : List ℕ → List ℕ → Bool

@@ -1,5 +1,5 @@
 -- What the calls know on their way over paths, ports and what is asked for.
-use Rattle.std.specs.Prelude.{◌≡◌, ◌<◌, ◌≤◌, ℕ, Bool, true, false, ◌==◌, ◌&&◌, ◌||◌, nat_lt, if◌then◌else◌, List, [], ◌∷◌, ◌++◌, length, map, slice_index_or, All, codes, IsTrue, Contains, Option, Some, None, option_map}
+use Rattle.std.specs.Prelude.{◌≡◌, ◌≤◌, ℕ, Bool, true, ◌==◌, ◌&&◌, ◌||◌, nat_lt, if◌then◌else◌, List, [], ◌∷◌, ◌++◌, length, map, All, codes, IsTrue, Contains, Option, Some, None, option_map}
 use Rattle.std.specs.Borrow.{Bor}
 use Rattle.std.specs.HashSet.{HashSet, contains}
 use Rattle.std.specs.List.{list_any, slice_get}
@@ -12,7 +12,6 @@ use Rattle.base_types.specs.declared.kind.Kind.TheVariants.{TooManyPaths}
 use Rattle.base_types.specs.Faults.{at_line, number_of}
 use Rattle.base_types.specs.FirstFault.{IsFirstFault}
 use Rattle.netlist_core.specs.declared.netlist.NetId.{NetId}
-use Rattle.netlist_core.specs.declared.netlist.Port.{Port}
 use Rattle.netlist_core.specs.declared.netlist.Netlist.{Netlist}
 use Rattle.netlist_core.specs.Netlists.{plain_of}
 use Rattle.cell_table.specs.Cells.{Cells}
@@ -25,7 +24,7 @@ use Rattle.def_reader.specs.declared.design.Design.{Design}
 use Rattle.def_reader.specs.declared.design.DesignPin.{DesignPin}
 use Rattle.traced_paths.specs.declared.asks.Ask.{Ask}
 use Rattle.traced_paths.specs.Asked.{Asked, outputs_of}
-use Rattle.traced_paths.specs.Numbers.{is_output, begins_with, has_extra}
+use Rattle.traced_paths.specs.Numbers.{begins_with, has_extra}
 use Rattle.traced_paths.specs.Traced.{AsksTooMany, NameEntries, steps_of}
 
 -- so many bits, which are few enough
@@ -121,7 +120,3 @@ AreExtras pins names =
 -- the same of a design, where there is one
 pub record HasExtras (d : Option Design) (names : List (Bor (List ℕ))) : Type 0 where
   pub tell : (name : List ℕ) → list_any (λ other. begins_with (name ++ codes ".extra") other.now) names ≡ has_extra d name
-
--- the nets that are bits of output ports are marked, and no others
-pub record AreMarked (ports : List Port) (marks : List Bool) : Type 0 where
-  pub each : (k : ℕ) → k < length marks → slice_index_or marks k false ≡ list_any (λ port. port.net.0 == k && is_output port.direction) ports

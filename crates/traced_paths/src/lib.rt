@@ -11,7 +11,6 @@ mod bits;
 mod extras;
 mod free;
 mod least;
-mod marks;
 mod numbers;
 mod outputs;
 mod paths;

@@ -7,14 +7,13 @@ ghost use Rattle.traced_paths.specs.Numbers.{step_spec, path_spec, path_specs, s
 use crate::bits::step_bits;
 use crate::extras::Extras;
 use crate::free::is_free_output;
-use crate::marks::OutputMarks;
 use base_types::{NoMemory, Rows};
 use cell_table::CellTable;
 use chain_rules::{PathSpec, StepSpec};
 use chain_trace::{Path, Step};
 use def_reader::Design;
 use netlist_core::Netlist;
-use path_links::Uses;
+use path_links::FreeOutputs;
 use std::alloc::Global;
 
 /// A step whose bits have no number of 32 bits counts as want of memory.
@@ -51,12 +50,10 @@ fn path_spec(
     alloc: Global,
     netlist: &Netlist,
     table: &CellTable,
-    uses: &Uses<'_>,
-    outputs: &OutputMarks<'_>,
+    outputs: &FreeOutputs<'_>,
     extras: &Extras<'_>,
     path: &Path,
 ) -> Result<PathSpec, NoMemory>
-    requires uses { uses.now ≡ netlist.now }
     requires outputs { outputs.now ≡ netlist.now }
     requires within { path.now.output.0 < length netlist.now.nets }
     ensures value { IfOk result (λ spec. spec ≡ path_spec netlist.now table.now extras.now path.now) }
@@ -64,7 +61,7 @@ fn path_spec(
     Ok(PathSpec {
         input: path.input.0,
         output: path.output.0,
-        free_out: is_free_output(alloc, netlist, table, uses, outputs, extras, path)?,
+        free_out: is_free_output(alloc, netlist, table, outputs, extras, path)?,
         steps: step_specs(alloc, netlist, table, path.steps.as_slice())?,
     })
 }
@@ -102,14 +99,13 @@ pub fn path_specs(
     // Steps can be counted in 32 bits.
     ensures few { IfOk result (λ specs. step_count specs.items < 2 ^ 32) }
 {
-    let uses = Uses::of(alloc, netlist)?;
-    let outputs = OutputMarks::of(alloc, netlist)?;
+    let outputs = FreeOutputs::of(alloc, netlist)?;
     let extras = Extras::of(alloc, design)?;
     let mut specs = Vec::new(alloc);
     let mut steps: u32 = 0;
     for path in paths {
         steps = with_steps(steps, path.steps.as_slice().len())?;
-        specs.push(path_spec(alloc, netlist, table, &uses, &outputs, &extras, path)?)?;
+        specs.push(path_spec(alloc, netlist, table, &outputs, &extras, path)?)?;
     }
     Ok(specs)
 }

@@ -1,7 +1,6 @@
-//! Tests of the Verilog crates: tokens, statements, netlists, faults, and a text that is written.
+//! Tests of the Verilog crates: tokens, statements, netlists and faults.
 //!
-//! Floor: tests, on verilog_syntax, verilog_reader, verilog_writer, cell_table, netlist_core, chain_trace, path_links,
-//! token_forms and base_types.
+//! Floor: tests, on verilog_syntax, verilog_reader, netlist_core, token_forms and base_types.
 #![tactic(auto)]
 
 #[cfg(test)]
@@ -14,5 +13,3 @@ mod netlists;
 mod statements;
 #[cfg(test)]
 mod tokens;
-#[cfg(test)]
-mod writing;

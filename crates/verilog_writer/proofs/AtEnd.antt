@@ -20,15 +20,6 @@ use Rattle.verilog_writer.specs.Inserted.{put_in}
 use Rattle.verilog_writer.proofs.Seams.{verilog}
 use Rattle.verilog_writer.proofs.Settled.{settled, gap}
 
--- lists with a last element
-last_is : {X : Type 0} (xs ys : List X) (x y : X) → xs ++ x ∷ [] ≡ ys ++ y ∷ [] → x ≡ y
-last_is [] [] x y e = cc
-last_is [] (z ∷ []) x y e = absurd cc
-last_is [] (z ∷ w ∷ ys) x y e = absurd cc
-last_is (z ∷ []) [] x y e = absurd cc
-last_is (z ∷ w ∷ xs) [] x y e = absurd cc
-last_is {X} (z ∷ xs) (w ∷ ys) x y e = let more : xs ++ x ∷ [] ≡ ys ++ y ∷ [] = cc in last_is xs ys x y more
-
 record Following {X : Type 0} (n : X) (bs : List X) (last end : X) : Type 0 where
   front : List X
   is : n ∷ bs ≡ front ++ last ∷ end ∷ []

@@ -134,12 +134,6 @@ same_ports [] (q ∷ qs) are = absurd are
 same_ports (p ∷ ps) [] are = absurd are
 same_ports (p ∷ ps) (q ∷ qs) are = ap₂ (λ (a b : List (List ℕ)). a ++ b) are.0.ports (same_ports ps qs are.1)
 
-pub same_instances : (ps qs : List Placed) → AreAlike ps qs → instance_names qs ≡ instance_names ps
-same_instances [] [] are = refl
-same_instances [] (q ∷ qs) are = absurd are
-same_instances (p ∷ ps) [] are = absurd are
-same_instances (p ∷ ps) (q ∷ qs) are = ap₂ (λ (a b : List (List ℕ)). a ++ b) are.0.instances (same_instances ps qs are.1)
-
 pub same_header : (ps qs : List Placed) → AreAlike ps qs → header_name qs ≡ header_name ps
 same_header [] [] are = refl
 same_header [] (q ∷ qs) are = absurd are

@@ -16,8 +16,8 @@ pub mod KeptLists
 pub mod KeptNames
 pub mod KeptNets
 pub mod KeptPlaces
+pub mod KeptSlots
 pub mod KeptSound
-pub mod KeptText
 pub mod LastStart
 pub mod LinePlaces
 pub mod Lines
@@ -30,6 +30,7 @@ pub mod TailApart
 pub mod TailBits
 pub mod TailDenoted
 pub mod TailEdits
+pub mod TailErased
 pub mod TailFacts
 pub mod TailLaw
 pub mod TailRead

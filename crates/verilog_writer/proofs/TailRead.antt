@@ -1,27 +1,24 @@
 -- The statements with the edits and the tails' lines denote the netlist with the edits.
-use Rattle.std.proofs.Common.{◌≡◌, ℕ, zero, suc, ◌+◌, ◌<◌, ◌≤◌, ◌^◌, Bool, true, false, inl, inr, ⊎_elim, List, [], ◌∷◌, ◌++◌, length, map, take, Option, Some, None, Ok, refl, sym, ap, ap₂, ◌∙◌, subst, arith, append_assoc}
+use Rattle.std.proofs.Common.{◌≡◌, ℕ, ◌+◌, ◌<◌, ◌^◌, true, false, List, [], ◌∷◌, ◌++◌, length, map, take, Option, Some, Ok, refl, sym, ap, ap₂, ◌∙◌, subst, arith, append_assoc}
 use Rattle.std.specs.Prelude.{IsPermutation}
 use Rattle.std.specs.List.{flat_map, slice_get, AllByRecursion as Each}
-use Rattle.std.proofs.lemmas.List.{append-nil, take-append-le, map-append, length-map, length-append}
-use Rattle.std.proofs.lemmas.List.Concat.{flat_map-append}
+use Rattle.std.proofs.lemmas.List.{append-nil, take-append-le, map-append, length-map}
 use Rattle.base_types.specs.declared.span.Span.{Span}
 use Rattle.splice.specs.declared.Edit.{Edit}
 use Rattle.splice.specs.Spliced.{AreRising}
-use Rattle.netlist_core.specs.declared.netlist.NetId.{NetId}
 use Rattle.netlist_core.specs.declared.netlist.NetName.{NetName}
 use Rattle.netlist_core.specs.declared.netlist.Port.{Port}
 use Rattle.netlist_core.specs.declared.netlist.Assign.{Assign}
 use Rattle.netlist_core.specs.declared.netlist.Connection.{Connection}
-use Rattle.netlist_core.specs.declared.netlist.Instance.{Instance}
 use Rattle.netlist_core.specs.declared.netlist.Netlist.{Netlist}
-use Rattle.netlist_core.specs.Netlists.{NamedBit, Named, NamedPort, NamedInstance, pairs, plain_of, named_port, named_instance, named_assign, IsAssign, IsInstance, IsNetlist}
+use Rattle.netlist_core.specs.Netlists.{NamedBit, Named, NamedPort, NamedInstance, pairs, named_port, named_instance, named_assign, IsAssign, IsInstance, IsNetlist}
 use Rattle.cell_table.specs.Cells.{Cells}
 use Rattle.path_links.specs.Edited.{map_from}
 use Rattle.net_edit.specs.declared.edits.TailEdit.{TailEdit}
 use Rattle.net_edit.specs.declared.edits.Edits.{Edits}
 use Rattle.net_edit.specs.Applied.{tail_assign}
 use Rattle.net_edit.specs.Tails.{net_named}
-use Rattle.net_edit.specs.Wires.{net_of_wire, IsWire, names_of}
+use Rattle.net_edit.specs.Wires.{IsWire, names_of}
 use Rattle.verilog_syntax.specs.declared.statement.Statement.{Statement}
 use Rattle.verilog_syntax.specs.declared.reading.Placed.{Placed}
 use Rattle.verilog_syntax.specs.Laws.{nowhere, bare}
@@ -33,35 +30,34 @@ use Rattle.verilog_names.specs.declared.bounds.Bounds.{Bounds}
 use Rattle.verilog_names.specs.Declarations.{Declaration, declarations_in, declarations, bounds_in, mentions}
 use Rattle.verilog_names.specs.NameTables.{total}
 use Rattle.verilog_checks.specs.Faults.{check_number, check_twice, check_select, differ_in_width, read_faultless}
-use Rattle.verilog_reader.specs.Denoted.{item_bits, said_assigns_in, said_instances_in, seen_assign, seen_instance, declared_nets, first_declared, header_name, IsNetlistOf, DenotesNetlist}
+use Rattle.verilog_reader.specs.Denoted.{item_bits, said_assigns_in, said_instances_in, seen_assign, seen_instance, first_declared, header_name, IsNetlistOf, DenotesNetlist}
 use Rattle.verilog_reader.specs.Numbering.{entries, numbered}
 use Rattle.verilog_reader.proofs.Checked.{IsSound, mentioned_named, each_from, each_left, each_right}
 use Rattle.verilog_reader.proofs.Distinct.{Distinct, each_weaker, each_both, each_append}
-use Rattle.verilog_reader.proofs.NetlistOf.{sounds, is_netlist_of, is_netlist, faultless}
+use Rattle.verilog_reader.proofs.NetlistOf.{is_netlist_of, is_netlist, faultless}
 use Rattle.verilog_reader.proofs.NumberedLists.{length-nets}
 use Rattle.verilog_reader.proofs.Places.{named as has_entry, entries_are}
 use Rattle.verilog_writer.specs.NetTexts.{net_name}
-use Rattle.verilog_writer.specs.VerilogText.{NetBit, BitEdit, net_text, net_item, text_edits, changed_items, changed_statement, changed_placed, changed_statements, IsPlaceIn, IsNetBit, AreVerilogEdits}
-use Rattle.verilog_writer.specs.Written.{text_of, IsWrittenFrom, DenotesAlike}
-use Rattle.verilog_writer.specs.Inserted.{BitAssign, assign_line, bit_line, wire_statement, bit_expression, assign_statement, extended, IsBitAssign}
-use Rattle.verilog_writer.specs.Wired.{wire_text, tail_line, expression_edits, DeclareBehind}
+use Rattle.verilog_writer.specs.VerilogText.{NetBit, BitEdit, net_item, text_edits, changed_items, changed_statement, changed_statements, IsPlaceIn, IsNetBit, AreVerilogEdits}
+use Rattle.verilog_writer.specs.Written.{IsWrittenFrom, DenotesAlike}
+use Rattle.verilog_writer.specs.Inserted.{BitAssign, wire_statement, bit_expression, assign_statement, extended}
+use Rattle.verilog_writer.specs.Wired.{expression_edits, DeclareBehind}
 use Rattle.verilog_writer.proofs.Nets.{passed}
-use Rattle.verilog_writer.proofs.KeptBits.{IsKnownEdit, IsKnownBit, bit_edits, bit_edits_texts, bit_edits_known, bit_edits_are, kept_items}
+use Rattle.verilog_writer.proofs.KeptBits.{IsKnownEdit, IsKnownBit, bit_edits, bit_edits_texts, bit_edits_known, bit_edits_are}
 use Rattle.verilog_writer.proofs.KeptChecks.{number_good, twice_good, select_good}
 use Rattle.verilog_writer.proofs.KeptCounts.{fewer_nets}
-use Rattle.verilog_writer.proofs.KeptDenoted.{nets_from, plains, ports_named, declared_plains, ports_are_named, ports_alike, length_map_from, flat_changed, widths_sound}
+use Rattle.verilog_writer.proofs.KeptDenoted.{nets_from, plains, ports_named, declared_plains, ports_are_named, ports_alike, length_map_from, flat_changed}
 use Rattle.verilog_writer.proofs.KeptEdits.{StartsApart, AreSlots}
 use Rattle.verilog_writer.proofs.KeptFrames.{AreAlike, alike, same_declarations, same_header, bare_flat}
-use Rattle.verilog_writer.proofs.KeptLists.{Has, each_has, each_permuted}
+use Rattle.verilog_writer.proofs.KeptLists.{Has, each_permuted}
 use Rattle.verilog_writer.proofs.KeptNames.{put_instance, put_assign, assigns_named, instances_named, assigns_bare, instances_bare, assigns_are_named, instances_are_named, instances_come, assigns_come, bit_bits}
-use Rattle.verilog_writer.proofs.KeptPlaces.{places, place_is_in, instance_spans, right_spans, has_span, has_right_span}
+use Rattle.verilog_writer.proofs.KeptPlaces.{places, place_is_in, has_span, has_right_span}
 use Rattle.verilog_writer.proofs.KeptSound.{changed_sound}
-use Rattle.verilog_writer.proofs.KeptText.{slots_are}
+use Rattle.verilog_writer.proofs.KeptSlots.{slots_are}
 use Rattle.verilog_writer.proofs.TailBits.{IsPinOf, in_pin_of, tail_pin_of, at_pin, at_right, pin_comes, right_comes, left_wide}
-use Rattle.verilog_writer.proofs.TailEdits.{IsNearText, AreTailed, IsOfKind, OfPin, OfPort, OfTail, kind_of, each_of, longer, near_net, near_wire, near_edit}
+use Rattle.verilog_writer.proofs.TailEdits.{AreTailed, IsOfKind, OfPin, OfPort, OfTail, kind_of, each_of, longer, near_net, near_wire, near_edit}
 use Rattle.verilog_writer.proofs.TailSeen.{front_instances, front_assigns, front_ports, instances_same, assigns_same}
 use Rattle.verilog_writer.proofs.WireChecks.{sound, number_more, twice_more, select_more}
-use Rattle.verilog_writer.proofs.WireNames.{IsNew, wire_of}
 use Rattle.verilog_writer.proofs.WireParts.{IsNearBit, IsNearAssign, wires_none, assigns_none, flat_more, declared_more, bounds_same, near_known}
 use Rattle.verilog_writer.proofs.TailDenoted.{rising_apart, IsTailBits, tail_assigns, near_assigns, count_assigns, put_netlist}
 use Rattle.verilog_writer.proofs.WireNets.{said_plains, firsts_more, total_more}

@@ -29,7 +29,7 @@ use Rattle.verilog_writer.proofs.Nets.{passed}
 use Rattle.verilog_writer.proofs.KeptEdits.{AreSlots, starts_permuted, in_row}
 use Rattle.verilog_writer.proofs.KeptLists.{Has, has_right, has_flat, each_has, each_permuted, has_permuted}
 use Rattle.verilog_writer.proofs.KeptPlaces.{places, has_span, has_right_span}
-use Rattle.verilog_writer.proofs.KeptText.{slots_are}
+use Rattle.verilog_writer.proofs.KeptSlots.{slots_are}
 use Rattle.verilog_writer.proofs.LinePlaces.{IsWithin, HasRoom, has_room, lines_rise}
 use Rattle.verilog_writer.proofs.TailBits.{IsPinOf, in_pin_of, tail_pin_of}
 use Rattle.verilog_writer.proofs.TailEdits.{IsOfKind, OfPin, OfPort, OfTail, kind_of, each_of}

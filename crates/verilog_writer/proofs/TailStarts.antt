@@ -25,14 +25,14 @@ use Rattle.path_links.specs.declared.edits.PinEdit.{PinEdit as NumberedPinEdit}
 use Rattle.path_links.specs.declared.edits.PortEdit.{PortEdit as NumberedPortEdit}
 use Rattle.path_links.specs.Edits.{same_source}
 use Rattle.path_links.specs.Edited.{input_of, in_connection}
-use Rattle.path_links.specs.Reordered.{last_of}
+use Rattle.path_links.specs.Direct.{last_of, is_direct_from}
 use Rattle.path_links.proofs.PathLists as path_lists
 use Rattle.net_edit.specs.declared.changes.Change.{Change}
 use Rattle.net_edit.specs.declared.edits.PinEdit.{PinEdit}
 use Rattle.net_edit.specs.declared.edits.PortEdit.{PortEdit}
 use Rattle.net_edit.specs.declared.edits.TailEdit.{TailEdit}
 use Rattle.net_edit.specs.declared.edits.Edits.{Edits}
-use Rattle.net_edit.specs.Changes.{changes_of, changes, is_direct_from}
+use Rattle.net_edit.specs.Changes.{changes_of, changes}
 use Rattle.net_edit.specs.Rearranged.{AreRearranged}
 use Rattle.net_edit.specs.Tails.{freed_between}
 use Rattle.net_edit.specs.Wires.{numbered_pin, numbered_port, IsTailOf, AreTailsOf, AreEditsFor}

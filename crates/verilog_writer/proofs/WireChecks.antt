@@ -26,7 +26,7 @@ use Rattle.verilog_writer.specs.Inserted.{BitAssign, wire_statement, assign_stat
 use Rattle.verilog_writer.proofs.KeptChecks.{passed_all, or_false, steady, Steady, IsScalar, are_scalars, AreBefore, IsOnce, is_once, once_again, one_more}
 use Rattle.verilog_writer.proofs.KeptFrames.{IsAlike}
 use Rattle.verilog_writer.proofs.WireNames.{IsNew, wire_of, skip_bounds, same_bits, again_same, no_bit_of, wire_bounds, wire_member}
-use Rattle.verilog_writer.proofs.WireParts.{IsNearAssign, wires_none, ports_more, instances_more, declared_more, known_skip, bounds_same, named_back, sound_more}
+use Rattle.verilog_writer.proofs.WireParts.{IsNearAssign, wires_none, ports_more, declared_more, known_skip, bounds_same, named_back, sound_more}
 
 -- a test of each statement alone
 each_passes : (bad : Placed → Bool) (before ps : List Placed) → Each (λ (p : Placed). bad p ≡ false) ps → Passes (λ before p. bad p) before ps

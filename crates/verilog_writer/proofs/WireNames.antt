@@ -116,15 +116,6 @@ pub same_bits : (names : List (List ℕ)) (ds : List Declaration) → vector_bit
 same_bits names ds =
     bits_in_front [] names ds ∙ ap (λ (es : List Declaration). vector_bits_from es ds) (sym (append-nil (map wire_of names))) ∙ bits_behind names [] ds
 
--- a name that stands again
-wire_first : (name : List ℕ) (names : List (List ℕ)) → IsApartFrom name names → is_declared (map wire_of names) name ≡ false
-wire_first name [] apart = refl
-wire_first name (other ∷ names) apart = by (bytes_eq other name) refl (wire_first name names apart.1)
-  where
-    by : (t : Bool) → bytes_eq other name ≡ t → is_declared (map wire_of names) name ≡ false → (t || is_declared (map wire_of names) name) ≡ false
-    by true same more = absurd (apart.0 (sym (same_bytes other name same)))
-    by false is more = more
-
 abbrev pub AllNew : List Declaration → List (List ℕ) → Type 0
 AllNew before names = Each (λ name. is_declared before name ≡ false) names
 

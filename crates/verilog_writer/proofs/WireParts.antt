@@ -127,9 +127,6 @@ module _ (h : Placed) (body : List Placed) (header : is_header h.statement ≡ t
   pub ports_more : header_ports more ≡ header_ports ps
   ports_more = flat_same ports_in (λ name. refl) (λ a. refl)
 
-  pub instances_more : instance_names more ≡ instance_names ps
-  instances_more = flat_same instances_named (λ name. refl) (λ a. refl)
-
   module _ (news : Each (IsNew ps) names) where
     plain : Each IsPlainName names
     plain = each_weaker (IsNew ps) IsPlainName names (λ name n. n.plain) news

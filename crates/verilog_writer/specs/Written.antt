@@ -1,18 +1,11 @@
--- The text of a netlist with edits: it is the read one, with the texts of the new nets in place of the expressions.
-use Rattle.std.specs.Prelude.{◌≡◌, ℕ, List, [], ◌∷◌, ◌++◌, length, slice_index_or, Option, Some, None, IsPermutation}
-use Rattle.std.specs.List.{flat_map, slice_get}
+-- The edits of a netlist's text, one for each expression, and what the text with them denotes.
+use Rattle.std.specs.Prelude.{◌≡◌, ℕ, List, [], ◌∷◌, ◌++◌, slice_index_or, Option, Some, None}
 use Rattle.splice.specs.declared.Edit.{Edit}
-use Rattle.splice.specs.Spliced.{spliced, AreRising}
 use Rattle.netlist_core.specs.declared.netlist.NetId.{NetId}
 use Rattle.netlist_core.specs.declared.netlist.Assign.{Assign}
 use Rattle.netlist_core.specs.declared.netlist.Connection.{Connection}
 use Rattle.netlist_core.specs.declared.netlist.Netlist.{Netlist}
 use Rattle.netlist_core.specs.Netlists.{named, AreWiredAlike}
-use Rattle.cell_table.specs.Cells.{Cells}
-use Rattle.path_links.specs.declared.edits.PinEdit.{PinEdit}
-use Rattle.path_links.specs.declared.edits.PortEdit.{PortEdit}
-use Rattle.path_links.specs.declared.edits.Edits.{Edits}
-use Rattle.path_links.specs.Edited.{in_connection}
 use Rattle.verilog_reader.specs.Denoted.{DenotesNetlist}
 
 -- the Verilog text of a net
@@ -28,25 +21,6 @@ edit_at (Some connection) text = record { span = connection.expr.span; text = te
 abbrev pub right_edit : Option Assign → List ℕ → List Edit
 right_edit None text = []
 right_edit (Some assign) text = record { span = assign.right.span; text = text } ∷ []
-
--- the edit of an in pin in the text, and of the right side of an assign
-abbrev pub pin_text : Netlist → Cells → PinEdit → List Edit
-pin_text n cells e = edit_at (in_connection n cells e.instance e.path) (text_of n e.source)
-
--- the edit of the text for a port's edit
-abbrev pub port_text : Netlist → PortEdit → List Edit
-port_text n e = right_edit (slice_get n.assigns e.assign) (text_of n e.source)
-
--- the edits of the text for a netlist's edits
-abbrev pub edit_texts : Netlist → Cells → Edits → List Edit
-edit_texts n cells edits = flat_map (pin_text n cells) edits.pins ++ flat_map (port_text n) edits.ports
-
--- the text with the edits, in the order of their places
-pub record IsWritten (text : List ℕ) (n : Netlist) (cells : Cells) (edits : Edits) (written : List ℕ) : Type 0 where
-  pub all : List Edit
-  pub same : IsPermutation (edit_texts n cells edits) all
-  pub rising : AreRising 0 (length text) all
-  pub is : written ≡ spliced text all
 
 -- a netlist is another one by names, but for these nets, which are declared in front
 pub record IsWrittenFrom (written n : Netlist) (names : List (List ℕ)) : Type 0 where

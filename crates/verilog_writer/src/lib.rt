@@ -5,14 +5,13 @@
 //! verilog_reader, path_links, net_edit, base_types and token_forms.
 //! Contract: `verilog_text` writes the text that was read with the texts of the new nets in place of the edited expressions, and
 //! with the tails' lines, as `specs/Wired.antt` says; what it writes denotes the netlist with the edits, and declares the tails'
-//! wires and then what was declared. `verilog_text_of_nets` does so for edits without tails. Begin with `wired_text.rt`.
+//! wires and then what was declared. Begin with `wired_text.rt`.
 #![tactic(auto)]
 
 mod laws;
 mod line_places;
-mod netlist_text;
+mod netlist_places;
 mod wired_text;
 
 pub use laws::{inserted_law, net_text_law, written_law};
-pub use netlist_text::{assign_of, in_connection, verilog_text_of_nets};
 pub use wired_text::verilog_text;

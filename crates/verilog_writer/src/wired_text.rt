@@ -1,5 +1,5 @@
 //! The text of a netlist with edits between paths and their tails.
-ghost use Rattle.std.specs.Prelude.{◌≡◌, ◌<◌, ◌^◌, List, ◌++◌, length, option_map, IfOk, OnOk};
+ghost use Rattle.std.specs.Prelude.{◌≡◌, ◌<◌, ◌^◌, List, ◌++◌, length, IfOk, OnOk};
 ghost use Rattle.std.specs.List.{flat_map};
 ghost use Rattle.chain_trace.specs.declared.path.Path.{Path as one_path};
 ghost use Rattle.net_edit.specs.Rearranged.{AreRearranged};
@@ -7,14 +7,14 @@ ghost use Rattle.net_edit.specs.Tails.{freed_between, rewired, AreTailNames};
 ghost use Rattle.net_edit.specs.Wires.{names_of, AreEditsFor};
 ghost use Rattle.verilog_reader.specs.Denoted.{DenotesNetlist};
 ghost use Rattle.verilog_writer.specs.Written.{DenotesAlike};
-ghost use Rattle.verilog_writer.specs.Wired.{wire_text, pin_connection, pin_edit, port_edit, tail_edit, expression_edits, tail_wire, tail_line, with_tails, IsWiredText, AreEditsBetween, DeclareBehind};
+ghost use Rattle.verilog_writer.specs.Wired.{wire_text, pin_edit, port_edit, tail_edit, expression_edits, tail_wire, tail_line, with_tails, IsWiredText, AreEditsBetween, DeclareBehind};
 
 use crate::line_places::{header_end, last_start};
-use crate::netlist_text::{assign_of, connection_at, in_connection, text_of};
+use crate::netlist_places::{assign_of, in_connection, pin_connection, text_of};
 use base_types::{Name, NoMemory, Span, Text};
 use cell_table::CellTable;
 use net_edit::{Edits, PinEdit, PortEdit, TailEdit, Wire};
-use netlist_core::{Connection, Netlist};
+use netlist_core::Netlist;
 use splice::{Edit, spliced};
 use std::alloc::Global;
 
@@ -28,14 +28,6 @@ fn wire_text<'a>(netlist: &'a Netlist, tails: &'a [TailEdit], wire: Wire) -> &'a
             None => &[],
         },
     }
-}
-
-/// The connection at a pin of an instance.
-fn pin_connection<'a>(netlist: &'a Netlist, instance: u32, pin: &Name) -> Option<&'a Connection>
-    ensures value { option_map (λ connection. connection.now) result ≡ pin_connection netlist.now instance pin.now }
-{
-    let placed = netlist.instances.as_slice().get(instance as usize)?;
-    connection_at(pin, placed.connections.as_slice())
 }
 
 fn put_pin(

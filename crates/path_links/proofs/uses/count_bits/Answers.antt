@@ -1,4 +1,4 @@
-use Rattle.std.proofs.Common.{List, ◌≡◌, ◌<◌, ◌+◌, ◌∷◌, [], ℕ, length, take, get_or, sym, ◌∙◌, ap, arith}
+use Rattle.std.proofs.Common.{List, ◌+◌, ◌∷◌, [], take, get_or, ◌∙◌, ap, arith}
 use Rattle.netlist_core.specs.declared.netlist.NetId.{NetId}
 use Rattle.netlist_core.specs.declared.netlist.Bit.{Bit}
 use Rattle.netlist_core.specs.declared.netlist.Bit.TheVariants.{Net}

@@ -5,7 +5,7 @@ use Rattle.chain_trace.specs.declared.path.Step.{Step}
 use Rattle.chain_rules.specs.declared.spec.PathSpec.{PathSpec}
 use Rattle.def_reader.proofs.RowsMore.{map_next}
 use Rattle.traced_paths.specs.Numbers.{path_spec, step_count}
-use Rattle.traced_paths.proofs.Lasts.{output_within, count_more}
+use Rattle.traced_paths.proofs.PathNumbers.{output_within, count_more}
 use Rattle.traced_paths.proofs.numbers.path_specs.Goals as goal
 
 pub path_spec-requires-clause-within : goal.path_spec-requires-clause-within

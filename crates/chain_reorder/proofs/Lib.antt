@@ -1,0 +1,10 @@
+pub mod Agreed
+pub mod FreeChanges
+pub mod Heads
+pub mod IsMade
+pub mod Numbered
+pub mod SamePaths
+pub mod Searchable
+pub mod Standing
+pub mod Twins
+pub mod Written

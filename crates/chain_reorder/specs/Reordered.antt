@@ -1,0 +1,125 @@
+-- What `reorder` writes: other orders of the units of a placed design's scan chains, in the Verilog and in the DEF, and what these texts
+-- mean beside the read ones.
+use Rattle.std.specs.Prelude.{◌≡◌, ℕ, ◌+◌, ◌≤◌, Bool, ◌==◌, ◌&&◌, List, [], ◌∷◌, length, Some, None}
+use Rattle.std.specs.List.{list_any}
+use Rattle.base_types.specs.declared.fault.Fault.{Fault}
+use Rattle.netlist_core.specs.declared.netlist.NetId.{NetId}
+use Rattle.netlist_core.specs.declared.netlist.Netlist.{Netlist}
+use Rattle.netlist_core.specs.Netlists.{named}
+use Rattle.verilog_reader.specs.Denoted.{DenotesNetlist}
+use Rattle.cell_table.specs.Cells.{Cells}
+use Rattle.lef_pins.specs.Macros.{NamedMacros}
+use Rattle.def_reader.specs.declared.design.Design.{Design}
+use Rattle.def_reader.specs.Agreement.{Agree}
+use Rattle.def_reader.specs.Denoted.{DenotesDesign}
+use Rattle.chain_trace.specs.declared.path.Path.{Path}
+use Rattle.chain_trace.specs.Paths.{IsScanPath}
+use Rattle.chain_trace.specs.Named.{IsSamePath}
+use Rattle.chain_rules.specs.declared.plan.Plan.{Plan}
+use Rattle.chain_rules.specs.declared.unit.Rules.{Rules}
+use Rattle.chain_rules.specs.Legality.{IsLegal}
+use Rattle.chain_rules.specs.Rules.{AreRulesOf}
+use Rattle.wire_cost.specs.declared.ends.Ends.{Ends}
+use Rattle.wire_cost.specs.Lengths.{plan_length_of}
+use Rattle.order_search.specs.declared.effort.Effort.{Effort}
+use Rattle.order_search.specs.declared.effort.Effort.TheVariants.{Order}
+use Rattle.order_search.specs.Steps.{IsSettled}
+use Rattle.order_search.specs.Nearest.{IsNearestPlan}
+use Rattle.plan_search.specs.Members.{HaveSameMembers}
+use Rattle.path_links.specs.Erasure.{erased_netlist}
+use Rattle.net_edit.specs.declared.edits.Edits.{Edits}
+use Rattle.net_edit.specs.Erased.{without_tails, tails_of, scan_sinks}
+use Rattle.net_edit.specs.Tails.{freed_between}
+use Rattle.net_edit.specs.Wires.{AreEditsFor, names_of}
+use Rattle.plan_paths.specs.NewPaths.{new_paths}
+use Rattle.traced_paths.specs.Asked.{asked_by}
+use Rattle.traced_paths.specs.Traced.{ArePathsOf}
+use Rattle.traced_paths.specs.Numbers.{path_specs, is_free_output}
+use Rattle.design_elements.specs.Elements.{chain_specs}
+use Rattle.design_places.specs.Ends.{ends_of}
+use Rattle.design_places.specs.NetPins.{HoldsInNets}
+use Rattle.design_files.specs.Files.{Texts, AreRead}
+use Rattle.verilog_writer.specs.Wired.{IsWiredText, DeclareBehind}
+use Rattle.def_writer.specs.DefTexts.{IsDefText, IsErasedDef}
+use Rattle.chain_reorder.specs.declared.reorder.Figures.{Figures}
+
+-- the read files: what they denote, the paths of the design, and the rules and the places of its chains
+pub record IsChecked (t : Texts) (cells : Cells) (macros : NamedMacros) (n : Netlist) (d : Design) (paths : List Path) (rules : Rules) : Type 0 where
+  pub read : AreRead t cells macros n d
+  pub traced : ArePathsOf n cells (asked_by (Some d) None) paths
+  pub rules_are : AreRulesOf (path_specs n cells (Some d) paths) (chain_specs n cells d) rules
+
+-- the plan obeys the rules, no step of the effort makes it shorter, and it is no longer than the plan as read and the nearest one; where only
+-- orders are searched, each chain keeps its units
+pub record IsGoodPlan (effort : Effort) (rules : Rules) (ends : Ends) (plan : Plan) : Type 0 where
+  pub legal : IsLegal rules plan
+  pub settled : IsSettled effort rules ends plan
+  pub members : effort ≡ Order → HaveSameMembers rules.read plan
+  pub no_longer : plan_length_of ends plan ≤ plan_length_of ends rules.read
+  pub no_longer_than_nearest : (nearest : Plan) → IsNearestPlan rules ends nearest → plan_length_of ends plan ≤ plan_length_of ends nearest
+
+-- the output of one of the paths is free to get another source
+abbrev pub is_free_port : Netlist → Cells → Design → List Path → NetId → Bool
+is_free_port n cells d paths net = list_any (λ p. p.output.0 == net.0 && is_free_output n cells (Some d) p) paths
+
+-- the written Verilog denotes this netlist. But for the scan sinks of the read paths and the tails of freed ports it is the read one: what is
+-- declared and what stands at every other pin and assign is the same
+pub record IsVerilogOf (verilog : List ℕ) (n : Netlist) (cells : Cells) (d : Design) (paths new : List Path) (edits : Edits) (out : List ℕ) (written : Netlist) : Type 0 where
+  pub denoted : DenotesNetlist out written
+  pub declared : DeclareBehind verilog (names_of edits) out
+  pub erased : erased_netlist (scan_sinks n cells (is_free_port n cells d paths) paths) (without_tails (tails_of n cells (freed_between n cells paths new) (names_of edits)) (named written))
+      ≡ erased_netlist (scan_sinks n cells (is_free_port n cells d paths) paths) (named n)
+
+-- paths of the netlists side by side are the same by names, and scan paths of the second
+abbrev pub AreSamePaths : Netlist → Netlist → Cells → List Path → List Path → Type 0
+AreSamePaths n m cells [] [] = Unit {0}
+AreSamePaths n m cells [] (q ∷ qs) = ⊥
+AreSamePaths n m cells (p ∷ ps) [] = ⊥
+AreSamePaths n m cells (p ∷ ps) (q ∷ qs) = IsScanPath m cells q.output q × IsSamePath n m p q × AreSamePaths n m cells ps qs
+
+-- the plan is read off the paths of the written netlist: those of the read outputs are the paths after the plan, and after no other one
+pub record IsReadOff (n written : Netlist) (cells : Cells) (paths after : List Path) (rules : Rules) (plan : Plan) : Type 0 where
+  pub same : AreSamePaths n written cells (new_paths paths rules plan) after
+  pub only : (other : Plan) → IsLegal rules other → AreSamePaths n written cells (new_paths paths rules other) after → other ≡ plan
+
+-- the written netlist and the written design agree, and the pins of the new paths stand in the design's nets
+pub record AgreeAfter (written : Netlist) (cells : Cells) (placed : Design) (after : List Path) : Type 0 where
+  pub agree : Agree written placed
+  pub standing : (fault : Fault) → HoldsInNets written cells placed after fault → ⊥
+
+-- what is counted and measured of the plan, lengths in half database units
+pub record AreFigures (d : Design) (rules : Rules) (ends : Ends) (plan : Plan) (edits : Edits) (f : Figures) : Type 0 where
+  pub chains : f.chains ≡ length d.chains
+  pub units : f.units ≡ length rules.units
+  pub length_read : f.length_read ≡ plan_length_of ends rules.read
+  pub length_nearest : (nearest : Plan) → IsNearestPlan rules ends nearest → f.length_nearest ≡ plan_length_of ends nearest
+  pub length_written : f.length_written ≡ plan_length_of ends plan
+  pub pins_moved : f.pins_moved ≡ length edits.pins + (length edits.ports + length edits.tails)
+
+-- what is written: for one good plan of the read files the Verilog with the edits between the paths before and after it, and the DEF with
+-- the sinks moved and the chains in their new order; both texts agree
+pub record IsReordered (effort : Effort) (t : Texts) (verilog def : List ℕ) (figures : Figures) : Type 0 where
+  pub cells : Cells
+  pub macros : NamedMacros
+  pub netlist : Netlist
+  pub design : Design
+  pub paths : List Path
+  pub rules : Rules
+  pub checked : IsChecked t cells macros netlist design paths rules
+  pub plan : Plan
+  pub good : IsGoodPlan effort rules (ends_of netlist cells macros design paths rules) plan
+  pub edits : Edits
+  pub edits_are : AreEditsFor netlist cells paths (new_paths paths rules plan) edits
+  -- the texts
+  pub verilog_text : IsWiredText t.verilog netlist cells edits verilog
+  pub def_text : IsDefText t.def netlist cells design paths rules plan (record { text = def; nets_cut = figures.nets_cut })
+  pub figures_are : AreFigures design rules (ends_of netlist cells macros design paths rules) plan edits figures
+  -- what they denote
+  pub written : Netlist
+  pub placed : Design
+  pub after : List Path
+  pub verilog_is : IsVerilogOf t.verilog netlist cells design paths (new_paths paths rules plan) edits verilog written
+  pub def_is : DenotesDesign def cells placed
+  pub def_erased : IsErasedDef t.def netlist cells design paths (new_paths paths rules plan) def
+  pub read_off : IsReadOff netlist written cells paths after rules plan
+  pub agree : AgreeAfter written cells placed after

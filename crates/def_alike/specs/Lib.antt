@@ -1,0 +1,4 @@
+pub mod ByWords
+pub mod Changes
+pub mod Fields
+pub mod Laws

@@ -1,0 +1,9 @@
+pub mod Words
+pub mod NetChanges
+pub mod NewChains
+pub mod MovedText
+pub mod ErasedDef
+pub mod Groups
+pub mod Lookups
+pub mod Layouts
+pub mod Pushed

@@ -1,0 +1,3 @@
+pub mod SeamForm
+pub mod Reached
+pub mod Words

@@ -1,0 +1,3 @@
+pub mod PlanChains
+pub mod DefTexts
+pub mod Seen

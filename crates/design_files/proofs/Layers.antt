@@ -1,0 +1,110 @@
+-- The faults of the files in layers, by their numbers: a fault of one layer comes first where no layer before it has one, and none of
+-- its own comes before it.
+use Rattle.std.proofs.Common.{◌≡◌, ◌⊎◌, ℕ, zero, suc, ◌+◌, ◌-◌, ◌<◌, ◌≤◌, List, [], ◌∷◌, get_or, inl, inr, ⊎_elim, refl, sym, ap, ◌∙◌, subst, arith}
+use Rattle.std.specs.Prelude.{Some, None}
+use Rattle.std.proofs.lemmas.Bool.{cases_order}
+use Rattle.base_types.specs.declared.fault.Fault.{Fault}
+use Rattle.base_types.specs.declared.kind.Kind.{Kind}
+use Rattle.base_types.specs.declared.kind.Kind.TheVariants as kinds
+use Rattle.base_types.specs.Faults.{number_of}
+use Rattle.base_types.specs.FirstFault.{ComesBefore, IsFirstFault}
+use Rattle.base_types.proofs.FirstFaults.{later}
+use Rattle.netlist_core.specs.declared.netlist.NetId.{NetId}
+use Rattle.netlist_core.specs.declared.netlist.Netlist.{Netlist}
+use Rattle.cell_table.specs.Cells.{Cells}
+use Rattle.cell_table.specs.Entries.{HoldsInTable, Syntax, Top, Cell}
+use Rattle.lef_pins.specs.Macros.{NamedMacros}
+use Rattle.lef_pins.specs.Faults.{HoldsInLef, Syntax as OfSyntax, Number as OfNumber, Twice as OfTwice}
+use Rattle.verilog_checks.specs.Faults.{HoldsInVerilog}
+use Rattle.def_reader.specs.Faults.{HoldsInDesign}
+use Rattle.def_reader.specs.Agreement.{HoldsInAgreement}
+use Rattle.chain_trace.specs.declared.path.Path.{Path}
+use Rattle.design_files.specs.Files.{Texts}
+use Rattle.design_files.specs.Faults.{ArePathsFor, IsElementFault, IsAgreementFault, IsPathFault, IsTracedFault, OfBits, OfNets, OfChains, OfPlaces, HoldsInFiles, OfTable, OfLef, OfVerilog, OfDesign, OfElements, OfAgreement, OfPaths, OfTraced}
+use Rattle.traced_paths.specs.Numbers.{path_specs, HaveTooManyBits}
+use Rattle.design_elements.specs.Elements.{chain_specs}
+use Rattle.design_places.specs.NetPins.{HoldsInNets}
+use Rattle.design_places.specs.Ends.{HoldsInPlaces}
+use Rattle.chain_rules.specs.ChainFaults.{IsRefusal}
+use Rattle.def_reader.specs.declared.design.Design.{Design}
+
+-- the least number of the kinds of a layer
+abbrev pub least_number : ℕ → ℕ
+least_number k = get_or (0 ∷ 10 ∷ 20 ∷ 30 ∷ 33 ∷ 40 ∷ 58 ∷ 68 ∷ 69 ∷ 70 ∷ []) k 80
+
+rises_once : (k : ℕ) → least_number k ≤ least_number (suc k)
+rises_once zero = omega arith
+rises_once (suc zero) = omega arith
+rises_once (suc (suc zero)) = omega arith
+rises_once (suc (suc (suc zero))) = omega arith
+rises_once (suc (suc (suc (suc zero)))) = omega arith
+rises_once (suc (suc (suc (suc (suc zero))))) = omega arith
+rises_once (suc (suc (suc (suc (suc (suc zero)))))) = omega arith
+rises_once (suc (suc (suc (suc (suc (suc (suc zero))))))) = omega arith
+rises_once (suc (suc (suc (suc (suc (suc (suc (suc zero)))))))) = omega arith
+rises_once (suc (suc (suc (suc (suc (suc (suc (suc (suc zero))))))))) = omega arith
+rises_once (suc (suc (suc (suc (suc (suc (suc (suc (suc (suc k)))))))))) = omega arith
+
+rises_by : (m k j : ℕ) → j ≡ m + k → least_number k ≤ least_number j
+rises_by zero k j is =
+    let e : j ≡ k = omega arith in
+    let same : least_number j ≡ least_number k = ap least_number e in
+    omega arith
+rises_by (suc m) k j is =
+    let e : j ≡ suc (m + k) = omega arith in
+    let same : least_number j ≡ least_number (suc (m + k)) = ap least_number e in
+    let one = rises_once (m + k) in
+    let more = rises_by m k (m + k) refl in
+    omega arith
+
+pub rises : (k j : ℕ) → k ≤ j → least_number k ≤ least_number j
+rises k j le = rises_by (j - k) k j (omega arith)
+
+module _ (t : Texts) where
+  -- paths of the design with a fault of theirs
+  pub record OnPaths (Holds : Cells → NamedMacros → Netlist → Design → List Path → Fault → Type 0) (f : Fault) : Type 0 where
+    pub cells : Cells
+    pub macros : NamedMacros
+    pub netlist : Netlist
+    pub design : Design
+    pub paths : List Path
+    pub are : ArePathsFor t cells macros netlist design paths
+    pub holds : Holds cells macros netlist design paths f
+
+  -- a fault of the chains beside the paths, or of the places of their cells
+  abbrev pub ChainsOrPlaces : Cells → NamedMacros → Netlist → Design → List Path → Fault → Type 0
+  ChainsOrPlaces cells macros n d paths f = IsRefusal (path_specs n cells (Some d) paths) (chain_specs n cells d) f ⊎ HoldsInPlaces n macros d paths f
+
+  -- the faults of a layer
+  abbrev pub Layer : ℕ → Fault → Type 0
+  Layer zero f = HoldsInTable t.table f
+  Layer (suc zero) f = HoldsInLef t.lef f
+  Layer (suc (suc zero)) f = HoldsInVerilog t.verilog f
+  Layer (suc (suc (suc zero))) f = HoldsInDesign t.def f
+  Layer (suc (suc (suc (suc zero)))) f = IsElementFault t f
+  Layer (suc (suc (suc (suc (suc zero))))) f = IsAgreementFault t f
+  Layer (suc (suc (suc (suc (suc (suc zero)))))) f = IsPathFault t f
+  Layer (suc (suc (suc (suc (suc (suc (suc zero))))))) f = OnPaths (λ cells macros n d paths f. HaveTooManyBits n cells paths f) f
+  Layer (suc (suc (suc (suc (suc (suc (suc (suc zero)))))))) f = OnPaths (λ cells macros n d paths f. HoldsInNets n cells d paths f) f
+  Layer (suc (suc (suc (suc (suc (suc (suc (suc (suc zero))))))))) f = OnPaths ChainsOrPlaces f
+  Layer (suc (suc (suc (suc (suc (suc (suc (suc (suc (suc k)))))))))) f = ⊥
+
+  pub record Layered (f : Fault) : Type 0 where
+    pub number : ℕ
+    pub here : Layer number f
+
+  traced : (f : Fault) → IsTracedFault t f → Layered f
+  traced f (OfBits cells macros n d paths are h) = record { number = 7; here = record { cells = cells; macros = macros; netlist = n; design = d; paths = paths; are = are; holds = h } }
+  traced f (OfNets cells macros n d paths are h) = record { number = 8; here = record { cells = cells; macros = macros; netlist = n; design = d; paths = paths; are = are; holds = h } }
+  traced f (OfChains cells macros n d paths are h) = record { number = 9; here = record { cells = cells; macros = macros; netlist = n; design = d; paths = paths; are = are; holds = inl h } }
+  traced f (OfPlaces cells macros n d paths are h) = record { number = 9; here = record { cells = cells; macros = macros; netlist = n; design = d; paths = paths; are = are; holds = inr h } }
+
+  pub layered : (f : Fault) → HoldsInFiles t f → Layered f
+  layered f (OfTable h) = record { number = 0; here = h }
+  layered f (OfLef h) = record { number = 1; here = h }
+  layered f (OfVerilog h) = record { number = 2; here = h }
+  layered f (OfDesign h) = record { number = 3; here = h }
+  layered f (OfElements h) = record { number = 4; here = h }
+  layered f (OfAgreement h) = record { number = 5; here = h }
+  layered f (OfPaths h) = record { number = 6; here = h }
+  layered f (OfTraced h) = traced f h

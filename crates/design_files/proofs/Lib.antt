@@ -1,0 +1,5 @@
+pub mod Chained
+pub mod Firsts
+pub mod Known
+pub mod LayerKinds
+pub mod Layers

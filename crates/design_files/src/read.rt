@@ -1,0 +1,74 @@
+//! The files of a placed design, read and checked.
+ghost use Rattle.std.specs.Prelude.{◌<◌, ◌^◌, length, IfOk, OnOk};
+ghost use Rattle.base_types.specs.declared.fault.Fault.{Fault};
+ghost use Rattle.base_types.specs.FirstFault.{IfFault};
+ghost use Rattle.design_files.specs.Files.{texts_of};
+ghost use Rattle.design_files.specs.Faults.{HoldsInFiles, IsFilesFault};
+ghost use Rattle.design_files.specs.Stages.{AreChecked};
+
+use crate::files::read_files;
+use crate::ruled::ruled_in;
+use crate::traced::traced_in;
+use base_types::ReadFault;
+use cell_table::CellTable;
+use chain_rules::{ChainSpec, Rules};
+use chain_trace::Path;
+use def_reader::Design;
+use lef_pins::Macros;
+use netlist_core::Netlist;
+use std::alloc::Global;
+use wire_cost::Ends;
+
+/// What the files of a placed design denote, and what was found by checking them beside each other.
+#[derive(Drop)]
+pub struct DesignFiles {
+    pub table: CellTable,
+    pub macros: Macros,
+    pub netlist: Netlist,
+    pub design: Design,
+    /// The chains of the design as numbers.
+    pub chains: Vec<ChainSpec>,
+    /// The paths of the ports at which chains stop.
+    pub paths: Vec<Path>,
+    /// What the chains may hold on these paths.
+    pub rules: Rules,
+    /// Where the units and the chains begin and end, in half database units.
+    pub ends: Ends,
+}
+
+/// What the texts of a cell table, a LEF, a Verilog and a DEF denote together: the scan paths that the chains of the design ask for, the
+/// rules of the chains on them, and their places.
+///
+/// Refused by the first fault, that of the least kind and of these at the least line: of the table (TableSyntax, TableShape), of the LEF
+/// (LefSyntax, LefNumber, LefTwice), of the Verilog (VerilogSyntax, SecondModule, VerilogNumber, VerilogTwice, BadSelect), of the DEF
+/// (DefSyntax, DefNumber, DefTwice), of its elements (ElementUnknown to TooManyElements), of its agreement with the netlist (InstanceMissing,
+/// CellDiffers, NetDiffers), of its paths (NoPort, TooManyPaths, NoDriver, TwoDrivers, Loop, SharedCell, TooManyBits, PinMissing), of its
+/// chains beside these (NotAStretch, UnlistedBits, OrderBroken, OverMaxBits, TooManyUnits) and of the places of their cells (PlaceUnknown).
+pub fn read_design_files(
+    alloc: Global,
+    table: &[u8],
+    lef: &[u8],
+    verilog: &[u8],
+    def: &[u8],
+) -> Result<DesignFiles, ReadFault>
+    requires lef { length lef.now < 2 ^ 32 }
+    requires verilog { length verilog.now < 2 ^ 32 }
+    requires def { length def.now < 2 ^ 32 }
+    ensures files { IfOk result (AreChecked (texts_of table.now lef.now verilog.now def.now)) }
+    ensures fault { IfFault result (IsFilesFault (texts_of table.now lef.now verilog.now def.now)) }
+    ensures no_fault { OnOk result ((fault : Fault) → HoldsInFiles (texts_of table.now lef.now verilog.now def.now) fault → ⊥) }
+{
+    let files = read_files(alloc, table, lef, verilog, def)?;
+    let traced = traced_in(alloc, &files)?;
+    let ruled = ruled_in(alloc, &files, &traced)?;
+    Ok(DesignFiles {
+        table: files.table,
+        macros: files.macros,
+        netlist: files.netlist,
+        design: files.design,
+        chains: traced.chains,
+        paths: traced.paths,
+        rules: ruled.rules,
+        ends: ruled.ends,
+    })
+}

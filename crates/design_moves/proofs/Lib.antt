@@ -1,0 +1,10 @@
+pub mod Members
+pub mod PinSites
+pub mod MovedNets
+pub mod Once
+pub mod LinkPins
+pub mod Made
+pub mod Standing
+pub mod Agreed
+pub mod FoundSites
+pub mod Examples

@@ -1,9 +1,0 @@
-use Rattle.std.proofs.Common.{◌≡◌, length, take}
-use Rattle.traced_paths.specs.Steps.{AreMarked}
-use Rattle.traced_paths.proofs.marks.OutputMarks.of.Given as goal
-
-abbrev pub invariant-loop-port : goal.invariant-loop-port
-invariant-loop-port l = record {
-  count : length l.marks.items ≡ length l.netlist.nets;
-  marked : AreMarked (take l.port-index l.netlist.ports) l.marks.items;
-}
