@@ -1,9 +1,9 @@
 ghost use Rattle.std.specs.Prelude.{◌≡◌, ◌↔◌, All, IsTrue};
-ghost use Rattle.stil_reader.specs.Calls.{IsStringOf, is_compare_character, is_load_character, longest_string, string_length};
+ghost use Rattle.stil_types.specs.Calls.{IsStringOf, is_compare_character, is_load_character, longest_string, string_length};
 ghost use Rattle.stil_tester.specs.Shifting.{IsCallFor};
 
 use base_types::Text;
-use stil_reader::ScanCall;
+use stil_types::ScanCall;
 use stil_tester::Chains;
 
 /// Whether a call has a place for a load and for a compare of each chain, of their characters

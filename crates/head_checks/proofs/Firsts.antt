@@ -15,7 +15,7 @@ use Rattle.std.specs.List.{zip}
 use Rattle.def_reader.specs.declared.design.Design.{Design}
 use Rattle.def_reader.specs.Steps.{IsLeast}
 use Rattle.def_reader.proofs.DesignFaults.{line_case}
-use Rattle.stil_reader.specs.declared.head.StilHead.{StilHead}
+use Rattle.stil_types.specs.declared.head.StilHead.{StilHead}
 use Rattle.head_checks.specs.Heads.{FailsOn, line_of, begins_elsewhere, has_other_length, has_other_inversion, lists_others, are_listed, is_undeclared, HoldsInHeads, OfPort, OfLength, OfInversion, OfCells, HoldsInChains, Undeclared}
 
 chain_line : (a b : ℕ) → a ≤ b → ComesBefore (at_line ChainUndeclared Def b) (at_line ChainUndeclared Def a) → ⊥

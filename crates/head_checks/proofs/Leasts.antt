@@ -7,7 +7,7 @@ use Rattle.def_reader.proofs.LeastLines.{same_least, either, alone}
 use Rattle.std.specs.List.{zip}
 use Rattle.std.proofs.lemmas.List.{get_or_default}
 use Rattle.std.proofs.lemmas.Slice.Zip.{length-zip, get_or-zip}
-use Rattle.stil_reader.specs.declared.head.ScanChainDecl.{ScanChainDecl}
+use Rattle.stil_types.specs.declared.head.ScanChainDecl.{ScanChainDecl}
 use Rattle.chain_trace.specs.declared.path.Path.{Path}
 use Rattle.head_checks.specs.Heads.{FailsOn, Declared, line_of}
 

@@ -17,8 +17,8 @@ use Rattle.def_reader.specs.declared.design.EndText.{EndText}
 use Rattle.def_reader.specs.declared.design.EndText.TheVariants.{Port, Cell}
 use Rattle.def_reader.specs.declared.design.ScanChainText.{ScanChainText}
 use Rattle.def_reader.specs.declared.design.Design.{Design}
-use Rattle.stil_reader.specs.declared.head.ScanChainDecl.{ScanChainDecl}
-use Rattle.stil_reader.specs.declared.head.StilHead.{StilHead}
+use Rattle.stil_types.specs.declared.head.ScanChainDecl.{ScanChainDecl}
+use Rattle.stil_types.specs.declared.head.StilHead.{StilHead}
 use Rattle.traced_paths.specs.Numbers.{step_bits, path_bits}
 use Rattle.head_checks.specs.CellNames.{name_each}
 

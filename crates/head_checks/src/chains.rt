@@ -10,7 +10,7 @@ ghost use Rattle.head_checks.specs.Heads.{starts_undeclared, stops_undeclared, i
 use crate::least::{lesser, line_if};
 use base_types::{Fault, FileKind, Kind};
 use def_reader::{Design, EndText, ScanChainText};
-use stil_reader::{ScanChainDecl, StilHead};
+use stil_types::{ScanChainDecl, StilHead};
 
 fn has_input(chains: &[ScanChainDecl], name: &[u8]) -> bool
     ensures value { result ≡ list_any (λ c. bytes_eq c.scan_in name.now) chains.now }

@@ -16,7 +16,7 @@ use cell_table::CellTable;
 use chain_trace::Path;
 use netlist_core::Netlist;
 use std::alloc::Global;
-use stil_reader::{ScanChainDecl, StilHead};
+use stil_types::{ScanChainDecl, StilHead};
 
 /// The least line of a declaration that fails a test beside its path.
 fn least_failing<T: Test>(

@@ -1,6 +1,6 @@
 //! The declarations of a STIL head beside the paths of a netlist and the chains of a design: whether they agree.
 //!
-//! Floor: paths, on netlist_core, cell_table, chain_trace, def_reader, stil_reader, stil_tokens, traced_paths and
+//! Floor: paths, on netlist_core, cell_table, chain_trace, def_reader, stil_types, stil_tokens, traced_paths and
 //! base_types.
 //! Contract: `check_heads` and `check_chains` refuse exactly as `specs/Heads.antt` says; which cell a name of ScanCells names stands in
 //! `specs/CellNames.antt`. Begin with `heads.rt`.

@@ -9,7 +9,7 @@ use cell_table::CellTable;
 use chain_trace::{Path, plain_of};
 use netlist_core::Netlist;
 use std::alloc::Global;
-use stil_reader::ScanChainDecl;
+use stil_types::ScanChainDecl;
 
 /// A test of a declaration beside the path of its ScanOut.
 pub(crate) trait Test {

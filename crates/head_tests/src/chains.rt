@@ -5,7 +5,7 @@ use head_checks::check_chains;
 use std::alloc::Global;
 use std::process::Abort;
 use std::test::Fail;
-use stil_reader::{ScanChainDecl, StilHead};
+use stil_types::{ScanChainDecl, StilHead};
 
 fn name(alloc: Global, text: &str) -> Result<Name, Fail> {
     Ok(Name::copy(alloc, text.as_bytes())?)

@@ -7,7 +7,7 @@ use netlist_core::{Instance, NetId, NetName, Netlist};
 use std::alloc::Global;
 use std::process::Abort;
 use std::test::Fail;
-use stil_reader::{ScanChainDecl, StilHead};
+use stil_types::{ScanChainDecl, StilHead};
 
 /// A cell of two bits, of which the first is inverted.
 const TWO: &str = "[[cell.TWO.path]]\nin = \"SI\"\nbits = [1, 0]\nout = { Q = 0, QN = 1 }\n";

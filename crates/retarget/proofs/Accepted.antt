@@ -1,7 +1,7 @@
 -- What a call does that is refused for nothing.
 use Rattle.std.proofs.Common.{◌≡◌, ℕ, ◌<◌, ◌≤◌, length, get_or, true, false, sym, ap, ◌∙◌, arith, ⊎_elim}
 use Rattle.std.proofs.lemmas.Bool.{cases_lt, cases_Bool}
-use Rattle.stil_reader.specs.declared.statement.ScanCall.{ScanCall}
+use Rattle.stil_types.specs.declared.statement.ScanCall.{ScanCall}
 use Rattle.stil_tester.specs.declared.symbol.Expect.TheVariants.{Any}
 use Rattle.stil_tester.specs.declared.chains.Chains.{Chains}
 use Rattle.stil_tester.specs.Symbols.{flip_if, meets, expect_of}
@@ -10,7 +10,7 @@ use Rattle.stil_tester.specs.declared.chains.ChainBits.{ChainBits}
 use Rattle.stil_tester.specs.Shifting.{AreChains, bit_counts, cell_at, IsCallFor}
 use Rattle.stil_tester.proofs.Calls.{length-bit_counts}
 use Rattle.retarget.specs.Places.{parity_after, no_bits, chain_bits, bits_at, longest}
-use Rattle.stil_reader.specs.Calls.{compare_at, is_expectation}
+use Rattle.stil_types.specs.Calls.{compare_at, is_expectation}
 use Rattle.retarget.specs.Judging.{exit_of, IsShortLoad, IsLongCompare, IsAccepted, LoadsCells, ComparesCells}
 use Rattle.retarget.proofs.WholeCall.{loaded_is, passed_at, passed_from}
 use Rattle.retarget.proofs.SameMeaning.{bits_within, expect_of_quiet}

@@ -3,10 +3,10 @@ use Rattle.std.proofs.Common.{◌≡◌, ℕ, ◌-◌, ◌<◌, ◌≤◌, List,
 use Rattle.std.specs.Prelude.{max, All, IsSome, IfSome, IfOk, ◌||◌}
 use Rattle.std.proofs.lemmas.Bool.{cases_lt, eqb-true, or_cases, false≢true}
 use Rattle.std.proofs.lemmas.List.{get_or_past, get_or_default, get_or-reverse, length-reverse}
-use Rattle.stil_reader.specs.declared.statement.ScanCall.{ScanCall}
+use Rattle.stil_types.specs.declared.statement.ScanCall.{ScanCall}
 use Rattle.stil_tester.specs.declared.symbol.Symbol.{Symbol}
 use Rattle.stil_tester.specs.declared.chains.Chains.{Chains}
-use Rattle.stil_reader.specs.Calls.{string_length, longest_string, is_load_character, is_compare_character, IsStringOf, compare_character, compare_at, is_expectation}
+use Rattle.stil_types.specs.Calls.{string_length, longest_string, is_load_character, is_compare_character, IsStringOf, compare_character, compare_at, is_expectation}
 use Rattle.stil_tester.specs.Shifting.{HasCells, IsCallFor, scan_call}
 use Rattle.retarget.specs.declared.route.Route.{Route}
 use Rattle.retarget.specs.declared.side.Side.TheVariants.{Load, Compare}

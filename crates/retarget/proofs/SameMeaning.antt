@@ -2,7 +2,7 @@
 use Rattle.std.proofs.Common.{◌≡◌, ℕ, ◌+◌, ◌<◌, ◌≤◌, List, [], ◌∷◌, length, map, Bool, true, false, cond, refl, sym, ap, ◌∙◌, arith, suc, zero, get_or, ⊎_elim, subst, eqb}
 use Rattle.std.proofs.lemmas.Bool.{cases_lt, cases_eq, ne_eqb, or_parts}
 use Rattle.std.proofs.lemmas.List.{ext_get_or}
-use Rattle.stil_reader.specs.declared.statement.ScanCall.{ScanCall}
+use Rattle.stil_types.specs.declared.statement.ScanCall.{ScanCall}
 use Rattle.stil_tester.specs.declared.symbol.Symbol.{Symbol}
 use Rattle.stil_tester.specs.declared.symbol.Symbol.TheVariants.{Zero, One, Unknown}
 use Rattle.stil_tester.specs.declared.symbol.Expect.{Expect}
@@ -12,7 +12,7 @@ use Rattle.stil_tester.specs.declared.chains.Chains.{Chains}
 use Rattle.stil_tester.specs.Symbols.{flip, flip_if, meets, symbol_of, expect_of}
 use Rattle.stil_tester.specs.Shifting.{AreChains, HasCells, cell_at, IsCallFor, cells_before, met_before, scan_call}
 use Rattle.retarget.specs.Places.{differ, parity_to, parity_after, no_bits, chain_bits, bits_at, StandsAt, longest}
-use Rattle.stil_reader.specs.Calls.{compare_at, is_expectation, most_bits}
+use Rattle.stil_types.specs.Calls.{compare_at, is_expectation, most_bits}
 use Rattle.retarget.specs.Judging.{load_at, exit_of}
 use Rattle.lane_kernels.specs.Kernels.{flipped}
 use Rattle.retarget.specs.Retargeting.{flip_character_if, HaveSameCells, KeepsLoads, KeepsCompares}

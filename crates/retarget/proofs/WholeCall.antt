@@ -3,7 +3,7 @@ use Rattle.std.proofs.Common.{◌≡◌, ℕ, ◌+◌, ◌-◌, ◌<◌, ◌≤�
 use Rattle.std.proofs.lemmas.Bool.{cases_lt, and_parts, and_from}
 use Rattle.std.proofs.lemmas.List.{get_or_append_left, get_or-append_right, length-append, length-map, get_or-map, get_or_past, get_or-reverse, length-reverse, length-replicate, get_or-replicate, take_all, take-append-drop}
 use Rattle.std.proofs.Math.Seq.{take-suc}
-use Rattle.stil_reader.specs.declared.statement.ScanCall.{ScanCall}
+use Rattle.stil_types.specs.declared.statement.ScanCall.{ScanCall}
 use Rattle.stil_tester.specs.declared.symbol.Symbol.{Symbol}
 use Rattle.stil_tester.specs.declared.symbol.Symbol.TheVariants.{Unknown}
 use Rattle.stil_tester.specs.declared.symbol.Expect.{Expect}
@@ -11,7 +11,7 @@ use Rattle.stil_tester.specs.declared.symbol.Expect.TheVariants.{Any}
 use Rattle.stil_tester.specs.declared.chains.ChainBits.{ChainBits}
 use Rattle.stil_tester.specs.declared.chains.Chains.{Chains}
 use Rattle.stil_tester.specs.Symbols.{flip, flip_if, meets, symbol_of, expect_of, padded_load, padded_compare}
-use Rattle.stil_reader.specs.Calls.{string_length, longest_string, compare_character, compare_at}
+use Rattle.stil_types.specs.Calls.{string_length, longest_string, compare_character, compare_at}
 use Rattle.stil_tester.specs.Shifting.{AreChains, HasCells, cell_at, held_by, output_of, moved_on, IsCallFor, inputs_at, expects_at, cells_before, outputs_at, all_met, met_before, scan_call}
 use Rattle.stil_tester.proofs.Calls.{length-loads, length-compares}
 use Rattle.retarget.specs.Places.{differ, parity_of, parity_to, parity_after, no_bits, chain_bits, bits_at, StandsAt}

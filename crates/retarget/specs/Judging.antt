@@ -1,7 +1,7 @@
 -- The characters of a scan call by the bits that they belong to, and which calls are refused (IEEE 1450-1999, Shift).
 use Rattle.std.specs.Prelude.{◌≡◌, ℕ, ◌-◌, ◌↔◌, IsTrue, List, reverse, slice_index_or, Option, None, Some}
-use Rattle.stil_reader.specs.declared.statement.ScanCall.{ScanCall}
-use Rattle.stil_reader.specs.Calls.{compare_at, IsShortLoadOn, IsLongCompareOn, IsAcceptedOn}
+use Rattle.stil_types.specs.declared.statement.ScanCall.{ScanCall}
+use Rattle.stil_types.specs.Calls.{compare_at, IsShortLoadOn, IsLongCompareOn, IsAcceptedOn}
 use Rattle.stil_tester.specs.declared.chains.Chains.{Chains}
 use Rattle.stil_tester.specs.declared.symbol.Symbol.{Symbol}
 use Rattle.stil_tester.specs.Symbols.{flip_if, Meets, symbol_of, expect_of}

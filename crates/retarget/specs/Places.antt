@@ -3,7 +3,7 @@ use Rattle.std.specs.Prelude.{◌≡◌, ℕ, ◌+◌, ◌<◌, Bool, false, not
 use Rattle.std.specs.Bool.{beq}
 use Rattle.stil_tester.specs.declared.chains.ChainBits.{ChainBits}
 use Rattle.stil_tester.specs.declared.chains.Chains.{Chains}
-use Rattle.stil_reader.specs.Calls.{most_bits}
+use Rattle.stil_types.specs.Calls.{most_bits}
 use Rattle.stil_tester.specs.Shifting.{bit_counts}
 
 -- the sum of two parities

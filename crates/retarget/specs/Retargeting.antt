@@ -1,11 +1,11 @@
 -- Which scan call does on new chains what another one does on old chains of the same cells.
 use Rattle.std.specs.Prelude.{◌≡◌, ◌≢◌, ℕ, ◌<◌, ◌≤◌, ◌↔◌, ◌⊎◌, Bool, if◌then◌else◌, length, slice_index_or, None, IsSome, IfSome}
 use Rattle.lane_kernels.specs.Kernels.{flipped}
-use Rattle.stil_reader.specs.declared.statement.ScanCall.{ScanCall}
+use Rattle.stil_types.specs.declared.statement.ScanCall.{ScanCall}
 use Rattle.stil_tester.specs.declared.chains.Chains.{Chains}
 use Rattle.stil_tester.specs.Shifting.{AreChains}
 use Rattle.retarget.specs.Places.{differ, parity_to, parity_after, chain_bits, bits_at, StandsAt}
-use Rattle.stil_reader.specs.Calls.{compare_at}
+use Rattle.stil_types.specs.Calls.{compare_at}
 use Rattle.retarget.specs.Judging.{load_at, exit_of}
 
 -- a character, with 0 and 1, and L and H, exchanged where the parity is 1

@@ -7,7 +7,7 @@ use Rattle.retarget.specs.declared.route.Route.{Route}
 use Rattle.retarget.specs.declared.side.Side.{Side}
 use Rattle.retarget.specs.declared.side.Side.TheVariants.{Load, Compare}
 use Rattle.retarget.specs.Places.{differ, parity_to, parity_after, chain_bits, bits_at, StandsAt, longest}
-use Rattle.stil_reader.specs.Calls.{compare_character}
+use Rattle.stil_types.specs.Calls.{compare_character}
 use Rattle.retarget.specs.Judging.{load_character}
 use Rattle.retarget.specs.Retargeting.{flip_character_if, HaveSameCells}
 

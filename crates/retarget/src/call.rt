@@ -13,7 +13,7 @@ use crate::side::Side;
 use crate::strings::moved_strings;
 use base_types::{NoMemory, Rows, Text};
 use std::alloc::Global;
-use stil_reader::ScanCall;
+use stil_types::ScanCall;
 
 /// The scan call that loads every cell alike on the new chains, and passes exactly when the read
 /// one does on the old chains (IEEE 1450-1999, Shift).

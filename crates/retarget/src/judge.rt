@@ -1,11 +1,11 @@
 ghost use Rattle.std.specs.Prelude.{◌≡◌, ℕ, ◌<◌, ◌≤◌, ◌↔◌, IsTrue, IfNone, IfSome, slice_index_or};
 ghost use Rattle.stil_tester.specs.Shifting.{AreChains, IsCallFor};
 ghost use Rattle.retarget.specs.Places.{longest};
-ghost use Rattle.stil_reader.specs.Calls.{compare_character, is_expectation};
+ghost use Rattle.stil_types.specs.Calls.{compare_character, is_expectation};
 ghost use Rattle.retarget.specs.Judging.{IsLongCompare, IsAccepted, IsRefusal, LoadsCells, ComparesCells};
 
 use base_types::{Kind, Text};
-use stil_reader::ScanCall;
+use stil_types::ScanCall;
 use stil_tester::Chains;
 
 /// Why a scan call can't be retargeted, or None: it shifts too seldom to reach every cell, or it

@@ -1,6 +1,6 @@
 //! Retargets scan calls: the same cells loaded, and the same verdict, on chains in another order.
 //!
-//! Floor: patterns, on lane_kernels, stil_reader, stil_tester and base_types.
+//! Floor: patterns, on lane_kernels, stil_types, stil_tester and base_types.
 //! Contract: what `retarget_call` writes does on the new chains what the read call does on the old
 //! ones, for whatever the cells hold before. Begin with `specs/Retargeting.antt`.
 #![tactic(auto)]

@@ -2,7 +2,7 @@
 
 use base_types::{NoMemory, Rows, Text};
 use std::alloc::Global;
-use stil_reader::ScanCall;
+use stil_types::ScanCall;
 use stil_tester::{ChainBits, Chains};
 
 const CHAINS: usize = 32;

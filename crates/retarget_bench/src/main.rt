@@ -4,7 +4,7 @@
 //! prints only what is the same on every machine. With two numbers, of cells and of calls, it prints
 //! calls and megabytes of characters in a second, over all calls and at the fastest.
 //!
-//! Floor: benches, on stil_reader, stil_tester, retarget, call_checks, base_types and `anyhow`.
+//! Floor: benches, on stil_types, stil_tester, retarget, call_checks, base_types and `anyhow`.
 #![tactic(auto)]
 
 ghost use Rattle.std.specs.Prelude.{◌≡◌, IfOk, length};
@@ -31,7 +31,7 @@ use std::alloc::Global;
 use std::env;
 use std::rt::Clock;
 use std::time::Instant;
-use stil_reader::ScanCall;
+use stil_types::ScanCall;
 use stil_tester::Chains;
 
 /// Calls that differ; the rounds go through them in turn.

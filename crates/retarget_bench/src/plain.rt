@@ -5,7 +5,7 @@ ghost use Rattle.stil_tester.specs.Shifting.{AreChains, HasCells, IsCallFor};
 
 use base_types::NoMemory;
 use std::alloc::Global;
-use stil_reader::ScanCall;
+use stil_types::ScanCall;
 use stil_tester::{Chains, Symbol, scan_call};
 
 /// Shifts both calls step by step, the written one from the cells as the read one finds them: their

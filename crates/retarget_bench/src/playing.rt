@@ -2,7 +2,7 @@
 ghost use Rattle.std.specs.Prelude.{◌≡◌, ℕ, ◌<◌, ◌≤◌, ◌∷◌, [], IfOk, IsTrue, All, count_by, length, nat_eq};
 ghost use Rattle.std.specs.List.{list_all};
 ghost use Rattle.stil_tester.specs.Runs.{AreStatementsFor};
-ghost use Rattle.stil_reader.specs.Calls.{is_compare_character, is_load_character};
+ghost use Rattle.stil_types.specs.Calls.{is_compare_character, is_load_character};
 ghost use Rattle.stil_tester.specs.Shifting.{AreChains, IsCallFor};
 ghost use Rattle.stil_tester.specs.declared.chains.Chains.{Chains};
 
@@ -10,7 +10,7 @@ use base_types::{NoMemory, Rows, Text};
 use std::alloc::Global;
 use std::process::Abort;
 use std::test::Fail;
-use stil_reader::{PatternStatement, ScanCall};
+use stil_types::{PatternStatement, ScanCall};
 use stil_tester::{ChainBits, Chains, Device, Hold, Mix, Symbol, play, scan_call};
 
 /// One chain of three cells.

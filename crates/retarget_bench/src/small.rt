@@ -7,7 +7,7 @@ use call_checks::are_chains;
 use std::alloc::Global;
 use std::process::Abort;
 use std::test::Fail;
-use stil_reader::ScanCall;
+use stil_types::ScanCall;
 use stil_tester::{ChainBits, Chains, Symbol};
 
 /// None given, and the strings of at most four of three characters.

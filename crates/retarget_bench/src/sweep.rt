@@ -43,7 +43,7 @@ use std::alloc::Global;
 use std::mem;
 use std::process::Abort;
 use std::test::Fail;
-use stil_reader::ScanCall;
+use stil_types::ScanCall;
 use stil_tester::Chains;
 
 /// How many bits two chains have.

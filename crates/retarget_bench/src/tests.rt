@@ -8,7 +8,7 @@ use retarget::{Map, judge_call, map_of, retarget_call};
 use std::alloc::Global;
 use std::process::Abort;
 use std::test::Fail;
-use stil_reader::ScanCall;
+use stil_types::ScanCall;
 use stil_tester::{ChainBits, Chains};
 
 /// The cells and the parities of a chain, its output parity last.

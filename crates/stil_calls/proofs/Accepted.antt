@@ -5,8 +5,8 @@ use Rattle.std.proofs.lemmas.Bool.{or_parts, false≢true, ltb-false}
 use Rattle.std.proofs.lemmas.Bool.Decides.{Decides-ltb}
 use Rattle.std.proofs.lemmas.List.{length-replicate, get_or-replicate, get_or_append_left, get_or-append_right}
 use Rattle.std.proofs.lemmas.List.Elements.{All-append, All-replicate, All-cons, All-nil}
-use Rattle.stil_reader.specs.declared.head.ScanChainDecl.{ScanChainDecl}
-use Rattle.stil_reader.specs.Calls.{string_length, longest_string, IsStringOf, IsCallOn, most_bits, compare_character, is_expectation, IsShortLoadOn, IsAcceptedOn}
+use Rattle.stil_types.specs.declared.head.ScanChainDecl.{ScanChainDecl}
+use Rattle.stil_types.specs.Calls.{string_length, longest_string, IsStringOf, IsCallOn, most_bits, compare_character, is_expectation, IsShortLoadOn, IsAcceptedOn}
 use Rattle.stil_syntax.specs.declared.item.Item.{Item}
 use Rattle.stil_calls.specs.declared.repeats.Repeat.{Repeat}
 use Rattle.stil_calls.specs.declared.repeats.Side.{Side}

@@ -10,9 +10,9 @@ use Rattle.base_types.specs.declared.span.Span.{Span}
 use Rattle.token_forms.specs.Tokens.{Token, tokens_of}
 use Rattle.stil_tokens.specs.StilTokens.{stil_tokens, tokens_in}
 use Rattle.stil_parts.specs.declared.part.PartFault.{PartFault}
-use Rattle.stil_reader.specs.declared.head.StilHead.{StilHead}
+use Rattle.stil_types.specs.declared.head.StilHead.{StilHead}
 use Rattle.stil_syntax.specs.declared.shape.Shape.{Shape}
-use Rattle.stil_calls.specs.declared.statement.ReadStatement.{ReadStatement}
+use Rattle.stil_types.specs.declared.statement.PatternStatement.{PatternStatement}
 use Rattle.stil_syntax.specs.Shapes.{shape_of}
 use Rattle.stil_calls.specs.Faults.{shape_fault, fault_in}
 use Rattle.stil_calls.specs.Statements.{statement_of, DenotesStatement, HoldsInStatement}
@@ -35,7 +35,7 @@ module _ (head : StilHead) (line : ℕ) (text : List ℕ) (shape : Shape) (token
       first_of (HoldsInStatement head line text) fault (f, here, c)
       (λ g h. inl (h.2 ∙ ap (λ (p : PartFault). at_line p.kind Stil p.line) (same_Some _ _ (sym (h.1) ∙ here)) ∙ sym c))
 
-  pub denotes : (pattern : ℕ) (found : Option PartFault) (s : ReadStatement) → found ≡ shape_fault head line text shape → found ≡ None → statement_of head pattern line text shape ≡ Some s → DenotesStatement head pattern line text s
+  pub denotes : (pattern : ℕ) (found : Option PartFault) (s : PatternStatement) → found ≡ shape_fault head line text shape → found ≡ None → statement_of head pattern line text shape ≡ Some s → DenotesStatement head pattern line text s
   denotes pattern found s a b e = record {
     sound = sym fault_is ∙ sym a ∙ b;
     is = ap (λ (x : Shape). statement_of head pattern line text x) (sym shape_is) ∙ e;

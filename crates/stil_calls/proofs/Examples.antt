@@ -11,8 +11,8 @@ use Rattle.stil_tokens.specs.StilTokens.{brace_piece, slash_piece, piece_at}
 use Rattle.stil_tokens.specs.StilStatements.{statements_within}
 use Rattle.stil_parts.specs.declared.part.PartFault.{PartFault}
 use Rattle.stil_parts.specs.Coming.{fault_at}
-use Rattle.stil_reader.specs.declared.head.ScanChainDecl.{ScanChainDecl}
-use Rattle.stil_reader.specs.declared.head.StilHead.{StilHead}
+use Rattle.stil_types.specs.declared.head.ScanChainDecl.{ScanChainDecl}
+use Rattle.stil_types.specs.declared.head.StilHead.{StilHead}
 use Rattle.base_types.specs.declared.span.Span.{Span}
 use Rattle.stil_syntax.specs.Names.{name_at}
 use Rattle.stil_syntax.specs.Grammar.{item, entry, block, call_end}

@@ -3,8 +3,8 @@ use Rattle.std.proofs.Common.{◌≡◌, ◌<◌, ◌≤◌, ℕ, zero, suc, ◌
 use Rattle.std.proofs.lemmas.Bool.{or_parts}
 use Rattle.std.proofs.lemmas.Bool.Decides.{Decides-ltb}
 use Rattle.std.proofs.lemmas.List.{length-replicate, get_or-replicate, get_or_append_left, get_or-append-add}
-use Rattle.stil_reader.specs.declared.head.ScanChainDecl.{ScanChainDecl}
-use Rattle.stil_reader.specs.Calls.{most_bits, compare_character, is_expectation, IsShortLoadOn}
+use Rattle.stil_types.specs.declared.head.ScanChainDecl.{ScanChainDecl}
+use Rattle.stil_types.specs.Calls.{most_bits, compare_character, is_expectation, IsShortLoadOn}
 use Rattle.stil_syntax.specs.declared.item.Item.{Item}
 use Rattle.stil_syntax.specs.Digits.{is_digit, counted}
 use Rattle.stil_calls.specs.declared.repeats.Repeat.{Repeat}

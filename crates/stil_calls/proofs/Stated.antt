@@ -5,11 +5,11 @@ use Rattle.std.proofs.lemmas.List.Elements.{All-cons, All-nil}
 use Rattle.token_forms.specs.Tokens.{Token, place_of}
 use Rattle.base_types.specs.declared.kind.Kind.{Kind}
 use Rattle.stil_parts.specs.declared.part.PartFault.{PartFault}
-use Rattle.stil_reader.specs.declared.head.StilHead.{StilHead}
+use Rattle.stil_types.specs.declared.head.StilHead.{StilHead}
 use Rattle.stil_syntax.specs.declared.item.Item.{Item}
 use Rattle.stil_syntax.specs.declared.shape.Shape.{Shape}
 use Rattle.stil_syntax.specs.declared.shape.Shape.TheVariants.{NoForm, Unsupported, Other, Scan, Loop}
-use Rattle.stil_calls.specs.declared.statement.ReadStatement.{ReadStatement}
+use Rattle.stil_types.specs.declared.statement.PatternStatement.{PatternStatement}
 use Rattle.stil_syntax.specs.Shapes.{shape_of, body_statements}
 use Rattle.stil_calls.specs.Scans.{gives_twice, has_unsound, is_foreign, is_short, is_long, call_of}
 use Rattle.stil_calls.specs.Faults.{kind_of, line_in, fault_or, body_fault, shape_fault}
@@ -48,7 +48,7 @@ body_accepted head line text (s ∷ ss) e =
     let p = clean (kind_of head (shape_of head true s)) (line_in line text (place_of s).start) (body_fault head line text ss) e in
     All-cons (λ s. IsAcceptedIn head s.call) (body_of head line text s) (map (body_of head line text) ss) (call_accepted head (shape_of head true s) (p.0)) (body_accepted head line text ss (p.1))
 
-pub are_accepted : (head : StilHead) (pattern line : ℕ) (text : List ℕ) (shape : Shape) (s : ReadStatement) → shape_fault head line text shape ≡ None → statement_of head pattern line text shape ≡ Some s → AreAccepted head s
+pub are_accepted : (head : StilHead) (pattern line : ℕ) (text : List ℕ) (shape : Shape) (s : PatternStatement) → shape_fault head line text shape ≡ None → statement_of head pattern line text shape ≡ Some s → AreAccepted head s
 are_accepted head pattern line text NoForm s sound e = absurd cc
 are_accepted head pattern line text Unsupported s sound e = absurd cc
 are_accepted head pattern line text Other s sound e = subst (AreAccepted head) (same_Some _ _ e) tt

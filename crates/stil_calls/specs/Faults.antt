@@ -6,7 +6,7 @@ use Rattle.base_types.specs.declared.kind.Kind.TheVariants as kinds
 use Rattle.stil_tokens.specs.StilTokens.{tokens_in}
 use Rattle.stil_parts.specs.declared.part.PartFault.{PartFault}
 use Rattle.stil_parts.specs.Coming.{fault_at}
-use Rattle.stil_reader.specs.declared.head.StilHead.{StilHead}
+use Rattle.stil_types.specs.declared.head.StilHead.{StilHead}
 use Rattle.stil_syntax.specs.declared.shape.Shape.{Shape}
 use Rattle.stil_syntax.specs.declared.shape.Shape.TheVariants.{NoForm, Unsupported, Scan, Loop}
 use Rattle.stil_syntax.specs.Shapes.{shape_of, body_statements}

@@ -1,7 +1,7 @@
 -- Laws of the definitions, which know nothing of the code.
 use Rattle.std.specs.Prelude.{◌≡◌, ◌<◌, ◌↔◌, true, List}
-use Rattle.stil_reader.specs.declared.head.ScanChainDecl.{ScanChainDecl}
-use Rattle.stil_reader.specs.Calls.{IsShortLoadOn, IsLongCompareOn}
+use Rattle.stil_types.specs.declared.head.ScanChainDecl.{ScanChainDecl}
+use Rattle.stil_types.specs.Calls.{IsShortLoadOn, IsLongCompareOn}
 use Rattle.stil_syntax.specs.declared.item.Item.{Item}
 use Rattle.stil_calls.specs.Scans.{bits_of, is_short, is_long, is_vast, call_of, most_characters}
 

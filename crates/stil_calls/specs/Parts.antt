@@ -8,7 +8,7 @@ use Rattle.stil_tokens.specs.StilTokens.{tokens_in}
 use Rattle.stil_tokens.specs.StilStatements.{is_closed, is_only}
 use Rattle.stil_parts.specs.declared.part.Part.TheVariants.{Passes, Opens, Whole}
 use Rattle.stil_parts.specs.Coming.{Judge}
-use Rattle.stil_reader.specs.declared.head.StilHead.{StilHead}
+use Rattle.stil_types.specs.declared.head.StilHead.{StilHead}
 use Rattle.stil_syntax.specs.Names.{is_word, name_at}
 use Rattle.stil_syntax.specs.Shapes.{behind_labels, closes_nothing}
 use Rattle.stil_calls.specs.Faults.{fault_in, fault_or}

@@ -3,7 +3,7 @@
 -- begins with a byte that is of no alphabet.
 use Rattle.std.specs.Prelude.{ℕ, ◌+◌, Bool, true, false, ◌&&◌, ◌||◌, ◌==◌, if◌then◌else◌, max, List, [], ◌∷◌, ◌++◌, replicate, Option, Some, None}
 use Rattle.std.specs.List.{list_all}
-use Rattle.stil_reader.specs.Calls.{is_load_character, is_compare_character, is_expectation}
+use Rattle.stil_types.specs.Calls.{is_load_character, is_compare_character, is_expectation}
 use Rattle.stil_calls.specs.declared.repeats.Repeat.{Repeat}
 use Rattle.stil_calls.specs.declared.repeats.Escape.{Escape}
 use Rattle.stil_calls.specs.declared.repeats.Escape.TheVariants.{Outside, Slash, Count, Waits, Broken}

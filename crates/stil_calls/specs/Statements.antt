@@ -6,16 +6,16 @@ use Rattle.base_types.specs.declared.fault.FileKind.TheVariants.{Stil}
 use Rattle.base_types.specs.declared.fault.Fault.{Fault}
 use Rattle.stil_tokens.specs.StilTokens.{tokens_in}
 use Rattle.stil_parts.specs.declared.part.PartFault.{PartFault}
-use Rattle.stil_reader.specs.declared.head.StilHead.{StilHead}
-use Rattle.stil_reader.specs.declared.statement.ScanCall.{ScanCall}
+use Rattle.stil_types.specs.declared.head.StilHead.{StilHead}
+use Rattle.stil_types.specs.declared.statement.ScanCall.{ScanCall}
 use Rattle.stil_syntax.specs.declared.shape.Shape.{Shape}
 use Rattle.stil_syntax.specs.declared.shape.Shape.TheVariants.{NoForm, Unsupported, Other, Scan, Loop}
-use Rattle.stil_calls.specs.declared.statement.ReadStatement.{ReadStatement}
-use Rattle.stil_calls.specs.declared.statement.ReadStatement.TheVariants as statements
-use Rattle.stil_calls.specs.declared.statement.BodyStatement.{BodyStatement}
+use Rattle.stil_types.specs.declared.statement.PatternStatement.{PatternStatement}
+use Rattle.stil_types.specs.declared.statement.PatternStatement.TheVariants as statements
+use Rattle.stil_types.specs.declared.statement.BodyStatement.{BodyStatement}
 use Rattle.stil_syntax.specs.Shapes.{shape_of, body_statements}
 use Rattle.stil_calls.specs.Scans.{call_of, bits_of}
-use Rattle.stil_reader.specs.Calls.{IsCallOn, IsAcceptedOn}
+use Rattle.stil_types.specs.Calls.{IsCallOn, IsAcceptedOn}
 use Rattle.stil_calls.specs.Faults.{line_in, fault_in}
 
 -- the call of a Scan
@@ -33,7 +33,7 @@ body_of head line text s = record {
 }
 
 -- what a statement of a form denotes; one of no form, or of one that isn't supported, denotes nothing
-abbrev pub statement_of : StilHead → ℕ → ℕ → List ℕ → Shape → Option ReadStatement
+abbrev pub statement_of : StilHead → ℕ → ℕ → List ℕ → Shape → Option PatternStatement
 statement_of head pattern line text (Scan items) = Some (statements.Scan pattern text (call_of head.chains items) line)
 statement_of head pattern line text Other = Some (statements.Other pattern text)
 statement_of head pattern line text (Loop times body) = Some (statements.Loop pattern text times (map (body_of head line text) (body_statements body)) line)
@@ -41,7 +41,7 @@ statement_of head pattern line text NoForm = None
 statement_of head pattern line text Unsupported = None
 
 -- the bytes have no fault, and are this statement
-pub record DenotesStatement (head : StilHead) (pattern line : ℕ) (text : List ℕ) (statement : ReadStatement) : Type 0 where
+pub record DenotesStatement (head : StilHead) (pattern line : ℕ) (text : List ℕ) (statement : PatternStatement) : Type 0 where
   pub sound : fault_in head line text ≡ None
   pub is : statement_of head pattern line text (shape_of head false (tokens_in text)) ≡ Some statement
 
@@ -63,7 +63,7 @@ IsAcceptedIn head None = Unit {0}
 IsAcceptedIn head (Some call) = IsAcceptedBy head call
 
 -- each call of a statement is so
-abbrev pub AreAccepted : StilHead → ReadStatement → Type 0
+abbrev pub AreAccepted : StilHead → PatternStatement → Type 0
 AreAccepted head (statements.Scan pattern text call line) = IsAcceptedBy head call
 AreAccepted head (statements.Other pattern text) = Unit {0}
 AreAccepted head (statements.Loop pattern text times body line) = All (λ s. IsAcceptedIn head s.call) body

@@ -7,7 +7,7 @@ use crate::kinds::kind_of;
 use base_types::{Kind, Lines, NoMemory};
 use std::alloc::Global;
 use stil_parts::PartFault;
-use stil_reader::StilHead;
+use stil_types::StilHead;
 use stil_syntax::{Shape, Stretch, body_statement, shape_of};
 use stil_tokens::stil_tokens;
 

@@ -1,7 +1,7 @@
 //! The statements of STIL patterns beside the head: what each denotes, and its first fault (IEEE 1450-1999, Pattern
 //! statements, in this profile).
 //!
-//! Floor: readers, on base_types, token_forms, stil_tokens, stil_parts, stil_reader and stil_syntax.
+//! Floor: readers, on base_types, token_forms, stil_tokens, stil_parts, stil_types and stil_syntax.
 //! Contract: `read_statement` answers the statement that the bytes denote beside the head (`specs/Statements.antt`), or its
 //! first fault (`specs/Faults.antt`); `judge_part` is the judge of the parts of a text (`specs/Parts.antt`). Begin with
 //! `statement.rt`.
@@ -20,4 +20,4 @@ mod twice;
 
 pub use laws::size_law;
 pub use part::{judge_part, opened_name};
-pub use statement::{BodyStatement, ReadStatement, read_statement};
+pub use statement::read_statement;

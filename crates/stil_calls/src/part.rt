@@ -7,7 +7,7 @@ use crate::faults::{fault_in, fault_or};
 use base_types::{Kind, Name, NoMemory};
 use std::alloc::Global;
 use stil_parts::{Part, PartFault, Point};
-use stil_reader::StilHead;
+use stil_types::StilHead;
 use stil_syntax::{NameText, Stretch, behind_labels, closes_nothing, is_word};
 use stil_tokens::stil_tokens;
 

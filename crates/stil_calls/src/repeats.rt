@@ -1,7 +1,7 @@
 //! The data of a scan call as repeats of characters, of which none is written out.
 ghost use Rattle.std.specs.Prelude.{◌≡◌, ◌∷◌, [], ◌++◌, ◌<◌, ◌^◌, ◌-◌, min, replicate, length, MatchOption, IfSome, IfOk};
 ghost use Rattle.stil_calls.specs.Repeats.{repeats_from, repeats_of, whole_from, is_sound, count_of, reach_from, written};
-ghost use Rattle.stil_reader.specs.Calls.{is_expectation};
+ghost use Rattle.stil_types.specs.Calls.{is_expectation};
 
 use crate::escape::{behind, completed, is_character, is_outside};
 use base_types::{NoMemory, Text};

@@ -1,11 +1,11 @@
 //! A scan call beside the chains of the head.
 ghost use Rattle.std.specs.Prelude.{◌≡◌, ◌^◌, ◌-◌, ◌||◌, max, min, nat_lt, Some, None, MatchOption};
 ghost use Rattle.std.specs.List.{list_any};
-ghost use Rattle.stil_reader.specs.Calls.{most_bits};
+ghost use Rattle.stil_types.specs.Calls.{most_bits};
 ghost use Rattle.stil_calls.specs.Scans.{has_name, gives_twice, data_for, port, given, is_port, is_foreign, is_unsound, has_unsound, count_in, reach_in, longer, shifts_in, bits_of, is_short, is_long, is_vast};
 
 use crate::repeats::{Side, count_of, is_sound, reach_of};
-use stil_reader::ScanChainDecl;
+use stil_types::ScanChainDecl;
 use stil_syntax::{Item, NameText};
 
 /// The characters of a string at most.

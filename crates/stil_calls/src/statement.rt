@@ -10,58 +10,9 @@ use crate::faults::{line_in, shape_fault};
 use crate::strings::call_of;
 use base_types::{Fault, FileKind, Lines, NoMemory, ReadFault, Rows, Text};
 use std::alloc::Global;
-use stil_reader::{ScanCall, StilHead};
+use stil_types::{BodyStatement, PatternStatement, ScanCall, StilHead};
 use stil_syntax::{Shape, Stretch, body_statement, shape_of};
 use stil_tokens::stil_tokens;
-
-/// A statement in the block of a Loop. The places are byte places in the Loop's text.
-#[derive(Debug, Drop)]
-pub struct BodyStatement {
-    /// The place of its first byte.
-    pub start: u32,
-    /// The place behind its last byte.
-    pub end: u32,
-    /// The line of its first token, from 1.
-    pub line: u64,
-    /// What is shifted in and compared, exactly where it is a Scan.
-    pub call: Option<ScanCall>,
-}
-
-/// A statement of a Pattern (IEEE 1450-1999, Pattern statements).
-#[derive(Debug, Drop)]
-pub enum ReadStatement {
-    /// A Call or Macro of a scan procedure, with its data.
-    Scan {
-        /// The number of its Pattern in the file, from 0.
-        pattern: u32,
-        /// The bytes of the statement.
-        text: Text,
-        /// What is shifted in and compared.
-        call: ScanCall,
-        /// The line of its first token, from 1.
-        line: u64,
-    },
-    /// A statement that passes unread.
-    Other {
-        /// The number of its Pattern in the file, from 0.
-        pattern: u32,
-        /// The bytes of the statement.
-        text: Text,
-    },
-    /// A Loop with a scan call directly in its block.
-    Loop {
-        /// The number of its Pattern in the file, from 0.
-        pattern: u32,
-        /// The bytes of the statement.
-        text: Text,
-        /// How often it runs, from 1 to 1000000.
-        times: u32,
-        /// The statements in its block; empty ones don't count.
-        body: Rows<BodyStatement>,
-        /// The line of its first token, from 1.
-        line: u64,
-    },
-}
 
 /// What a statement shifts in and compares, where it is a scan call.
 fn call_in(
@@ -130,24 +81,24 @@ fn statement_of(
     line: u64,
     text: &[u8],
     shape: &Shape<'_, '_>,
-) -> Result<ReadStatement, NoMemory>
+) -> Result<PatternStatement, NoMemory>
     requires room { line + length text.now < 2 ^ 64 }
     requires sound { shape_fault head.now line text.now shape.now ≡ None }
     ensures value { IfOk result (λ s. statement_of head.now pattern line text.now shape.now ≡ Some s) }
 {
     let copy = Text::copy(alloc, text)?;
     match shape {
-        Shape::Scan(items) => Ok(ReadStatement::Scan {
+        Shape::Scan(items) => Ok(PatternStatement::Scan {
             pattern,
             text: copy,
             call: call_of(alloc, head.chains.as_slice(), items.as_slice())?,
             line,
         }),
-        Shape::Other => Ok(ReadStatement::Other {
+        Shape::Other => Ok(PatternStatement::Other {
             pattern,
             text: copy,
         }),
-        Shape::Loop(times, body) => Ok(ReadStatement::Loop {
+        Shape::Loop(times, body) => Ok(PatternStatement::Loop {
             pattern,
             text: copy,
             times: *times,
@@ -172,7 +123,7 @@ pub fn read_statement(
     pattern: u32,
     line: u64,
     text: &[u8],
-) -> Result<ReadStatement, ReadFault>
+) -> Result<PatternStatement, ReadFault>
     requires size { length text.now < 2 ^ 32 }
     requires room { line + length text.now < 2 ^ 64 }
     ensures value { IfOk result (λ s. DenotesStatement head.now pattern line text.now s) }

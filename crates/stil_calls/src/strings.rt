@@ -1,13 +1,13 @@
 //! The strings of a scan call, written out.
 ghost use Rattle.std.specs.Prelude.{◌≡◌, IfOk};
-ghost use Rattle.stil_reader.specs.Calls.{longest_string};
+ghost use Rattle.stil_types.specs.Calls.{longest_string};
 ghost use Rattle.stil_calls.specs.Scans.{given, written_in, strings_of, call_of};
 
 use crate::repeats::{Side, write_out};
 use crate::scan::given;
 use base_types::{NoMemory, Rows, Text};
 use std::alloc::Global;
-use stil_reader::{ScanCall, ScanChainDecl};
+use stil_types::{ScanCall, ScanChainDecl};
 use stil_syntax::Item;
 
 fn string_of(

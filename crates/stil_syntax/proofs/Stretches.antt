@@ -6,7 +6,7 @@ use Rattle.token_forms.specs.Tokens.{Token, token_of, tokens_of, AreSpansOf}
 use Rattle.token_forms.proofs.Spelled.{choose}
 use Rattle.stil_tokens.specs.StilStatements.{is_only, statements_within, stil_statements}
 use Rattle.stil_syntax.specs.Names.{is_word, is_string, inner, string_at, name_at}
-use Rattle.stil_reader.specs.declared.head.StilHead.{StilHead}
+use Rattle.stil_types.specs.declared.head.StilHead.{StilHead}
 use Rattle.stil_syntax.specs.Shapes.{before_block, behind_within, is_scan_call, holds_scan}
 
 pub take_spans : (text : List ℕ) (n : ℕ) (ss : List Span) → tokens_of text (take n ss) ≡ take n (tokens_of text ss)

@@ -5,8 +5,8 @@ use Rattle.std.specs.Str.{bytes_eq}
 use Rattle.token_forms.specs.Tokens.{Token}
 use Rattle.token_forms.specs.Classes.{is_among}
 use Rattle.stil_tokens.specs.StilStatements.{is_only, is_note, is_closed, depth_behind, stil_statements}
-use Rattle.stil_reader.specs.declared.head.StilHead.{StilHead}
-use Rattle.stil_reader.specs.declared.head.Callee.{Callee}
+use Rattle.stil_types.specs.declared.head.StilHead.{StilHead}
+use Rattle.stil_types.specs.declared.head.Callee.{Callee}
 use Rattle.stil_syntax.specs.declared.item.Item.{Item}
 use Rattle.stil_syntax.specs.declared.shape.Shape.{Shape}
 use Rattle.stil_syntax.specs.declared.shape.Shape.TheVariants.{NoForm, Unsupported, Other, Scan, Loop}

@@ -5,7 +5,7 @@ ghost use Rattle.stil_syntax.specs.Shapes.{is_call, scans_by, callees, calls_sca
 use crate::labels::{begins_behind, behind_labels};
 use crate::name::NameText;
 use crate::stretch::Stretch;
-use stil_reader::{Callee, StilHead};
+use stil_types::{Callee, StilHead};
 
 /// `Call` or `Macro`.
 pub(crate) fn is_call(word: &[u8]) -> bool

@@ -1,7 +1,7 @@
 //! The forms of the statements of STIL patterns, by their tokens and by the head (IEEE 1450-1999, Pattern statements, in
 //! this profile).
 //!
-//! Floor: readers, on base_types, token_forms, stil_tokens and stil_reader.
+//! Floor: readers, on base_types, token_forms, stil_tokens and stil_types.
 //! Contract: `shape_of` answers the form that `specs/Shapes.antt` says some tokens have; the data of a scan call are spelled
 //! as `specs/Grammar.antt` says. Begin with `shape.rt`.
 //!

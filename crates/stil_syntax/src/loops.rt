@@ -10,7 +10,7 @@ use crate::callee::is_scan_call;
 use crate::digits::{count_from, is_digit};
 use crate::shape::{Shape, other_shape};
 use crate::stretch::Stretch;
-use stil_reader::StilHead;
+use stil_types::StilHead;
 
 /// How many tokens stand before the first `{`.
 fn before_len(tokens: &Stretch<'_, '_>) -> usize

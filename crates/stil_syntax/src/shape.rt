@@ -15,7 +15,7 @@ use crate::stretch::Stretch;
 use crate::words::is_word;
 use base_types::{NoMemory, Stop};
 use std::alloc::Global;
-use stil_reader::StilHead;
+use stil_types::StilHead;
 use token_forms::{Parser, Read};
 
 /// What a statement is, by its tokens and by the head.

@@ -2,9 +2,9 @@
 use Rattle.std.proofs.Common.{◌≡◌, ℕ, ◌≤◌, List, [], ◌∷◌, length, drop, get_or, refl, sym, ap, ◌∙◌, arith}
 use Rattle.std.specs.Prelude.{⊤, All}
 use Rattle.std.proofs.lemmas.List.Elements.{All-nil, All-cons}
-use Rattle.stil_reader.specs.declared.statement.ScanCall.{ScanCall}
-use Rattle.stil_reader.specs.declared.statement.PatternStatement.{PatternStatement}
-use Rattle.stil_reader.specs.declared.statement.PatternStatement.TheVariants.{Scan, Other}
+use Rattle.stil_types.specs.declared.statement.ScanCall.{ScanCall}
+use Rattle.stil_types.specs.declared.statement.PatternStatement.{PatternStatement}
+use Rattle.stil_types.specs.declared.statement.PatternStatement.TheVariants.{Scan, Other}
 use Rattle.stil_tester.specs.declared.symbol.Symbol.{Symbol}
 use Rattle.stil_tester.specs.declared.chains.Chains.{Chains}
 use Rattle.stil_tester.specs.declared.results.ScanResult.{ScanResult}

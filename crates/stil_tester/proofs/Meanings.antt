@@ -2,8 +2,8 @@
 use Rattle.std.proofs.Common.{◌≡◌, List, [], ◌∷◌, refl, ap, ◌∙◌, arith}
 use Rattle.std.specs.Prelude.{⊤, All}
 use Rattle.std.proofs.lemmas.List.Elements.{All-head, All-tail}
-use Rattle.stil_reader.specs.declared.statement.PatternStatement.{PatternStatement}
-use Rattle.stil_reader.specs.declared.statement.PatternStatement.TheVariants.{Scan, Other}
+use Rattle.stil_types.specs.declared.statement.PatternStatement.{PatternStatement}
+use Rattle.stil_types.specs.declared.statement.PatternStatement.TheVariants.{Scan, Other}
 use Rattle.stil_tester.specs.declared.symbol.Symbol.{Symbol}
 use Rattle.stil_tester.specs.declared.chains.Chains.{Chains}
 use Rattle.stil_tester.specs.declared.results.ScanResult.{ScanResult}

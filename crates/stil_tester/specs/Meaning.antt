@@ -1,8 +1,8 @@
 -- Patterns of the same meaning.
 use Rattle.std.specs.Prelude.{◌≡◌, ℕ, ⊤, List, [], ◌∷◌}
-use Rattle.stil_reader.specs.declared.statement.ScanCall.{ScanCall}
-use Rattle.stil_reader.specs.declared.statement.PatternStatement.{PatternStatement}
-use Rattle.stil_reader.specs.declared.statement.PatternStatement.TheVariants.{Scan, Other}
+use Rattle.stil_types.specs.declared.statement.ScanCall.{ScanCall}
+use Rattle.stil_types.specs.declared.statement.PatternStatement.{PatternStatement}
+use Rattle.stil_types.specs.declared.statement.PatternStatement.TheVariants.{Scan, Other}
 use Rattle.stil_tester.specs.declared.symbol.Symbol.{Symbol}
 use Rattle.stil_tester.specs.declared.chains.Chains.{Chains}
 use Rattle.stil_tester.specs.Shifting.{HasCells, scan_call}

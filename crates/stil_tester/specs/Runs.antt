@@ -1,9 +1,9 @@
 -- A run of patterns over a list of answers (IEEE 1450-1999, Pattern statements), and the run that a device makes.
 use Rattle.std.specs.Prelude.{◌≡◌, ℕ, ◌+◌, ◌≤◌, ⊤, Bool, List, [], ◌∷◌, length, take, All}
 use Rattle.std.specs.List.{flat_map}
-use Rattle.stil_reader.specs.declared.statement.ScanCall.{ScanCall}
-use Rattle.stil_reader.specs.declared.statement.PatternStatement.{PatternStatement}
-use Rattle.stil_reader.specs.declared.statement.PatternStatement.TheVariants.{Scan, Other}
+use Rattle.stil_types.specs.declared.statement.ScanCall.{ScanCall}
+use Rattle.stil_types.specs.declared.statement.PatternStatement.{PatternStatement}
+use Rattle.stil_types.specs.declared.statement.PatternStatement.TheVariants.{Scan, Other}
 use Rattle.stil_tester.specs.declared.symbol.Symbol.{Symbol}
 use Rattle.stil_tester.specs.declared.chains.Chains.{Chains}
 use Rattle.stil_tester.specs.declared.results.ScanResult.{ScanResult}

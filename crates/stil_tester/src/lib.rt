@@ -1,6 +1,6 @@
 //! Shifts scan chains and plays patterns, cell by cell.
 //!
-//! Floor: patterns, on stil_reader and base_types.
+//! Floor: patterns, on stil_types and base_types.
 //! Contract: `shift_step`, `scan_call` and `play` do what `specs/Shifting.antt` and
 //! `specs/Runs.antt` say, and `device_law` says that no device tells patterns of the same
 //! meaning apart. Begin with `specs/Symbols.antt`.

@@ -9,7 +9,7 @@ use crate::scan::{ports, shift_call};
 use crate::symbol::Symbol;
 use base_types::{NoMemory, Rows};
 use std::alloc::Global;
-use stil_reader::{PatternStatement, ScanCall};
+use stil_types::{PatternStatement, ScanCall};
 
 /// Plays statements in order, from the cells as they are.
 ///

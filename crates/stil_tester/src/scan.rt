@@ -1,5 +1,5 @@
 ghost use Rattle.std.specs.Prelude.{◌≡◌, ℕ, ◌<◌, ◌≤◌, ◌↔◌, IfOk, IsTrue, OnErr, OnOk, length, slice_index_or};
-ghost use Rattle.stil_reader.specs.Calls.{longest_string, string_length};
+ghost use Rattle.stil_types.specs.Calls.{longest_string, string_length};
 ghost use Rattle.stil_tester.specs.Shifting.{AllMet, AreChains, HasCells, IsCallFor, all_met, expects_at, inputs_at, scan_call as scan_call_of};
 ghost use Rattle.stil_tester.specs.Symbols.{padded_compare, padded_load};
 
@@ -8,7 +8,7 @@ use crate::shift::shift_step;
 use crate::symbol::{Expect, Symbol};
 use base_types::{NoMemory, Text};
 use std::alloc::Global;
-use stil_reader::ScanCall;
+use stil_types::ScanCall;
 
 /// One scan call: in each shift the scan outputs are compared, then all chains move on
 /// (IEEE 1450-1999, Shift).

@@ -1,6 +1,6 @@
 //! Tests of the STIL crates: the statements of patterns.
 //!
-//! Floor: tests, on stil_calls, stil_parts, stil_reader and base_types.
+//! Floor: tests, on stil_calls, stil_parts, stil_types and base_types.
 #![tactic(auto)]
 
 #[cfg(test)]

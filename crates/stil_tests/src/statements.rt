@@ -5,9 +5,9 @@ use base_types::{FileKind, Name, NoMemory, ReadFault, Rows, Span, Spot, Text};
 use std::alloc::{Alloc, Global};
 use std::process::Abort;
 use std::test::Fail;
-use stil_calls::{ReadStatement, judge_part, opened_name, read_statement};
+use stil_calls::{judge_part, opened_name, read_statement};
 use stil_parts::{Comment, Part, Place, Point};
-use stil_reader::{Callee, ScanCall, ScanChainDecl, StilHead};
+use stil_types::{Callee, PatternStatement, ScanCall, ScanChainDecl, StilHead};
 
 /// A statement that begins on line 14, and what is read of it: its kind of fault and line, or what it denotes.
 type Row = (&'static str, &'static str);
@@ -126,14 +126,14 @@ fn call_text(alloc: Global, call: &ScanCall) -> Result<String, Fail> {
     Ok(format!(in alloc; "{shifts} {load} {compare}")?)
 }
 
-fn shown(alloc: Global, statement: &ReadStatement) -> Result<String, Fail> {
+fn shown(alloc: Global, statement: &PatternStatement) -> Result<String, Fail> {
     match statement {
-        ReadStatement::Scan { call, .. } => {
+        PatternStatement::Scan { call, .. } => {
             let call = call_text(alloc, call)?;
             Ok(format!(in alloc; "Scan {call}")?)
         }
-        ReadStatement::Other { .. } => Ok(format!(in alloc; "Other")?),
-        ReadStatement::Loop { times, body, .. } => {
+        PatternStatement::Other { .. } => Ok(format!(in alloc; "Other")?),
+        PatternStatement::Loop { times, body, .. } => {
             let mut text = format!(in alloc; "Loop {times}")?;
             for inner in body.as_slice() {
                 let (start, end, line) = (inner.start, inner.end, inner.line);

@@ -9,8 +9,8 @@ use Rattle.def_reader.specs.declared.design.EndText.{EndText}
 use Rattle.def_reader.specs.declared.design.EndText.TheVariants.{Port, Cell}
 use Rattle.def_reader.specs.declared.design.ScanChainText.{ScanChainText}
 use Rattle.def_reader.specs.declared.design.Design.{Design}
-use Rattle.stil_reader.specs.declared.head.ScanChainDecl.{ScanChainDecl}
-use Rattle.stil_reader.specs.declared.head.StilHead.{StilHead}
+use Rattle.stil_types.specs.declared.head.ScanChainDecl.{ScanChainDecl}
+use Rattle.stil_types.specs.declared.head.StilHead.{StilHead}
 
 -- the ports that a chain names, as far as it names some, and the line of its statement
 pub record Asked : Type 0 where

@@ -6,7 +6,7 @@ ghost use Rattle.traced_paths.specs.Steps.{told};
 use base_types::NoMemory;
 use def_reader::{Design, EndText, ScanChainText};
 use std::alloc::Global;
-use stil_reader::{ScanChainDecl, StilHead};
+use stil_types::{ScanChainDecl, StilHead};
 
 /// What one chain asks for: the plain names of its two ports, as far as it names some, and the line of its statement.
 #[derive(Clone, Copy)]

@@ -1,6 +1,6 @@
 //! The scan paths that a placed design or a STIL head asks for, all from one walk over the netlist, and these paths as numbers.
 //!
-//! Floor: paths, on netlist_core, cell_table, chain_trace, path_links, def_reader, stil_reader, chain_rules and
+//! Floor: paths, on netlist_core, cell_table, chain_trace, path_links, def_reader, stil_types, chain_rules and
 //! base_types.
 //! Contract: `paths_of` gives the paths of `specs/Traced.antt`, and refuses exactly as it says; `check_bits` and `path_specs` answer by
 //! `specs/Numbers.antt`. Begin with `paths.rt`.

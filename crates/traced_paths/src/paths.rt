@@ -23,7 +23,7 @@ use chain_trace::{Path, Tracer};
 use def_reader::Design;
 use netlist_core::{Classes, Netlist};
 use std::alloc::Global;
-use stil_reader::StilHead;
+use stil_types::StilHead;
 
 fn refused(kind: Kind, file: FileKind, line: u64) -> ReadFault
     ensures value { result ≡ refused (at_line kind file line) }

@@ -1,6 +1,6 @@
 use Rattle.std.proofs.Common.{take}
 use Rattle.std.specs.Prelude.{All}
-use Rattle.stil_reader.specs.Calls.{IsStringOf, is_compare_character}
+use Rattle.stil_types.specs.Calls.{IsStringOf, is_compare_character}
 use Rattle.call_checks.proofs.calls.are_compares.Given as goal
 
 abbrev pub invariant-loop-string : goal.invariant-loop-string

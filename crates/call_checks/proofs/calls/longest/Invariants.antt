@@ -1,5 +1,5 @@
 use Rattle.std.proofs.Common.{◌≡◌, max, drop}
-use Rattle.stil_reader.specs.Calls.{longest_string}
+use Rattle.stil_types.specs.Calls.{longest_string}
 use Rattle.call_checks.proofs.calls.longest.Given as goal
 
 abbrev pub invariant-loop-string : goal.invariant-loop-string

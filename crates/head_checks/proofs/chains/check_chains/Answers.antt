@@ -1,7 +1,7 @@
 use Rattle.std.proofs.Common.{◌≡◌, ℕ, List, Option, subst}
 use Rattle.def_reader.specs.Steps.{IsLeast}
 use Rattle.def_reader.specs.declared.design.ScanChainText.{ScanChainText}
-use Rattle.stil_reader.specs.declared.head.ScanChainDecl.{ScanChainDecl}
+use Rattle.stil_types.specs.declared.head.ScanChainDecl.{ScanChainDecl}
 use Rattle.head_checks.specs.Heads.{FailsOn, is_undeclared}
 use Rattle.head_checks.proofs.Firsts.{chain_first, chain_none}
 use Rattle.head_checks.proofs.chains.check_chains.Goals as goal

@@ -1,7 +1,7 @@
 use Rattle.std.proofs.Common.{◌≡◌, ◌<◌, List}
 use Rattle.std.specs.Prelude.{IfOk}
 use Rattle.std.proofs.lemmas.Result.{IfOk-weaker}
-use Rattle.stil_reader.specs.declared.statement.ScanCall.{ScanCall}
+use Rattle.stil_types.specs.declared.statement.ScanCall.{ScanCall}
 use Rattle.stil_tester.specs.declared.symbol.Symbol.{Symbol}
 use Rattle.stil_tester.specs.Shifting.{HasCells, IsCallFor, scan_call}
 use Rattle.retarget.specs.Places.{longest}

@@ -1,5 +1,5 @@
 use Rattle.std.proofs.Common.{◌≡◌, ℕ, ◌<◌, ◌≤◌, get_or, false}
-use Rattle.stil_reader.specs.Calls.{is_expectation}
+use Rattle.stil_types.specs.Calls.{is_expectation}
 use Rattle.retarget.proofs.judge.expects_from.Given as goal
 
 abbrev pub invariant-loop-index : goal.invariant-loop-index

@@ -1,6 +1,6 @@
 use Rattle.std.proofs.Common.{◌≡◌, ℕ, ◌<◌, ◌≤◌, false}
 use Rattle.retarget.specs.Places.{bits_at}
-use Rattle.stil_reader.specs.Calls.{is_expectation, compare_at}
+use Rattle.stil_types.specs.Calls.{is_expectation, compare_at}
 use Rattle.retarget.proofs.judge.has_long_compare.Given as goal
 
 abbrev pub invariant-loop-number : goal.invariant-loop-number

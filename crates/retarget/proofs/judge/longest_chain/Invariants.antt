@@ -1,5 +1,5 @@
 use Rattle.std.proofs.Common.{◌≡◌, List, max, drop, length, map}
-use Rattle.stil_reader.specs.Calls.{most_bits}
+use Rattle.stil_types.specs.Calls.{most_bits}
 use Rattle.stil_tester.specs.declared.chains.ChainBits.{ChainBits}
 use Rattle.retarget.specs.Places.{longest}
 use Rattle.retarget.proofs.judge.longest_chain.Given as goal

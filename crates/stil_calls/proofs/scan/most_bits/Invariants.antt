@@ -1,6 +1,6 @@
 use Rattle.std.proofs.Common.{◌≡◌, ◌-◌, ◌≤◌, length, drop}
 use Rattle.std.proofs.Common.{max}
-use Rattle.stil_reader.specs.Calls.{most_bits}
+use Rattle.stil_types.specs.Calls.{most_bits}
 use Rattle.stil_calls.specs.Scans.{bits_of}
 use Rattle.stil_calls.proofs.scan.most_bits.Given as goal
 

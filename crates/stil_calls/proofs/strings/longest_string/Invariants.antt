@@ -1,6 +1,6 @@
 use Rattle.std.proofs.Common.{◌≡◌, ◌-◌, ◌≤◌, length, drop}
 use Rattle.std.proofs.Common.{max}
-use Rattle.stil_reader.specs.Calls.{longest_string}
+use Rattle.stil_types.specs.Calls.{longest_string}
 use Rattle.stil_calls.proofs.strings.longest_string.Given as goal
 
 abbrev pub invariant-loop-at : goal.invariant-loop-at

@@ -1,6 +1,6 @@
 use Rattle.std.proofs.Common.{[], ◌∷◌, sym, subst, ◌∙◌}
 use Rattle.std.specs.Prelude.{All}
-use Rattle.stil_reader.specs.declared.statement.PatternStatement.{PatternStatement}
+use Rattle.stil_types.specs.declared.statement.PatternStatement.{PatternStatement}
 use Rattle.stil_tester.specs.Runs.{IsEventFor, all_events}
 use Rattle.stil_tester.proofs.Plays.{after_some, events_at, on_err_of, shows_more}
 use Rattle.stil_tester.proofs.playing.play.Goals as goal

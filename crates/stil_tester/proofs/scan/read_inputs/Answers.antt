@@ -1,6 +1,6 @@
 use Rattle.std.proofs.Common.{ℕ, ◌≤◌, List, sym, subst, ap, arith}
 use Rattle.std.specs.Prelude.{Option}
-use Rattle.stil_reader.specs.Calls.{string_length, longest_string}
+use Rattle.stil_types.specs.Calls.{string_length, longest_string}
 use Rattle.stil_tester.proofs.Strings.{string_length-longest}
 use Rattle.stil_tester.proofs.scan.read_inputs.Goals as goal
 

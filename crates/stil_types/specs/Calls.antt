@@ -1,7 +1,7 @@
 -- What makes a scan call well formed, and which calls are refused, by how many bits each chain has, in the order of the chains (IEEE 1450-1999, Shift).
 use Rattle.std.specs.Prelude.{◌≡◌, ℕ, ◌<◌, ◌≤◌, ◌==◌, ◌||◌, ⊤, Bool, IsTrue, max, List, [], ◌∷◌, length, slice_index_or, All, Option, None, Some}
 use Rattle.std.specs.List.{AllPass}
-use Rattle.stil_reader.specs.declared.statement.ScanCall.{ScanCall}
+use Rattle.stil_types.specs.declared.statement.ScanCall.{ScanCall}
 
 -- the length of a string, and 0 where none is given
 abbrev pub string_length : Option (List ℕ) → ℕ

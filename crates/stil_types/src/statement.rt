@@ -12,6 +12,19 @@ pub struct ScanCall {
     pub compares: Rows<Option<Text>>,
 }
 
+/// A statement in the block of a Loop. The places are byte places in the Loop's text.
+#[derive(Debug, Drop)]
+pub struct BodyStatement {
+    /// The place of its first byte.
+    pub start: u32,
+    /// The place behind its last byte.
+    pub end: u32,
+    /// The line of its first token, from 1.
+    pub line: u64,
+    /// What is shifted in and compared, exactly where it is a Scan.
+    pub call: Option<ScanCall>,
+}
+
 /// A statement of a Pattern (IEEE 1450-1999, Pattern statements).
 #[derive(Debug, Drop)]
 pub enum PatternStatement {
@@ -32,5 +45,18 @@ pub enum PatternStatement {
         pattern: u32,
         /// The bytes of the statement.
         text: Text,
+    },
+    /// A Loop with a scan call directly in its block.
+    Loop {
+        /// The number of its Pattern in the file, from 0.
+        pattern: u32,
+        /// The bytes of the statement.
+        text: Text,
+        /// How often it runs, from 1 to 1000000.
+        times: u32,
+        /// The statements in its block; empty ones don't count.
+        body: Rows<BodyStatement>,
+        /// The line of its first token, from 1.
+        line: u64,
     },
 }
