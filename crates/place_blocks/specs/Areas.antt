@@ -1,8 +1,8 @@
 -- Which points a rectangle holds.
-use Rattle.std.specs.Prelude.{◌≤ℤ◌, IsTrue, Option, Some, None}
+use Rattle.std.specs.Prelude.{◌≡◌, ℕ, ◌≤◌, ◌≤ℤ◌, IsTrue, Option, Some, None}
 use Rattle.base_types.specs.declared.span.Point.{Point}
 use Rattle.place_blocks.specs.declared.area.Area.{Area}
-use Rattle.wire_cost.specs.Lengths.{IsNear}
+use Rattle.wire_cost.specs.Lengths.{IsNear, link_of}
 
 -- the point stands in the rectangle or on its edge
 pub record IsBetween (a : Area) (p : Point) : Type 0 where
@@ -20,3 +20,8 @@ IsInside a (Some p) = IsBetween a p
 pub record IsNearArea (a : Area) : Type 0 where
   pub low : IsNear a.low
   pub high : IsNear a.high
+
+-- n is the least link from a point to what the rectangle holds, if it holds anything
+pub record IsLeastLink (a : Area) (p : Point) (n : ℕ) : Type 0 where
+  pub least : (q : Option Point) → IsInside a q → n ≤ link_of (Some p) q
+  pub one : (q : Option Point) → IsInside a q → (r : Option Point) × IsInside a r × (n ≡ link_of (Some p) r)

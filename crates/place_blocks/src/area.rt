@@ -1,8 +1,8 @@
 //! A rectangle round some points.
-ghost use Rattle.std.specs.Prelude.{ℕ, ◌^◌, ◌≤◌, ◌-ℤ◌, Option, Some, unsigned_abs};
+ghost use Rattle.std.specs.Prelude.{◌≡◌, ℕ, ℤ, ◌^◌, ◌≤◌, ◌≤ℤ◌, ◌-ℤ◌, Option, Some, unsigned_abs};
 ghost use Rattle.base_types.specs.declared.span.Point.{Point};
 ghost use Rattle.wire_cost.specs.Lengths.{IsNear, IsNearOrNowhere, link_of};
-ghost use Rattle.place_blocks.specs.Areas.{IsBetween, IsInside, IsNearArea};
+ghost use Rattle.place_blocks.specs.Areas.{IsBetween, IsInside, IsLeastLink, IsNearArea};
 
 use base_types::Point;
 
@@ -20,6 +20,7 @@ pub struct Area {
 /// The rectangle that holds no point.
 pub(crate) fn no_area() -> Area
     ensures near { IsNearArea result }
+    ensures none { (q : Option Point) → ¬ IsInside result q }
 {
     Area {
         low: Point { x: FAR, y: FAR },
@@ -60,6 +61,7 @@ fn way_across(point: Point, area: &Area) -> u64
     requires point { IsNear point }
     requires area { IsNearArea area.now }
     ensures least { (q : Point) → IsBetween area.now q → result ≤ unsigned_abs (point.x -ℤ q.x) }
+    ensures one { area.now.low.x ≤ℤ area.now.high.x → (x : ℤ) × (area.now.low.x ≤ℤ x) × (x ≤ℤ area.now.high.x) × (result ≡ unsigned_abs (point.x -ℤ x)) }
     ensures small { result ≤ 2 ^ 42 }
 {
     if point.x < area.low.x {
@@ -76,6 +78,7 @@ fn way_upward(point: Point, area: &Area) -> u64
     requires point { IsNear point }
     requires area { IsNearArea area.now }
     ensures least { (q : Point) → IsBetween area.now q → result ≤ unsigned_abs (point.y -ℤ q.y) }
+    ensures one { area.now.low.y ≤ℤ area.now.high.y → (y : ℤ) × (area.now.low.y ≤ℤ y) × (y ≤ℤ area.now.high.y) × (result ≡ unsigned_abs (point.y -ℤ y)) }
     ensures small { result ≤ 2 ^ 42 }
 {
     if point.y < area.low.y {
@@ -92,7 +95,7 @@ fn way_upward(point: Point, area: &Area) -> u64
 pub(crate) fn least_way(point: Point, area: &Area) -> u64
     requires point { IsNear point }
     requires area { IsNearArea area.now }
-    ensures least { (q : Option Point) → IsInside area.now q → result ≤ link_of (Some point) q }
+    ensures value { IsLeastLink area.now point result }
     ensures least_back { (q : Option Point) → IsInside area.now q → result ≤ link_of q (Some point) }
     ensures small { result ≤ 2 ^ 43 }
 {

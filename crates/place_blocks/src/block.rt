@@ -1,7 +1,9 @@
 //! A block of neighbouring places of a chain, and the least that a step at one of them takes.
-ghost use Rattle.std.specs.Prelude.{◌≡◌, ℕ, ◌+◌, ◌*◌, ◌^◌, ◌<◌, ◌≤◌, List, length, Some};
+ghost use Rattle.std.specs.Prelude.{◌≡◌, ℕ, ◌+◌, ◌*◌, ◌^◌, ◌<◌, ◌≤◌, List, Option, length, Some};
+ghost use Rattle.base_types.specs.declared.span.Point.{Point};
 ghost use Rattle.wire_cost.specs.Lengths.{ArePlaced, ChainEnds, IsChainAt, IsNear, chain_ends, link_of};
 ghost use Rattle.wire_cost.specs.Rows.{before_at, next_at};
+ghost use Rattle.place_blocks.specs.Areas.{IsInside, IsLeastLink};
 ghost use Rattle.place_blocks.specs.Covers.{AreBlocks, Covers, IsNearBlock};
 
 use crate::area::{Area, grown, least_way, no_area};
@@ -27,6 +29,10 @@ pub struct Block {
 /// The block without a place.
 pub fn no_block() -> Block
     ensures near { IsNearBlock result }
+    ensures from { (q : Option Point) → ¬ IsInside result.from q }
+    ensures to { (q : Option Point) → ¬ IsInside result.to q }
+    ensures link { result.link ≡ 0 }
+    ensures pair { result.pair ≡ 0 }
 {
     Block {
         from: no_area(),
@@ -100,6 +106,7 @@ pub fn least_links(block: &Block, entry: Point, exit: Point) -> u64
     requires exit { IsNear exit }
     ensures least { (w : ChainEnds) (us : List ℕ) (k : ℕ) → Covers w us block.now k → result ≤ link_of (before_at w us k) (Some entry) + link_of (Some exit) (next_at w us k) }
     ensures least_behind { (w : ChainEnds) (us : List ℕ) (k : ℕ) → k < length us → Covers w us block.now k → result ≤ link_of (before_at w us k) (Some entry) + link_of (Some exit) (next_at w us (k + 1)) }
+    ensures value { (m : ℕ) × (n : ℕ) × IsLeastLink block.now.from entry m × IsLeastLink block.now.to exit n × (result ≡ m + n) }
     ensures small { result ≤ 2 ^ 44 }
 {
     least_way(entry, &block.from) + least_way(exit, &block.to)
