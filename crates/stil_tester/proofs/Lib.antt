@@ -3,7 +3,9 @@ pub mod Strings
 pub mod WellFormed
 pub mod DeviceLaws
 pub mod Meanings
+pub mod Keeping
 pub mod Plays
+pub mod Rounds
 pub mod ShiftLaws
 pub mod Shifts
 mod Examples

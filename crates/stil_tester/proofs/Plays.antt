@@ -1,18 +1,18 @@
 -- Playing events one after another.
-use Rattle.std.proofs.Common.{◌≡◌, ℕ, ◌+◌, ◌<◌, zero, suc, List, [], ◌∷◌, ◌++◌, length, take, drop, get_or, refl, sym, ap, ◌∙◌, add-one, arith}
+use Rattle.std.proofs.Common.{◌≡◌, ℕ, ◌+◌, ◌<◌, ◌≤◌, zero, suc, List, [], ◌∷◌, ◌++◌, length, take, drop, get_or, refl, sym, ap, subst, ◌∙◌, append_assoc, add-one, arith}
 use Rattle.std.specs.Prelude.{All, Bool, OnErr, Result, Ok, Err}
-use Rattle.std.proofs.Math.Seq.{take-suc, take-append_seam}
-use Rattle.std.proofs.lemmas.List.{length-append, take-append-drop}
-use Rattle.std.proofs.lemmas.List.Elements.{All-append, All-nil}
-use Rattle.stil_tester.proofs.WellFormed.{All-left, All-right}
-use Rattle.std.proofs.lemmas.List.Concat.{flat_map-append}
+use Rattle.std.proofs.Math.Seq.{take-append_seam}
+use Rattle.std.proofs.lemmas.List.{append-nil, length-append}
+use Rattle.std.proofs.lemmas.List.Elements.{All-append, All-cons, All-nil}
 use Rattle.stil_types.specs.declared.statement.PatternStatement.{PatternStatement}
-use Rattle.stil_types.specs.declared.statement.PatternStatement.TheVariants.{Scan, Other}
 use Rattle.stil_tester.specs.declared.symbol.Symbol.{Symbol}
 use Rattle.stil_tester.specs.declared.chains.Chains.{Chains}
 use Rattle.stil_tester.specs.declared.results.ScanResult.{ScanResult}
 use Rattle.stil_tester.specs.Shifting.{scan_call}
-use Rattle.stil_tester.specs.Runs.{Event, Tells, Shifts, Reads, scan_events, runs_of, all_runs, events_in, events_of, all_events, Answer, AreAfterSome, Behaviour, Play, play_events, play_of}
+use Rattle.stil_tester.specs.Runs.{Event, Tells, Shifts, IsEventFor, IsPlaced, AreStatementsFor, runs_of, all_runs, events_in, events_of, all_events, Answer, AreAfterSome, Behaviour, Play, play_events, play_first, play_of}
+use Rattle.stil_tester.specs.Playing.{HavePlayed, HavePlayedSome}
+use Rattle.stil_tester.proofs.WellFormed.{All-left, All-right}
+use Rattle.stil_tester.proofs.Rounds.{events_in-append}
 
 -- one play after another
 abbrev pub joined : {S : Type 0} → Play S → Play S → Play S
@@ -51,36 +51,92 @@ play_events-append device chains (Shifts call ∷ es) fs state cells =
     let scan : ScanResult = scan_call chains cells call in
     ap (shifted scan) (play_events-append device chains es fs state scan.loaded)
 
--- one statement more
-pub play_of-more : {S : Type 0} (device : Behaviour S) (chains : Chains) (ss : List PatternStatement) (i : ℕ) (d : PatternStatement) (state : S) (cells : List Symbol) → i < length ss →
-    (let p = play_of device chains (take i ss) state cells in play_of device chains (take (i + 1) ss) state cells ≡ joined p (play_of device chains (get_or ss i d ∷ []) p.device p.results.cells))
-play_of-more device chains ss i d state cells l =
-    let more : take (i + 1) ss ≡ take i ss ++ (get_or ss i d ∷ []) = rw add-one (take-suc ss i d l) in
-    ap (λ (ts : List PatternStatement). play_of device chains ts state cells) more
-    ∙ (ap (λ (es : List Event). play_events device chains es state cells) (flat_map-append events_of (take i ss) (get_or ss i d ∷ []))
-    ∙ play_events-append device chains (all_events (take i ss)) (all_events (get_or ss i d ∷ [])) state cells)
+-- what is kept of one part and of the next is kept of both
+abbrev pub KeepsMore : {K : Type 0} → (K → List ScanResult → List Bool → K → Type 0) → Type 0
+KeepsMore {K} keeps = (old between new : K) (scans scans' : List ScanResult) (others others' : List Bool) → keeps old scans others between → keeps between scans' others' new → keeps old (scans ++ scans') (others ++ others') new
 
--- what is run at some statements from the front is run first
-runs-front : (ss : List PatternStatement) (i : ℕ) → all_runs ss ≡ all_runs (take i ss) ++ all_runs (drop i ss)
-runs-front ss i = ap all_runs (sym (take-append-drop i ss)) ∙ flat_map-append runs_of (take i ss) (drop i ss)
+-- some runs were played, and then more
+module _ {S K : Type 0} {device : Behaviour S} {keeps : K → List ScanResult → List Bool → K → Type 0} {chains : Chains}
+  {state state' state'' : S} {cells cells' cells'' : List Symbol} {kept kept' kept'' : K} (more : KeepsMore keeps) where
+
+  pub played_more : {rs qs : List (List Event)} → HavePlayed device keeps chains rs state cells kept state' cells' kept' → HavePlayed device keeps chains qs state' cells' kept' state'' cells'' kept''
+      → HavePlayed device keeps chains (rs ++ qs) state cells kept state'' cells'' kept''
+  played_more {rs} {qs} h g =
+      let p : Play S = play_events device chains (events_in rs) state cells in
+      let q : Play S = play_events device chains (events_in qs) state' cells' in
+      let here : q ≡ play_events device chains (events_in qs) p.device p.results.cells = λ j. play_events device chains (events_in qs) (h.device_is j) (h.cells_are j) in
+      let whole : play_events device chains (events_in (rs ++ qs)) state cells ≡ joined p q =
+          ap (λ (es : List Event). play_events device chains es state cells) (events_in-append rs qs)
+          ∙ (play_events-append device chains (events_in rs) (events_in qs) state cells ∙ ap (joined p) (sym here)) in
+      record {
+        device_is = g.device_is ∙ sym (ap (λ (r : Play S). r.device) whole);
+        cells_are = g.cells_are ∙ sym (ap (λ (r : Play S). r.results.cells) whole);
+        kept_is = subst (λ (r : Play S). keeps kept r.results.scans r.results.others kept'') (sym whole)
+            (more kept kept' kept'' p.results.scans q.results.scans p.results.others q.results.others h.kept_is g.kept_is);
+      }
+
+  -- and then some more, before what is left
+  pub some_more : {runs rs qs : List (List Event)} (left : List (List Event)) → runs ≡ rs ++ (qs ++ left) → HavePlayed device keeps chains rs state cells kept state' cells' kept'
+      → HavePlayedSome device keeps chains qs state' cells' kept' state'' cells'' kept'' → HavePlayedSome device keeps chains runs state cells kept state'' cells'' kept''
+  some_more {runs} {rs} left e h g = record {
+    front = rs ++ g.front;
+    rest = g.rest ++ left;
+    parts = e ∙ (ap (λ xs. rs ++ (xs ++ left)) g.parts ∙ (ap (λ xs. rs ++ xs) (append_assoc g.front g.rest left) ∙ sym (append_assoc rs g.front (g.rest ++ left))));
+    played = played_more h g.played;
+  }
+
+  -- and then nothing, before what is left
+  pub some_front : {runs rs : List (List Event)} (left : List (List Event)) → runs ≡ rs ++ left → HavePlayed device keeps chains rs state cells kept state' cells' kept'
+      → HavePlayed device keeps chains [] state' cells' kept' state'' cells'' kept'' → HavePlayedSome device keeps chains runs state cells kept state'' cells'' kept''
+  some_front left e h g = some_more {qs = []} left e h (record { front = []; rest = []; parts = refl; played = g })
+
+-- after an error nothing was played, so some was
+pub some_of_none : {S K T E : Type 0} (device : Behaviour S) (keeps : K → List ScanResult → List Bool → K → Type 0) (chains : Chains) (runs : List (List Event)) (state : S) (cells : List Symbol) (kept : K) (state' : S) (cells' : List Symbol) (kept' : K) (r : Result T E)
+    → OnErr r (HavePlayed device keeps chains [] state cells kept state' cells' kept') → OnErr r (HavePlayedSome device keeps chains runs state cells kept state' cells' kept')
+some_of_none device keeps chains runs state cells kept state' cells' kept' (Ok x) h = tt
+some_of_none device keeps chains runs state cells kept state' cells' kept' (Err e) h = record { front = []; rest = runs; parts = refl; played = h }
+
+parts_at : (ss : List PatternStatement) (i : ℕ) (d : PatternStatement) → i < length ss → all_runs ss ≡ all_runs (take i ss) ++ (runs_of (get_or ss i d) ++ all_runs (drop (suc i) ss))
+parts_at [] i d l = absurd (omega arith)
+parts_at (s ∷ ss) zero d l = refl
+parts_at (s ∷ ss) (suc i) d l = ap (λ rs. runs_of s ++ rs) (parts_at ss i d (omega arith)) ∙ sym (append_assoc (runs_of s) (all_runs (take i ss)) (runs_of (get_or ss i d) ++ all_runs (drop (suc i) ss)))
+
+-- what is run at statements is what is run before one of them, at it, and behind it
+pub runs_parts : (ss : List PatternStatement) (i : ℕ) (d : PatternStatement) → i < length ss → all_runs ss ≡ all_runs (take i ss) ++ (runs_of (get_or ss i d) ++ all_runs (drop (i + 1) ss))
+runs_parts ss i d l = rw add-one (parts_at ss i d l)
+
+next_at : (ss : List PatternStatement) (i : ℕ) (d : PatternStatement) → i < length ss → all_runs (take (suc i) ss) ≡ all_runs (take i ss) ++ runs_of (get_or ss i d)
+next_at [] i d l = absurd (omega arith)
+next_at (s ∷ ss) zero d l = append-nil (runs_of s)
+next_at (s ∷ ss) (suc i) d l = ap (λ rs. runs_of s ++ rs) (next_at ss i d (omega arith)) ∙ sym (append_assoc (runs_of s) (all_runs (take i ss)) (runs_of (get_or ss i d)))
+
+-- what is run at one statement more
+pub runs_more : (ss : List PatternStatement) (i : ℕ) (d : PatternStatement) → i < length ss → all_runs (take (i + 1) ss) ≡ all_runs (take i ss) ++ runs_of (get_or ss i d)
+runs_more ss i d l = rw add-one (next_at ss i d l)
 
 -- all that happens is what happens in all that is run
-events_in-runs : (ss : List PatternStatement) → events_in (all_runs ss) ≡ all_events ss
+pub events_in-runs : (ss : List PatternStatement) → events_in (all_runs ss) ≡ all_events ss
 events_in-runs [] = refl
-events_in-runs (Scan p text call line ∷ ss) = ap (λ (es : List Event). scan_events call ++ es) (events_in-runs ss)
-events_in-runs (Other p text ∷ ss) = ap (λ (es : List Event). Tells (Reads text) ∷ es) (events_in-runs ss)
+events_in-runs (s ∷ ss) = events_in-append (runs_of s) (all_runs ss) ∙ ap (λ (es : List Event). events_of s ++ es) (events_in-runs ss)
 
--- what is left after some statements from the front is left after some of what is run
-pub after_some : {S : Type 0} (device : Behaviour S) (chains : Chains) (ss : List PatternStatement) (i : ℕ) (state : S) (cells : List Symbol) (state' : S) (cells' : List Symbol)
-    → state' ≡ (play_of device chains (take i ss) state cells).device → cells' ≡ (play_of device chains (take i ss) state cells).results.cells → AreAfterSome device chains ss state cells state' cells'
-after_some {S} device chains ss i state cells state' cells' d e =
-    let front : List (List Event) = all_runs (take i ss) in
-    let back : List (List Event) = all_runs (drop i ss) in
-    let parts : all_runs ss ≡ front ++ back = runs-front ss i in
-    let first : take (length front) (all_runs ss) ≡ front = ap (take (length front)) parts ∙ take-append_seam front back in
-    let events : events_in (take (length front) (all_runs ss)) ≡ all_events (take i ss) = ap events_in first ∙ events_in-runs (take i ss) in
-    let same : play_events device chains (events_in (take (length front) (all_runs ss))) state cells ≡ play_of device chains (take i ss) state cells = ap (λ (es : List Event). play_events device chains es state cells) events in
-    (length front, omega (arith, ap length parts, length-append front back), d ∙ sym (ap (λ (p : Play S). p.device) same), e ∙ sym (ap (λ (p : Play S). p.results.cells) same))
+-- all that is run at statements was played
+pub play_played : {S : Type 0} (device : Behaviour S) (chains : Chains) (ss : List PatternStatement) (state : S) (cells : List Symbol) → play_events device chains (events_in (all_runs ss)) state cells ≡ play_of device chains ss state cells
+play_played device chains ss state cells = ap (λ (es : List Event). play_events device chains es state cells) (events_in-runs ss)
+
+-- some of what is run at statements was played
+pub first_played : {S : Type 0} (device : Behaviour S) (chains : Chains) (ss : List PatternStatement) (state : S) (cells : List Symbol) (front rest : List (List Event)) → all_runs ss ≡ front ++ rest
+    → play_events device chains (events_in front) state cells ≡ play_first device chains ss (length front) state cells
+first_played device chains ss state cells front rest e =
+    ap (λ (rs : List (List Event)). play_events device chains (events_in rs) state cells) (sym (ap (take (length front)) e ∙ take-append_seam front rest))
+
+front_within : (runs front rest : List (List Event)) → runs ≡ front ++ rest → length front ≤ length runs
+front_within runs front rest e = omega (arith, ap length e, length-append front rest)
+
+pub after_some : {S K : Type 0} {device : Behaviour S} {keeps : K → List ScanResult → List Bool → K → Type 0} {chains : Chains} {state state' : S} {cells cells' : List Symbol} {kept kept' : K} (ss : List PatternStatement)
+    → HavePlayedSome device keeps chains (all_runs ss) state cells kept state' cells' kept' → AreAfterSome device chains ss state cells state' cells'
+after_some {S} {device = device} {chains = chains} {state = state} {cells = cells} ss h =
+    let same = first_played device chains ss state cells h.front h.rest h.parts in
+    (length h.front, front_within (all_runs ss) h.front h.rest h.parts, h.played.device_is ∙ ap (λ (p : Play S). p.device) same, h.played.cells_are ∙ ap (λ (p : Play S). p.results.cells) same)
 
 -- a scan call of some statements fits the chains where those of all do
 pub events_at : (P : Event → Type 0) (ss : List PatternStatement) (i : ℕ) (d : PatternStatement) → i < length ss → All P (all_events ss) → All P (all_events (get_or ss i d ∷ []))
@@ -88,32 +144,14 @@ events_at P [] i d l h = absurd (omega arith)
 events_at P (s ∷ ss) zero d l h = All-append P (events_of s) [] (All-left P (events_of s) (all_events ss) h) (All-nil P)
 events_at P (s ∷ ss) (suc i) d l h = events_at P ss i d (omega arith) (All-right P (events_of s) (all_events ss) h)
 
--- this was shown by the statements before the one at a place
-pub record Shows {S : Type 0} (device : Behaviour S) (chains : Chains) (ss : List PatternStatement) (i : ℕ) (state : S) (cells : List Symbol) (scans : List ScanResult) (others : List Bool) (now : List Symbol) (state' : S) : Type 0 where
-  pub scans_are : scans ≡ (play_of device chains (take i ss) state cells).results.scans
-  pub others_are : others ≡ (play_of device chains (take i ss) state cells).results.others
-  pub cells_are : now ≡ (play_of device chains (take i ss) state cells).results.cells
-  pub device_is : state' ≡ (play_of device chains (take i ss) state cells).device
-
-pub shows_more : {S : Type 0} (device : Behaviour S) (chains : Chains) (ss : List PatternStatement) (i : ℕ) (x : PatternStatement) (state : S) (cells : List Symbol) (scans : List ScanResult) (others : List Bool) (now : List Symbol) (state' : S)
-    → i < length ss → x ≡ get_or ss i x → Shows device chains ss i state cells scans others now state'
-    → (scans' : List ScanResult) (others' : List Bool) (now' : List Symbol) (state'' : S)
-    → scans' ≡ scans ++ (play_of device chains (x ∷ []) state' now).results.scans
-    → others' ≡ others ++ (play_of device chains (x ∷ []) state' now).results.others
-    → now' ≡ (play_of device chains (x ∷ []) state' now).results.cells
-    → state'' ≡ (play_of device chains (x ∷ []) state' now).device
-    → Shows device chains ss (i + 1) state cells scans' others' now' state''
-shows_more {S} device chains ss i x state cells scans others now state' l is h scans' others' now' state'' e f n d =
-    let p : Play S = play_of device chains (take i ss) state cells in
-    let q : Play S = play_of device chains (x ∷ []) state' now in
-    let here : q ≡ play_of device chains (get_or ss i x ∷ []) p.device p.results.cells = λ j. play_of device chains (is j ∷ []) (h.device_is j) (h.cells_are j) in
-    let more : play_of device chains (take (i + 1) ss) state cells ≡ joined p q = play_of-more device chains ss i x state cells l ∙ ap (joined p) (sym here) in
-    record {
-      scans_are = e ∙ (ap (λ xs. xs ++ q.results.scans) h.scans_are ∙ sym (ap (λ (r : Play S). r.results.scans) more));
-      others_are = f ∙ (ap (λ xs. xs ++ q.results.others) h.others_are ∙ sym (ap (λ (r : Play S). r.results.others) more));
-      cells_are = n ∙ sym (ap (λ (r : Play S). r.results.cells) more);
-      device_is = d ∙ sym (ap (λ (r : Play S). r.device) more);
-    }
+-- one statement of some that are for the chains
+pub statement_at : (chains : Chains) (ss : List PatternStatement) (i : ℕ) (s : PatternStatement) → i < length ss → s ≡ get_or ss i s → AreStatementsFor chains ss → AreStatementsFor chains (s ∷ [])
+statement_at chains ss i s l is h =
+    let at : AreStatementsFor chains (get_or ss i s ∷ []) = record {
+      fit = events_at (IsEventFor chains) ss i s l h.fit;
+      placed = All-cons IsPlaced (get_or ss i s) [] (h.placed i s l) (All-nil IsPlaced);
+    } in
+    subst (λ (x : PatternStatement). AreStatementsFor chains (x ∷ [])) (sym is) at
 
 -- what holds holds after an error
 pub on_err_of : {T E : Type 0} (r : Result T E) (P : Type 0) → P → OnErr r P

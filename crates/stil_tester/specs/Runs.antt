@@ -1,9 +1,10 @@
 -- A run of patterns over a list of answers (IEEE 1450-1999, Pattern statements), and the run that a device makes.
-use Rattle.std.specs.Prelude.{◌≡◌, ℕ, ◌+◌, ◌≤◌, ⊤, Bool, List, [], ◌∷◌, length, take, All}
+use Rattle.std.specs.Prelude.{◌≡◌, ℕ, ◌+◌, ◌-◌, ◌≤◌, ⊤, zero, suc, Bool, List, [], ◌∷◌, ◌++◌, length, map, take, drop, All, Option, None, Some}
 use Rattle.std.specs.List.{flat_map}
 use Rattle.stil_types.specs.declared.statement.ScanCall.{ScanCall}
+use Rattle.stil_types.specs.declared.statement.BodyStatement.{BodyStatement}
 use Rattle.stil_types.specs.declared.statement.PatternStatement.{PatternStatement}
-use Rattle.stil_types.specs.declared.statement.PatternStatement.TheVariants.{Scan, Other}
+use Rattle.stil_types.specs.declared.statement.PatternStatement.TheVariants.{Scan, Other, Loop}
 use Rattle.stil_tester.specs.declared.symbol.Symbol.{Symbol}
 use Rattle.stil_tester.specs.declared.chains.Chains.{Chains}
 use Rattle.stil_tester.specs.declared.results.ScanResult.{ScanResult}
@@ -24,10 +25,29 @@ pub data Event : Type 0 where
 abbrev pub scan_events : ScanCall → List Event
 scan_events call = Tells Begins ∷ Shifts call ∷ Tells Ends ∷ []
 
--- what is run at a statement, one after the other: a whole scan call, or another statement
+-- what is run at a statement of these bytes: a whole scan call where it has one, else another statement
+abbrev pub run_of : List ℕ → Option ScanCall → List Event
+run_of text None = Tells (Reads text) ∷ []
+run_of text (Some call) = scan_events call
+
+-- the bytes of a statement in the block of a Loop, which stands in the Loop's text
+abbrev pub bytes_in : List ℕ → BodyStatement → List ℕ
+bytes_in text statement = take (statement.end - statement.start) (drop statement.start text)
+
+-- what is run in one round of a Loop, one statement of its block after the other
+abbrev pub round_of : List ℕ → List BodyStatement → List (List Event)
+round_of text body = map (λ statement. run_of (bytes_in text statement) statement.call) body
+
+-- so many times over
+abbrev pub times_over : ℕ → List (List Event) → List (List Event)
+times_over zero runs = []
+times_over (suc times) runs = runs ++ times_over times runs
+
+-- what is run at a statement, one after the other: whole scan calls and other statements; a Loop's round as often as its number says
 abbrev pub runs_of : PatternStatement → List (List Event)
-runs_of (Scan pattern text call line) = scan_events call ∷ []
-runs_of (Other pattern text) = (Tells (Reads text) ∷ []) ∷ []
+runs_of (Scan pattern text call line) = run_of text (Some call) ∷ []
+runs_of (Other pattern text) = run_of text None ∷ []
+runs_of (Loop pattern text times body line) = times_over times (round_of text body)
 
 -- what is run at all statements, in order
 abbrev pub all_runs : List PatternStatement → List (List Event)
@@ -50,9 +70,21 @@ abbrev pub IsEventFor : Chains → Event → Type 0
 IsEventFor chains (Tells telling) = ⊤
 IsEventFor chains (Shifts call) = IsCallFor chains call
 
--- each scan call of the statements fits the chains
-abbrev pub AreStatementsFor : Chains → List PatternStatement → Type 0
-AreStatementsFor chains statements = All (IsEventFor chains) (all_events statements)
+-- the bytes of a statement in the block of a Loop stand in the Loop's text
+pub record IsPlacedIn (text : List ℕ) (statement : BodyStatement) : Type 0 where
+  pub ordered : statement.start ≤ statement.end
+  pub within : statement.end ≤ length text
+
+-- so do those of each statement in its block
+abbrev pub IsPlaced : PatternStatement → Type 0
+IsPlaced (Scan pattern text call line) = ⊤
+IsPlaced (Other pattern text) = ⊤
+IsPlaced (Loop pattern text times body line) = All (IsPlacedIn text) body
+
+-- each scan call of the statements fits the chains, and the statements in the block of a Loop stand in its text
+pub record AreStatementsFor (chains : Chains) (statements : List PatternStatement) : Type 0 where
+  pub fit : All (IsEventFor chains) (all_events statements)
+  pub placed : All IsPlaced statements
 
 -- an answer of a device: a new value for each cell, and a verdict
 pub record Answer : Type 0 where
@@ -134,7 +166,21 @@ play_events device chains events state cells =
 abbrev pub play_of : {S : Type 0} → Behaviour S → Chains → List PatternStatement → S → List Symbol → Play S
 play_of device chains statements state cells = play_events device chains (all_events statements) state cells
 
+-- a device plays the first n of what is run at the statements
+abbrev pub play_first : {S : Type 0} → Behaviour S → Chains → List PatternStatement → ℕ → S → List Symbol → Play S
+play_first device chains statements n state cells = play_events device chains (events_in (take n (all_runs statements))) state cells
+
 -- the device and the cells are those after some of what is run, from the front
 abbrev pub AreAfterSome : {S : Type 0} → Behaviour S → Chains → List PatternStatement → S → List Symbol → S → List Symbol → Type 0
 AreAfterSome device chains statements state cells state' cells' =
-    (n : ℕ) × (n ≤ length (all_runs statements)) × (state' ≡ (play_events device chains (events_in (take n (all_runs statements))) state cells).device) × (cells' ≡ (play_events device chains (events_in (take n (all_runs statements))) state cells).results.cells)
+    (n : ℕ) × (n ≤ length (all_runs statements)) × (state' ≡ (play_first device chains statements n state cells).device) × (cells' ≡ (play_first device chains statements n state cells).results.cells)
+
+-- the verdicts of scan calls, in order
+abbrev pub verdicts_of : List ScanResult → List Bool
+verdicts_of scans = map (λ scan. scan.passed) scans
+
+-- the device and the cells are those after some of what is run, from the front, and the verdicts of its scan calls were added
+abbrev pub HaveRunSome : {S : Type 0} → Behaviour S → Chains → List PatternStatement → S → List Symbol → List Bool → S → List Symbol → List Bool → Type 0
+HaveRunSome device chains statements state cells passed state' cells' passed' =
+    (n : ℕ) × (n ≤ length (all_runs statements)) × (state' ≡ (play_first device chains statements n state cells).device) × (cells' ≡ (play_first device chains statements n state cells).results.cells)
+    × (passed' ≡ passed ++ verdicts_of (play_first device chains statements n state cells).results.scans)

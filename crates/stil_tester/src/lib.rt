@@ -1,14 +1,16 @@
 //! Shifts scan chains and plays patterns, cell by cell.
 //!
 //! Floor: patterns, on stil_types and base_types.
-//! Contract: `shift_step`, `scan_call` and `play` do what `specs/Shifting.antt` and
+//! Contract: `shift_step`, `scan_call`, `play` and `Player` do what `specs/Shifting.antt` and
 //! `specs/Runs.antt` say, and `device_law` says that no device tells patterns of the same
 //! meaning apart. Begin with `specs/Symbols.antt`.
 #![tactic(auto)]
 
 mod chains;
 mod device;
+mod keeper;
 mod laws;
+mod player;
 mod playing;
 mod results;
 mod scan;
@@ -18,6 +20,7 @@ mod symbol;
 pub use chains::{ChainBits, Chains};
 pub use device::{Device, Hold, Mix, Told};
 pub use laws::{device_law, meaning_law};
+pub use player::Player;
 pub use playing::play;
 pub use results::{PlayLog, ScanResult};
 pub use scan::scan_call;
