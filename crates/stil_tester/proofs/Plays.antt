@@ -9,7 +9,7 @@ use Rattle.stil_tester.specs.declared.symbol.Symbol.{Symbol}
 use Rattle.stil_tester.specs.declared.chains.Chains.{Chains}
 use Rattle.stil_tester.specs.declared.results.ScanResult.{ScanResult}
 use Rattle.stil_tester.specs.Shifting.{scan_call}
-use Rattle.stil_tester.specs.Runs.{Event, Tells, Shifts, IsEventFor, IsPlaced, AreStatementsFor, runs_of, all_runs, events_in, events_of, all_events, Answer, AreAfterSome, Behaviour, Play, play_events, play_first, play_of}
+use Rattle.stil_tester.specs.Runs.{Event, Tells, Shifts, IsEventFor, IsPlaced, AreStatementsFor, runs_of, all_runs, events_in, events_of, all_events, Answer, AreAfterSome, HaveRunSome, verdicts_of, Behaviour, Play, play_events, play_first, play_of}
 use Rattle.stil_tester.specs.Playing.{HavePlayed, HavePlayedSome}
 use Rattle.stil_tester.proofs.WellFormed.{All-left, All-right}
 use Rattle.stil_tester.proofs.Rounds.{events_in-append}
@@ -137,6 +137,25 @@ pub after_some : {S K : Type 0} {device : Behaviour S} {keeps : K → List ScanR
 after_some {S} {device = device} {chains = chains} {state = state} {cells = cells} ss h =
     let same = first_played device chains ss state cells h.front h.rest h.parts in
     (length h.front, front_within (all_runs ss) h.front h.rest h.parts, h.played.device_is ∙ ap (λ (p : Play S). p.device) same, h.played.cells_are ∙ ap (λ (p : Play S). p.results.cells) same)
+
+-- what is run at one statement
+pub one_played : {S : Type 0} (device : Behaviour S) (chains : Chains) (s : PatternStatement) (state : S) (cells : List Symbol) → play_events device chains (events_in (runs_of s)) state cells ≡ play_of device chains (s ∷ []) state cells
+one_played device chains s state cells = ap (λ (es : List Event). play_events device chains es state cells) (sym (append-nil (events_of s)))
+
+-- the verdicts that a keeper keeps of some of what is run at one statement
+pub run_some : {S K : Type 0} {device : Behaviour S} {keeps : K → List ScanResult → List Bool → K → Type 0} {chains : Chains} {state state' : S} {cells cells' : List Symbol} {kept kept' : K} (s : PatternStatement) (passed passed' : List Bool)
+    → ((scans : List ScanResult) (others : List Bool) → keeps kept scans others kept' → passed' ≡ passed ++ verdicts_of scans)
+    → HavePlayedSome device keeps chains (runs_of s) state cells kept state' cells' kept' → HaveRunSome device chains (s ∷ []) state cells passed state' cells' passed'
+run_some {S} {device = device} {chains = chains} {state = state} {cells = cells} s passed passed' f h =
+    let runs : all_runs (s ∷ []) ≡ h.front ++ h.rest = append-nil (runs_of s) ∙ h.parts in
+    let p : Play S = play_events device chains (events_in h.front) state cells in
+    let same : p ≡ play_first device chains (s ∷ []) (length h.front) state cells = first_played device chains (s ∷ []) state cells h.front h.rest runs in (
+      length h.front,
+      front_within (all_runs (s ∷ [])) h.front h.rest runs,
+      h.played.device_is ∙ ap (λ (q : Play S). q.device) same,
+      h.played.cells_are ∙ ap (λ (q : Play S). q.results.cells) same,
+      f p.results.scans p.results.others h.played.kept_is ∙ ap (λ (q : Play S). passed ++ verdicts_of q.results.scans) same,
+    )
 
 -- a scan call of some statements fits the chains where those of all do
 pub events_at : (P : Event → Type 0) (ss : List PatternStatement) (i : ℕ) (d : PatternStatement) → i < length ss → All P (all_events ss) → All P (all_events (get_or ss i d ∷ []))
