@@ -57,8 +57,7 @@ KeepsMore {K} keeps = (old between new : K) (scans scans' : List ScanResult) (ot
 
 -- some runs were played, and then more
 module _ {S K : Type 0} {device : Behaviour S} {keeps : K → List ScanResult → List Bool → K → Type 0} {chains : Chains}
-  {state state' state'' : S} {cells cells' cells'' : List Symbol} {kept kept' kept'' : K} (more : KeepsMore keeps) where
-
+    {state state' state'' : S} {cells cells' cells'' : List Symbol} {kept kept' kept'' : K} (more : KeepsMore keeps) where
   pub played_more : {rs qs : List (List Event)} → HavePlayed device keeps chains rs state cells kept state' cells' kept' → HavePlayed device keeps chains qs state' cells' kept' state'' cells'' kept''
       → HavePlayed device keeps chains (rs ++ qs) state cells kept state'' cells'' kept''
   played_more {rs} {qs} h g =
@@ -66,8 +65,8 @@ module _ {S K : Type 0} {device : Behaviour S} {keeps : K → List ScanResult �
       let q : Play S = play_events device chains (events_in qs) state' cells' in
       let here : q ≡ play_events device chains (events_in qs) p.device p.results.cells = λ j. play_events device chains (events_in qs) (h.device_is j) (h.cells_are j) in
       let whole : play_events device chains (events_in (rs ++ qs)) state cells ≡ joined p q =
-          ap (λ (es : List Event). play_events device chains es state cells) (events_in-append rs qs)
-          ∙ (play_events-append device chains (events_in rs) (events_in qs) state cells ∙ ap (joined p) (sym here)) in
+      ap (λ (es : List Event). play_events device chains es state cells) (events_in-append rs qs)
+      ∙ (play_events-append device chains (events_in rs) (events_in qs) state cells ∙ ap (joined p) (sym here)) in
       record {
         device_is = g.device_is ∙ sym (ap (λ (r : Play S). r.device) whole);
         cells_are = g.cells_are ∙ sym (ap (λ (r : Play S). r.results.cells) whole);

@@ -89,7 +89,10 @@ impl Player {
             PatternStatement::Scan { call, .. } => kept.scan(self, chains, call, device, cells),
             PatternStatement::Other { text, .. } => kept.other(text.bytes(), device, cells),
             PatternStatement::Loop {
-                text, times, body, ..
+                text,
+                times,
+                body,
+                ..
             } => {
                 for _round in 0..*times {
                     self.play_round(chains, text.bytes(), body.as_slice(), device, cells, kept)?;
