@@ -31,8 +31,8 @@ use std::alloc::Global;
 use std::env;
 use std::rt::Clock;
 use std::time::Instant;
-use stil_types::ScanCall;
 use stil_tester::Chains;
+use stil_types::ScanCall;
 
 /// Calls that differ; the rounds go through them in turn.
 const CALLS: usize = 8;

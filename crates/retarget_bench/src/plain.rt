@@ -5,8 +5,8 @@ ghost use Rattle.stil_tester.specs.Shifting.{AreChains, HasCells, IsCallFor};
 
 use base_types::NoMemory;
 use std::alloc::Global;
-use stil_types::ScanCall;
 use stil_tester::{Chains, Symbol, scan_call};
+use stil_types::ScanCall;
 
 /// Shifts both calls step by step, the written one from the cells as the read one finds them: their
 /// verdict, or None where they have different ones or leave the cells different.

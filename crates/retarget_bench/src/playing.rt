@@ -10,8 +10,8 @@ use base_types::{NoMemory, Rows, Text};
 use std::alloc::Global;
 use std::process::Abort;
 use std::test::Fail;
-use stil_types::{PatternStatement, ScanCall};
-use stil_tester::{ChainBits, Chains, Device, Hold, Mix, Symbol, play, scan_call};
+use stil_tester::{ChainBits, Chains, Device, Hold, Mix, Player, Symbol, play, scan_call};
+use stil_types::{BodyStatement, PatternStatement, ScanCall};
 
 /// One chain of three cells.
 fn chain(
@@ -109,6 +109,67 @@ fn shows<D: Device + Drop>(
     Ok(())
 }
 
+/// Two rounds of a call that loads and compares, and a capture.
+fn two_rounds(alloc: Global, compare: &[u8]) -> Result<PatternStatement, NoMemory>
+    requires compare { length compare.now ≡ 3 }
+    requires compare_characters { IsTrue (list_all is_compare_character compare.now) }
+    ensures { IfOk result (λ statement. (chains : Chains) → length chains.chains ≡ 1 → AreStatementsFor chains (statement ∷ [])) }
+{
+    let loads = BodyStatement {
+        start: 9,
+        end: 26,
+        line: 15,
+        call: Some(call(alloc, b"011", compare)?),
+    };
+    let captures = BodyStatement {
+        start: 27,
+        end: 40,
+        line: 16,
+        call: None,
+    };
+    Ok(PatternStatement::Loop {
+        pattern: 0,
+        text: Text::copy(alloc, b"Loop 2 { Call load_unload; Call capture; }")?,
+        times: 2,
+        body: Rows::of(vec![in alloc; loads, captures]?),
+        line: 14,
+    })
+}
+
+/// Plays the two rounds, all kept and the verdicts alone.
+fn shows_rounds<D: Device + Drop>(
+    rt: &impl Abort,
+    alloc: Global,
+    chains: &Chains,
+    rounds: PatternStatement,
+    mut device: D,
+    mut other: D,
+    left: [Symbol; 3],
+) -> Result<(), Fail>
+    requires chains { AreChains chains.now }
+    requires cells { chains.now.cells ≡ 3 }
+    requires rounds { AreStatementsFor chains.now (rounds ∷ []) }
+{
+    let mut cells = [Symbol::Zero; 3];
+    let statements = vec![in alloc; rounds]?;
+    let log = play(alloc, chains, &statements, &mut device, &mut cells)?;
+    let scans = log.scans.as_slice();
+    let loaded = [Symbol::One, Symbol::One, Symbol::Zero];
+    assert_eq!(rt; scans.len(), 2);
+    assert_eq!(rt; scans[0].loaded.as_slice(), loaded.as_slice());
+    assert_eq!(rt; scans[1].loaded.as_slice(), loaded.as_slice());
+    assert_eq!(rt; [scans[0].passed, scans[1].passed], [false, true]);
+    assert_eq!(rt; log.others.as_slice(), [true; 6].as_slice());
+    assert_eq!(rt; cells, left);
+    let mut cells = [Symbol::Zero; 3];
+    let mut passed = Vec::new(alloc);
+    let mut player = Player::new(alloc, chains)?;
+    player.run(chains, &statements[0], &mut other, &mut cells, &mut passed)?;
+    assert_eq!(rt; passed.as_slice(), [false, true].as_slice());
+    assert_eq!(rt; cells, left);
+    Ok(())
+}
+
 #[test]
 fn three_flops(rt: HostRuntime) -> Result<(), Fail> {
     let alloc = rt.alloc();
@@ -134,6 +195,19 @@ fn three_flops_inverted(rt: HostRuntime) -> Result<(), Fail> {
     let new = patterns(alloc, b"110", b"XHL")?;
     shows(&rt, alloc, &read, &old, Hold, loaded, [true, false])?;
     shows(&rt, alloc, &written, &new, Hold, loaded, [true, false])
+}
+
+/// Each round goes on from the cells that the one before it left.
+#[test]
+fn three_flops_two_rounds(rt: HostRuntime) -> Result<(), Fail> {
+    let alloc = rt.alloc();
+    let chains = chain(alloc, [0, 1, 2], [false; 3], false)?;
+    let held = [Symbol::One, Symbol::One, Symbol::Zero];
+    let rounds = two_rounds(alloc, b"LHX")?;
+    shows_rounds(&rt, alloc, &chains, rounds, Hold, Hold, held)?;
+    let mixed = [Symbol::Zero, Symbol::One, Symbol::One];
+    let rounds = two_rounds(alloc, b"HLX")?;
+    shows_rounds(&rt, alloc, &chains, rounds, Mix, Mix, mixed)
 }
 
 #[test]

@@ -7,8 +7,8 @@ use call_checks::are_chains;
 use std::alloc::Global;
 use std::process::Abort;
 use std::test::Fail;
-use stil_types::ScanCall;
 use stil_tester::{ChainBits, Chains, Symbol};
+use stil_types::ScanCall;
 
 /// None given, and the strings of at most four of three characters.
 pub const STRINGS: usize = 122;

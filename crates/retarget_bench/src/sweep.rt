@@ -43,8 +43,8 @@ use std::alloc::Global;
 use std::mem;
 use std::process::Abort;
 use std::test::Fail;
-use stil_types::ScanCall;
 use stil_tester::Chains;
+use stil_types::ScanCall;
 
 /// How many bits two chains have.
 type Sizes = [usize; 2];

@@ -8,8 +8,8 @@ use retarget::{Map, judge_call, map_of, retarget_call};
 use std::alloc::Global;
 use std::process::Abort;
 use std::test::Fail;
-use stil_types::ScanCall;
 use stil_tester::{ChainBits, Chains};
+use stil_types::ScanCall;
 
 /// The cells and the parities of a chain, its output parity last.
 type Bits = (&'static [u32], &'static [bool]);
