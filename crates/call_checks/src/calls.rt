@@ -3,8 +3,8 @@ ghost use Rattle.stil_types.specs.Calls.{IsStringOf, is_compare_character, is_lo
 ghost use Rattle.stil_tester.specs.Shifting.{IsCallFor};
 
 use base_types::Text;
-use stil_types::ScanCall;
 use stil_tester::Chains;
+use stil_types::ScanCall;
 
 /// Whether a call has a place for a load and for a compare of each chain, of their characters
 /// alone, and shifts as often as its longest string has characters. It takes no memory.

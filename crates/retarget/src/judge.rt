@@ -5,8 +5,8 @@ ghost use Rattle.stil_types.specs.Calls.{compare_character, is_expectation};
 ghost use Rattle.retarget.specs.Judging.{IsLongCompare, IsAccepted, IsRefusal, LoadsCells, ComparesCells};
 
 use base_types::{Kind, Text};
-use stil_types::ScanCall;
 use stil_tester::Chains;
+use stil_types::ScanCall;
 
 /// Why a scan call can't be retargeted, or None: it shifts too seldom to reach every cell, or it
 /// expects something where no cell of before the call comes out (IEEE 1450-1999, Shift).

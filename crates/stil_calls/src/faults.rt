@@ -7,9 +7,9 @@ use crate::kinds::kind_of;
 use base_types::{Kind, Lines, NoMemory};
 use std::alloc::Global;
 use stil_parts::PartFault;
-use stil_types::StilHead;
 use stil_syntax::{Shape, Stretch, body_statement, shape_of};
 use stil_tokens::stil_tokens;
+use stil_types::StilHead;
 
 /// The line of a place of a text whose first line is this one.
 pub(crate) fn line_in(lines: &mut Lines<'_>, line: u64, at: u32) -> u64

@@ -7,8 +7,8 @@ use crate::scan::{has_unsound, is_foreign, is_long, is_short, is_vast, shifts_in
 use crate::twice::gives_twice;
 use base_types::{Kind, NoMemory};
 use std::alloc::Global;
-use stil_types::{ScanChainDecl, StilHead};
 use stil_syntax::{Item, Shape};
+use stil_types::{ScanChainDecl, StilHead};
 
 /// The least kind that holds of how much a scan call gives.
 fn size_kind(chains: &[ScanChainDecl], items: &[Item<'_>]) -> Option<Kind>

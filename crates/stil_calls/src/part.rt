@@ -7,9 +7,9 @@ use crate::faults::{fault_in, fault_or};
 use base_types::{Kind, Name, NoMemory};
 use std::alloc::Global;
 use stil_parts::{Part, PartFault, Point};
-use stil_types::StilHead;
 use stil_syntax::{NameText, Stretch, behind_labels, closes_nothing, is_word};
 use stil_tokens::stil_tokens;
+use stil_types::StilHead;
 
 /// The name of a Pattern by what stands behind its word.
 fn name_before<'a>(tokens: &Stretch<'a, '_>) -> Option<NameText<'a>>

@@ -5,8 +5,8 @@ ghost use Rattle.stil_types.specs.Calls.{most_bits};
 ghost use Rattle.stil_calls.specs.Scans.{has_name, gives_twice, data_for, port, given, is_port, is_foreign, is_unsound, has_unsound, count_in, reach_in, longer, shifts_in, bits_of, is_short, is_long, is_vast};
 
 use crate::repeats::{Side, count_of, is_sound, reach_of};
-use stil_types::ScanChainDecl;
 use stil_syntax::{Item, NameText};
+use stil_types::ScanChainDecl;
 
 /// The characters of a string at most.
 const MOST_CHARACTERS: u64 = 524288;

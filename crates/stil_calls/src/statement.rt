@@ -10,9 +10,9 @@ use crate::faults::{line_in, shape_fault};
 use crate::strings::call_of;
 use base_types::{Fault, FileKind, Lines, NoMemory, ReadFault, Rows, Text};
 use std::alloc::Global;
-use stil_types::{BodyStatement, PatternStatement, ScanCall, StilHead};
 use stil_syntax::{Shape, Stretch, body_statement, shape_of};
 use stil_tokens::stil_tokens;
+use stil_types::{BodyStatement, PatternStatement, ScanCall, StilHead};
 
 /// What a statement shifts in and compares, where it is a scan call.
 fn call_in(

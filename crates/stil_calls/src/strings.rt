@@ -7,8 +7,8 @@ use crate::repeats::{Side, write_out};
 use crate::scan::given;
 use base_types::{NoMemory, Rows, Text};
 use std::alloc::Global;
-use stil_types::{ScanCall, ScanChainDecl};
 use stil_syntax::Item;
+use stil_types::{ScanCall, ScanChainDecl};
 
 fn string_of(
     alloc: Global,
