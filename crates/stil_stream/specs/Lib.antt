@@ -1,0 +1,4 @@
+pub mod Holding
+pub mod Sayings
+pub mod Streams
+pub mod Walks
