@@ -1,5 +1,5 @@
 -- What the fields of a stream keep.
-use Rattle.std.specs.Prelude.{◌≡◌, ℕ, ◌≤◌, Bool, true, List, length, drop}
+use Rattle.std.specs.Prelude.{◌≡◌, ℕ, ◌≤◌, Bool, true, List, length, take, drop}
 use Rattle.stil_parts.specs.declared.gap.Point.{Point}
 use Rattle.stil_parts.specs.declared.scan.Scan.{Scan}
 use Rattle.stil_parts.specs.Coming.{largest, IsEarly}
@@ -15,5 +15,5 @@ pub record IsHeld (buffer : List ℕ) (at : ℕ) (hungry in_head : Bool) (p : Po
   pub bounded : length (drop at buffer) ≤ largest_kept
   pub small : hungry ≡ true → length (drop at buffer) ≤ largest
   pub begins : in_head ≡ true → p ≡ beginning
-  pub walked : in_head ≡ true → IsWalked (drop at buffer) walk
+  pub walked : in_head ≡ true → IsWalked (take largest (drop at buffer)) walk
   pub resumes : Resumes p.place (drop at buffer) done scan

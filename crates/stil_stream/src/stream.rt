@@ -3,7 +3,7 @@ ghost use Rattle.std.specs.Prelude.{◌≡◌, ◌≤◌, ◌<◌, ◌^◌, true
 ghost use Rattle.stil_parts.specs.Coming.{IsEarly, largest, moved};
 ghost use Rattle.stil_parts.specs.Deciding.{IsPart};
 ghost use Rattle.stil_calls.specs.Parts.{judge_of};
-ghost use Rattle.stil_stream.specs.Streams.{HeadAnswers, Answers, IsAccepted, fresh, fed, ended, refused, handed_out, fault_of, IsOfStil, name_in, largest_piece, largest_kept, beginning};
+ghost use Rattle.stil_stream.specs.Streams.{HeadAnswers, Answers, AnswersAny, AreGaps, IsAccepted, fresh, fed, ended, refused, handed_out, fault_of, IsOfStil, name_in, largest_piece, largest_kept, beginning};
 
 use crate::next::{HeadNext, Next};
 use crate::walk::{Walk, Walked, walk_at, walk_on};
@@ -98,6 +98,13 @@ impl StilStream {
         !self.ended && self.hungry
     }
 
+    /// Whether the head is still to come, so that it is to be asked for next. Takes no memory.
+    pub fn is_before_head(&self) -> bool
+        ensures value { result ≡ self.now.in_head }
+    {
+        self.in_head
+    }
+
     /// How many bytes were fed and not handed out. Takes no memory.
     pub fn kept(&self) -> usize
         ensures value { result ≡ length self.now.kept }
@@ -158,18 +165,26 @@ impl StilStream {
                 self.hungry = true;
                 Ok(Next::Want)
             }
-            Decision::Gap(len, point) => {
-                let text = Text::copy(alloc, &kept[..len])?;
-                self.hand_out(len, point);
-                Ok(Next::Gap {
-                    text,
-                    pattern: None,
-                })
-            }
+            Decision::Gap(len, point) => self.next_gap(alloc, len, point),
             Decision::Part(part, point) => self.next_part(alloc, head, part, point),
             Decision::Stop(fault) => Err(self.refuse(fault)),
             Decision::End => Ok(Next::End),
         }
+    }
+
+    /// The first bytes, which belong to no statement.
+    fn next_gap(&mut self, alloc: Global, len: usize, point: Point) -> Result<Next, ReadFault>
+        requires sound { self.old.fault ≡ None }
+        requires behind_head { self.old.in_head ≡ false }
+        requires is { AreGaps self.old.ended self.old.point self.old.kept len point }
+        ensures answers { AnswersAny self.old self.new result }
+    {
+        let text = Text::copy(alloc, &self.buffer[self.at..self.at + len])?;
+        self.hand_out(len, point);
+        Ok(Next::Gap {
+            text,
+            pattern: None,
+        })
     }
 
     /// What a part says that stands first, up to this point.

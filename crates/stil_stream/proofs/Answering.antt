@@ -1,0 +1,175 @@
+-- What each call answers, from what was decided.
+use Rattle.std.proofs.Common.{◌≡◌, ℕ, ◌+◌, ◌-◌, ◌<◌, ◌≤◌, Bool, true, false, List, [], ◌∷◌, ◌++◌, length, take, drop, map, Option, Some, None, Ok, refl, sym, ap, subst, ◌∙◌, arith, inl, inr}
+use Rattle.std.specs.Prelude.{◌||◌, nat_lt, is_some, if◌then◌else◌}
+use Rattle.std.specs.List.{flat_map}
+use Rattle.std.proofs.lemmas.Bool.{cases_Bool, lt-ltb, le-ltb, ltb-true, ltb-false}
+use Rattle.std.proofs.lemmas.List.{append-nil, take-append-drop, length-take-le, take_all}
+use Rattle.base_types.specs.declared.kind.Kind.TheVariants.{FileSize}
+use Rattle.base_types.specs.declared.fault.Fault.{Fault}
+use Rattle.stil_types.specs.declared.head.StilHead.{StilHead}
+use Rattle.stil_types.specs.declared.statement.PatternStatement.{PatternStatement}
+use Rattle.stil_parts.specs.declared.gap.Place.TheVariants.{Top}
+use Rattle.stil_parts.specs.declared.gap.Comment.TheVariants.{Outside}
+use Rattle.stil_parts.specs.declared.gap.Point.{Point}
+use Rattle.stil_parts.specs.declared.part.Part.{Part}
+use Rattle.stil_parts.specs.declared.part.Part.TheVariants.{Whole}
+use Rattle.stil_parts.specs.declared.part.PartFault.{PartFault}
+use Rattle.stil_parts.specs.Parts.{part_len}
+use Rattle.stil_parts.specs.Coming.{Event, Byte, Statement, Coming, before, stopped, fault_at, largest, moved, part_events, point_behind, to_come}
+use Rattle.stil_parts.specs.Heads.{head_end, head_len}
+use Rattle.stil_parts.specs.Deciding.{Follows, Shown, Takes, IsPart, IsStopped, IsWanting, verdict}
+use Rattle.stil_calls.specs.Parts.{judge_of}
+use Rattle.stil_stream.specs.Sayings.{Saying, Head, GapByte, Stated, Told, after, refusal, named, statement_at, said, told, told_before, told_behind, told_from}
+use Rattle.stil_stream.specs.Streams.{Streaming, hungry_again, refused, handed_out, beginning, shows_head, shows_part, is_shown, told_of, name_in, Wants, HandsOut, IsFirst}
+use Rattle.stil_stream.proofs.Telling.{told-on, said-bytes, said-part, said-statement, shown-behind, wants-behind, len-goes, len-ends, len-none, head-told}
+
+some-text : (kept : List ℕ) (n : ℕ) (text : List ℕ) → text ≡ take n kept → 0 < n → n ≤ length kept → 0 < length text
+some-text kept n text is some le = omega (arith, ap length is, length-take-le n kept le)
+
+-- bytes are handed out
+pub hands-out : (head : StilHead) (old new : Streaming) (n : ℕ) (q : Point) (text : List ℕ) (says : List Saying) → new ≡ handed_out n q old → text ≡ take n old.kept → old.fault ≡ None
+    → is_shown old ≡ true → ((more : List ℕ) → Follows old.ended more → told_of head old more ≡ after says (told_from head false q (drop n old.kept ++ more))) → HandsOut head old new text says
+hands-out head old new n q text says e is sound shown comes = record {
+  sound = sound;
+  shown = shown;
+  kept = sym (take-append-drop n old.kept) ∙ ap (λ (x : List ℕ). x ++ drop n old.kept) (sym is) ∙ ap (λ (s : Streaming). text ++ s.kept) (sym e);
+  comes = λ more follows. comes more follows ∙ ap (λ (s : Streaming). after says (told_of head s more)) (sym e);
+  rest = subst (λ (s : Streaming). s ≡ record old { kept = s.kept; in_head = false; point = s.point }) (sym e) refl;
+}
+
+-- behind the head
+module _ (head : StilHead) (old new : Streaming) (sound : old.fault ≡ None) (behind : old.in_head ≡ false) where
+  told-here : (more : List ℕ) → told_of head old more ≡ told_behind head old.point (old.kept ++ more)
+  told-here more = ap (λ (b : Bool). told_from head b old.point (old.kept ++ more)) behind
+
+  is-shown : Shown (judge_of head) old.ended old.point old.kept → is_shown old ≡ true
+  is-shown s = shown-behind (judge_of head) old.ended old.in_head old.point old.kept behind s
+
+  told-as : (es : List Event) (says : List Saying) (more : List ℕ) (q : Point) (rest : List ℕ) → flat_map (said head) es ≡ says
+      → to_come (judge_of head) old.point 0 (old.kept ++ more) ≡ before es (to_come (judge_of head) q 0 rest) → told_of head old more ≡ after says (told_from head false q rest)
+  told-as es says more q rest e c =
+      told-here more ∙ ap (told head) c ∙ told-on head es (to_come (judge_of head) q 0 rest)
+      ∙ ap (λ (xs : List Saying). after xs (told_from head false q rest)) e
+
+  pub gap-out : (n : ℕ) (q : Point) (text : List ℕ) → new ≡ handed_out n q old → text ≡ take n old.kept → Takes (judge_of head) old.ended old.point old.kept n (map Byte (take n old.kept)) q
+      → (0 < length text) × HandsOut head old new text (map GapByte text ++ named None)
+  gap-out n q text e is t =
+      let says : flat_map (said head) (map Byte (take n old.kept)) ≡ map GapByte text ++ named None = said-bytes head (take n old.kept) ∙ ap (map GapByte) (sym is) ∙ sym (append-nil (map GapByte text)) in
+      (some-text old.kept n text is t.some t.within,
+       hands-out head old new n q text _ e is sound (is-shown t.shown)
+           (λ more follows. told-as (map Byte (take n old.kept)) _ more q (drop n old.kept ++ more) says (t.comes more follows)))
+
+  -- a part without fault
+  part-out : (part : Part) (q : Point) (says : List Saying) → IsPart (judge_of head) old.ended old.point old.kept part q → judge_of head old.point part (take (part_len part) old.kept) ≡ None
+      → flat_map (said head) (part_events old.point part (take (part_len part) old.kept)) ≡ says → (more : List ℕ) → Follows old.ended more
+      → told_of head old more ≡ after says (told_from head false q (drop (part_len part) old.kept ++ more))
+  part-out part q says p fine e more follows =
+      let n = part_len part in
+      let es = part_events old.point part (take n old.kept) in
+      told-as es says more q (drop n old.kept ++ more) e
+      (p.comes more follows ∙ ap (λ (o : Option PartFault). verdict o (before es (to_come (judge_of head) q 0 (drop n old.kept ++ more)))) fine)
+
+  pub pass-out : (part : Part) (q : Point) (text : List ℕ) (name : Option (List ℕ)) → ((m : ℕ) → part ≡ Whole m → ⊥) → new ≡ handed_out (part_len part) q old → text ≡ take (part_len part) old.kept
+      → name ≡ name_in part (take (part_len part) old.kept) → IsPart (judge_of head) old.ended old.point old.kept part q → judge_of head old.point part (take (part_len part) old.kept) ≡ None
+      → (0 < length text) × HandsOut head old new text (map GapByte text ++ named name)
+  pass-out part q text name other e is same p fine =
+      let n = part_len part in
+      let says : flat_map (said head) (part_events old.point part (take n old.kept)) ≡ map GapByte text ++ named name =
+          said-part head old.point part (take n old.kept) other ∙ ap (λ (x : List ℕ). map GapByte x ++ named (name_in part (take n old.kept))) (sym is)
+          ∙ ap (λ (o : Option (List ℕ)). map GapByte text ++ named o) (sym same) in
+      (some-text old.kept n text is p.some p.within, hands-out head old new n q text _ e is sound (is-shown p.shown) (part-out part q _ p fine says))
+
+  pub statement-out : (n : ℕ) (q : Point) (text : List ℕ) (s : PatternStatement) → new ≡ handed_out n q old → text ≡ take n old.kept → statement_at head old.point (take n old.kept) ≡ Some s
+      → IsPart (judge_of head) old.ended old.point old.kept (Whole n) q → judge_of head old.point (Whole n) (take n old.kept) ≡ None → (0 < length text) × HandsOut head old new text (Stated s ∷ [])
+  statement-out n q text s e is denotes p fine =
+      (some-text old.kept n text is p.some p.within,
+       hands-out head old new n q text _ e is sound (is-shown p.shown) (part-out (Whole n) q _ p fine (said-statement head old.point (take n old.kept) s denotes)))
+
+  -- a fault
+  first-as : (f : PartFault) → new ≡ refused f old → Shown (judge_of head) old.ended old.point old.kept
+      → ((more : List ℕ) → Follows old.ended more → to_come (judge_of head) old.point 0 (old.kept ++ more) ≡ stopped f) → IsFirst head old new f
+  first-as f e shown comes = record {
+    sound = sound;
+    shown = is-shown shown;
+    comes = λ more follows. told-here more ∙ ap (told head) (comes more follows);
+    stored = e;
+  }
+
+  pub stop-first : (f : PartFault) → new ≡ refused f old → IsStopped (judge_of head) old.ended old.point old.kept f → IsFirst head old new f
+  stop-first f e s = first-as f e s.shown s.comes
+
+  pub part-first : (part : Part) (q : Point) (f : PartFault) → new ≡ refused f old → IsPart (judge_of head) old.ended old.point old.kept part q
+      → judge_of head old.point part (take (part_len part) old.kept) ≡ Some f → IsFirst head old new f
+  part-first part q f e p found = first-as f e p.shown (λ more follows. p.comes more follows ∙ ap (λ (o : Option PartFault). verdict o _) found)
+
+  pub wants-more : new ≡ hungry_again old → IsWanting (judge_of head) old.ended old.point old.kept → Wants old new
+  wants-more e w = record {
+    sound = sound;
+    nothing_shown = wants-behind (judge_of head) old.ended old.in_head old.point old.kept behind w.unended w.none;
+    same = e;
+  }
+
+-- where the head is still to come
+module _ (old new : Streaming) (sound : old.fault ≡ None) (before_head : old.in_head ≡ true) where
+  shown-head : (old.ended || shows_head old.kept) ≡ true → is_shown old ≡ true
+  shown-head e = ap (λ (b : Bool). old.ended || (if b then shows_head old.kept else shows_part old.point old.kept)) before_head ∙ e
+
+  pub head-wants : new ≡ hungry_again old → old.ended ≡ false → length old.kept ≤ largest → head_end false Outside 0 old.kept ≡ None → Wants old new
+  head-wants e unended few none = record {
+    sound = sound;
+    nothing_shown = ap (λ (b : Bool). b || (if old.in_head then shows_head old.kept else shows_part old.point old.kept)) unended
+        ∙ ap (λ (b : Bool). if b then shows_head old.kept else shows_part old.point old.kept) before_head
+        ∙ (rw (le-ltb largest (length old.kept) few, none) refl);
+    same = e;
+  }
+
+  or-large : (e : Bool) (kept : List ℕ) → largest < length kept → (e || shows_head kept) ≡ true
+  or-large true kept lt = refl
+  or-large false kept lt = rw (lt-ltb largest (length kept) lt) refl
+
+  or-right : (a b : Bool) → b ≡ true → (a || b) ≡ true
+  or-right true b e = refl
+  or-right false b e = e
+
+  or-end : (e : Bool) (kept : List ℕ) (n : ℕ) → head_end false Outside 0 kept ≡ Some n → (e || shows_head kept) ≡ true
+  or-end e kept n h = or-right e (shows_head kept) (or-right (nat_lt largest (length kept)) (is_some (head_end false Outside 0 kept)) (ap is_some h))
+
+  pub head-large : (head : StilHead) → new ≡ refused (fault_at FileSize 0) old → largest < length old.kept → head_end false Outside 0 (take largest old.kept) ≡ None
+      → IsFirst head old new (fault_at FileSize 0)
+  head-large head e large none = record {
+    sound = sound;
+    shown = shown-head (or-large old.ended old.kept large);
+    comes = λ more follows. ap (λ (b : Bool). told_from head b old.point (old.kept ++ more)) before_head ∙ ap (told_before head old.point (old.kept ++ more)) (len-none old.kept more large none);
+    stored = e;
+  }
+
+  head-as : (head : StilHead) (n : ℕ) (q : Point) (text : List ℕ) → new ≡ handed_out n q old → text ≡ take n old.kept → q ≡ moved old.point text Top Outside → n ≤ length old.kept → is_shown old ≡ true
+      → ((more : List ℕ) → Follows old.ended more → head_len (old.kept ++ more) ≡ Some n) → HandsOut head old new text (Head text ∷ [])
+  head-as head n q text e is point within shown len =
+      hands-out head old new n q text (Head text ∷ []) e is sound shown
+      (λ more follows.
+          ap (λ (b : Bool). told_from head b old.point (old.kept ++ more)) before_head ∙ head-told head old.point old.kept more n within (len more follows)
+          ∙ ap (λ (t : List ℕ). after (Head t ∷ []) (told_from head false (moved old.point t Top Outside) (drop n old.kept ++ more))) (sym is)
+          ∙ ap (λ (r : Point). after (Head text ∷ []) (told_from head false r (drop n old.kept ++ more))) (sym point))
+
+  goes-shown : (limit n : ℕ) → limit ≤ length old.kept → (length old.kept ≤ largest → limit ≡ length old.kept) → head_end false Outside 0 (take limit old.kept) ≡ Some n → (old.ended || shows_head old.kept) ≡ true
+  goes-shown limit n within all h = elim (cases_Bool (nat_lt largest (length old.kept))) [
+    | inl e ↦ or-large old.ended old.kept (ltb-true largest (length old.kept) e)
+    | inr e ↦ (
+        let few = ltb-false largest (length old.kept) e in
+        let whole : take limit old.kept ≡ old.kept = take_all limit old.kept (omega (arith, all few)) in
+        or-end old.ended old.kept n (sym (ap (head_end false Outside 0) whole) ∙ h))
+  ]
+
+  -- the head's end is shown by the first bytes, or is there as the input ended
+  pub head-out : (head : StilHead) (last : Bool) (n limit : ℕ) (q : Point) (text : List ℕ) → new ≡ handed_out n q old → text ≡ take n old.kept → q ≡ moved old.point text Top Outside
+      → limit ≤ length old.kept → limit ≤ largest → (length old.kept ≤ largest → limit ≡ length old.kept) → (last ≡ true → (old.ended ≡ true) × (length old.kept ≤ largest))
+      → head_end last Outside 0 (take limit old.kept) ≡ Some n → n ≤ length (take limit old.kept) → HandsOut head old new text (Head text ∷ [])
+  head-out head true n limit q text e is point within small all closed h le =
+      let c = closed refl in
+      let whole : take limit old.kept ≡ old.kept = take_all limit old.kept (omega (arith, all c.1)) in
+      head-as head n q text e is point (omega (arith, ap length whole)) (shown-head (ap (λ (b : Bool). b || shows_head old.kept) c.0))
+      (λ more follows. len-ends old.kept n more c.1 (subst (λ (b : Bool). Follows b more) c.0 follows) (sym (ap (head_end true Outside 0) whole) ∙ h))
+  head-out head false n limit q text e is point within small all closed h le =
+      head-as head n q text e is point (omega (arith, length-take-le limit old.kept within)) (shown-head (goes-shown limit n within all h))
+      (λ more follows. len-goes old.kept limit within small n more h)
