@@ -25,7 +25,7 @@ use Rattle.stil_parts.proofs.Ends.{Went, Ended, Opened, stepped, end_goes, end_e
 use Rattle.stil_parts.proofs.Scans.{later-none}
 use Rattle.stil_parts.proofs.Resumed.{resumed, resumed-none, resumed-some, resumed-reaches}
 use Rattle.stil_parts.proofs.GapLemmas.{gap-stable, gap-two, outside-one, gap-within}
-use Rattle.stil_stream.specs.Walks.{IsPassing}
+use Rattle.stil_stream.specs.Walks.{holds, IsPassing}
 use Rattle.stil_stream.proofs.Forgetting.{forget, beside-ends, known-goes, pattern-opens, together}
 
 -- a word that is shown before the text ends is known
@@ -105,14 +105,14 @@ word-opens last s (b ∷ bs) n e = elim (stepped s b) [
 -- an end has a byte at least
 ends-some : (last : Bool) (s : Scan) (x : List ℕ) (f : Found) → end_of last s x ≡ Some f → f.opens ≡ false → 0 < f.len
 unfolding end_of
-ends-some last s [] f e no = elim (cases_Bool (last && at_brace s)) [
-  | inl t ↦ absurd (let k : Some (found 0 true) ≡ Some f = sym (rw (t, end_of) refl) ∙ e in let l : found 0 true ≡ f = cc in true≢false (ap (λ (g : Found). g.opens) l ∙ no))
+ends-some last s [] f e plain = elim (cases_Bool (last && at_brace s)) [
+  | inl t ↦ absurd (let k : Some (found 0 true) ≡ Some f = sym (rw (t, end_of) refl) ∙ e in let l : found 0 true ≡ f = cc in true≢false (ap (λ (g : Found). g.opens) l ∙ plain))
   | inr t ↦ absurd (let k : None ≡ Some f = sym (rw (t, end_of) refl) ∙ e in cc)
 ]
-ends-some last s (b ∷ bs) f e no = elim (stepped s b) [
+ends-some last s (b ∷ bs) f e plain = elim (stepped s b) [
   | Went t h ↦ (let w = later-some 1 (end_of last t bs) f (sym (end_goes last s b bs t h) ∙ e) in omega (arith, w.len))
   | Ended h ↦ (let l : found 1 false ≡ f = (let k = sym (end_ends last s b bs h) ∙ e in cc) in let m : 1 ≡ f.len = ap (λ (g : Found). g.len) l in omega arith)
-  | Opened h ↦ absurd (let l : found 0 true ≡ f = (let k = sym (end_opens last s b bs h) ∙ e in cc) in true≢false (ap (λ (g : Found). g.opens) l ∙ no))
+  | Opened h ↦ absurd (let l : found 0 true ≡ f = (let k = sym (end_opens last s b bs h) ∙ e in cc) in true≢false (ap (λ (g : Found). g.opens) l ∙ plain))
 ]
 
 -- fewer bytes show no end
@@ -145,16 +145,36 @@ reaches-front s t x done n r le within =
       shallow = r.shallow;
     }
 
+-- a scan of all bytes but the last of a statement
+pub whole-reaches : (s t u : Scan) (x : List ℕ) (done n : ℕ) → Reaches s x done t → HasFound false x done t (found n false) → HasReached false (take (n - 1) x) done t u
+    → Reaches s (take (n - 1) x) (n - 1) u
+whole-reaches s t u x done n r h k =
+    let lt = before-end s t x done n r h in
+    let within = h.within in
+    let front = reaches-front s t x done (n - 1) r (omega arith) (omega arith) in
+    let len : length (take (n - 1) x) ≡ n - 1 = length-take-le (n - 1) x (omega arith) in
+    subst (λ (m : ℕ). Reaches s (take (n - 1) x) m u) len (resumed-reaches s t (take (n - 1) x) done front u k)
+
+-- such a scan finds nothing
+pub whole-open : (s t : Scan) (x : List ℕ) (done n : ℕ) (f : Found) → Reaches s x done t → HasFound false x done t (found n false) → HasFound false (take (n - 1) x) done t f → ⊥
+whole-open s t x done n f r h k =
+    let lt = before-end s t x done n r h in
+    let within = h.within in
+    let front = reaches-front s t x done (n - 1) r (omega arith) (omega arith) in
+    let none = none-before s x (n - 1) (found n false) (resumed-some s t x done r false (found n false) h) (omega arith) (omega arith) in
+    let some = resumed-some s t (take (n - 1) x) done front false f k in
+    absurd (let q = sym none ∙ some in cc)
+
 -- the byte that ends a statement
-module _ (u : Scan) (b : ℕ) (bs : List ℕ) (f : Found) (e : end_of false u (b ∷ bs) ≡ Some f) (no : f.opens ≡ false) (one : f.len ≡ 1) where
+module _ (u : Scan) (b : ℕ) (bs : List ℕ) (f : Found) (e : end_of false u (b ∷ bs) ≡ Some f) (plain : f.opens ≡ false) (one : f.len ≡ 1) where
   last-byte : Ends ≡ step u b
   last-byte = elim (stepped u b) [
     | Went t h ↦ absurd (
         let w = later-some 1 (end_of false t bs) f (sym (end_goes false u b bs t h) ∙ e) in
-        let some = ends-some false t bs (found w.found_len w.opens) w.is (sym w.same ∙ no) in
+        let some = ends-some false t bs (found w.found_len w.opens) w.is (sym w.same ∙ plain) in
         omega (arith, w.len))
     | Ended h ↦ h
-    | Opened h ↦ absurd (let l : found 0 true ≡ f = (let k = sym (end_opens false u b bs h) ∙ e in cc) in true≢false (ap (λ (g : Found). g.opens) l ∙ no))
+    | Opened h ↦ absurd (let l : found 0 true ≡ f = (let k = sym (end_opens false u b bs h) ∙ e in cc) in true≢false (ap (λ (g : Found). g.opens) l ∙ plain))
   ]
 
 -- no gap is shown, whatever follows, where the word is
@@ -210,13 +230,22 @@ of-some : (P : Type 0) (y : List ℕ) → 0 < length y → ((b : ℕ) (bs : List
 of-some P [] some f = absurd (omega arith)
 of-some P (b ∷ bs) some f = f b bs refl
 
+pub holds-some : (o : Option Bool) → true ≡ holds o → o ≡ Some true
+holds-some None e = absurd (true≢false e)
+holds-some (Some is) e = ap (λ (b : Bool). Some b) (sym e)
+
+pub holds-other : (o : Option Bool) → false ≡ holds o → o ≡ Some true → ⊥
+holds-other None e t = absurd (cc)
+holds-other (Some is) e t = let k : is ≡ true = cc in false≢true (e ∙ k)
+
 -- where no gap is shown
 module _ (c : Comment) (x : List ℕ) (no_gap : (gap_at Top c x).len ≡ 0) where
   here-at : (last : Bool) → word_of last (begin Start) x ≡ Some true → head_turn last c x ≡ Some Here
   here-at last w = turn-at-word last c x no_gap ∙ ap (λ (o : Option Bool). statement_turn o (end_of last (begin (Known false)) x)) w
 
-  pub opens-here : (last : Bool) (done n : ℕ) (t : Scan) → Reaches (begin Start) x done t → HasFound false x done t (found n true) → head_turn last c x ≡ Some Here
-  opens-here last done n t r h = here-at last (word-opens last (begin Start) x n (resumed-some (begin Start) t x done r false (found n true) h))
+  pub opens-here : (last : Bool) (done : ℕ) (t : Scan) (f : Found) → Reaches (begin Start) x done t → HasFound false x done t f → f.opens ≡ true → head_turn last c x ≡ Some Here
+  opens-here last done t f r h e =
+      here-at last (word-opens last (begin Start) x f.len (resumed-some (begin Start) t x done r false f h ∙ ap (λ (b : Bool). Some (found f.len b)) e))
 
   -- where a scan of all bytes shows no end
   module _ (u : Scan) (r : Reaches (begin Start) x (length x) u) where
@@ -243,14 +272,14 @@ module _ (c : Comment) (x : List ℕ) (no_gap : (gap_at Top c x).len ≡ 0) wher
         ∙ ap (λ (s : Scan). later (length x) (end_of last s [])) t.same ∙ ap (later (length x)) (no-end last (run (begin Start) x))
 
     open-as : (last : Bool) (o : Option Bool) → (o ≡ Some true → ⊥) → statement_turn o (end_of last (begin (Known false)) x) ≡ None
-    open-as last None no = refl
-    open-as last (Some true) no = absurd (no refl)
-    open-as last (Some false) no = ap (statement_turn (Some false)) (open-end last)
+    open-as last None plain = refl
+    open-as last (Some true) plain = absurd (plain refl)
+    open-as last (Some false) plain = ap (statement_turn (Some false)) (open-end last)
 
     pub shown-open : (last : Bool) → (word_shown last u.word ≡ Some true → ⊥) → head_turn last c x ≡ None
-    shown-open last no =
+    shown-open last plain =
         turn-at-word last c x no_gap ∙ ap (λ (o : Option Bool). statement_turn o (end_of last (begin (Known false)) x)) (word-is last)
-        ∙ open-as last (word_shown last u.word) no
+        ∙ open-as last (word_shown last u.word) plain
 
   -- where they hold a whole statement, whose last byte a scan has come to
   module _ (n : ℕ) (u : Scan) (found_at : end_of false (begin Start) x ≡ Some (found n false)) (some : 0 < n) (within : n ≤ length x)

@@ -8,29 +8,17 @@ use Rattle.stil_parts.specs.declared.gap.Place.TheVariants.{Top}
 use Rattle.stil_parts.specs.declared.gap.Comment.TheVariants.{Outside}
 use Rattle.stil_parts.specs.declared.gap.Point.{Point}
 use Rattle.stil_parts.specs.declared.scan.Scan.{Scan}
-use Rattle.stil_parts.specs.Scanner.{run}
 use Rattle.stil_parts.specs.Gaps.{gap_at}
 use Rattle.stil_parts.specs.Parts.{begin_at, part_at}
 use Rattle.stil_parts.specs.Coming.{Judge, largest, next_turn, IsEarly}
 use Rattle.stil_parts.specs.Resuming.{Resumes}
-use Rattle.stil_parts.proofs.PartStable.{nothing-in-nothing}
 use Rattle.stil_parts.proofs.Resumed.{reaches-more}
-use Rattle.stil_parts.specs.Parts.{word_at}
 use Rattle.stil_stream.specs.declared.walk.Walk.{Walk}
 use Rattle.stil_stream.specs.Streams.{beginning, largest_kept, shows_part}
 use Rattle.stil_stream.specs.Walks.{IsWalked}
 use Rattle.stil_stream.specs.Holding.{IsHeld}
-use Rattle.stil_stream.proofs.Walking.{walk-more, walk-seen, passed-none}
+use Rattle.stil_stream.proofs.Walking.{resumes-begin, walk-more, passed-none}
 use Rattle.stil_stream.proofs.Telling.{turn-shows}
-
-pub resumes-begin : (place : Place) (bytes : List ℕ) (s : Scan) → s ≡ begin_at place → Resumes place bytes 0 s
-unfolding run
-resumes-begin place bytes s e = record {
-  within = omega arith;
-  none = nothing-in-nothing false (word_at place);
-  ran = sym e;
-  shallow = let k : s.depth ≡ 0 = ap (λ (t : Scan). t.depth) e in omega arith;
-}
 
 -- a walk at the beginning of a text
 pub walk-fresh : (bytes : List ℕ) (w : Walk) → w ≡ record { passed = 0; comment = Outside; done = 0; scan = begin_at Top } → IsWalked bytes w

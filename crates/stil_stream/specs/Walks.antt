@@ -12,6 +12,11 @@ use Rattle.stil_stream.specs.declared.walk.Front.TheVariants as fronts
 use Rattle.stil_stream.specs.declared.walk.Walked.{Walked}
 use Rattle.stil_stream.specs.declared.walk.Walked.TheVariants as walks
 
+-- what is known holds
+abbrev pub holds : Option Bool → Bool
+holds None = false
+holds (Some is) = is
+
 -- so many bytes later
 abbrev pub plus : ℕ → Option ℕ → Option ℕ
 plus n None = None

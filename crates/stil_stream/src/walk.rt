@@ -5,7 +5,7 @@ ghost use Rattle.stil_parts.specs.Resuming.{Resumes};
 ghost use Rattle.stil_parts.specs.Parts.{begin_at};
 ghost use Rattle.stil_parts.specs.Gaps.{gap_at};
 ghost use Rattle.stil_parts.specs.Scanner.{HasFound};
-ghost use Rattle.stil_stream.specs.Walks.{IsWalked, IsFront, WalkedOn};
+ghost use Rattle.stil_stream.specs.Walks.{holds, IsWalked, IsFront, WalkedOn};
 
 use stil_parts::{Comment, Place, Scan, Scanned, Word, begin_at, gap_at, scan_on};
 
@@ -65,14 +65,16 @@ fn is_pattern(word: Word) -> bool
     }
 }
 
-/// Whether the word is `Pattern`, where that is known; `last` tells whether the text goes no further.
-fn shown(last: bool, word: Word) -> Option<bool>
-    ensures { result ≡ word_shown last word }
+/// Whether the word is known to be `Pattern`; `last` tells whether the text goes no further.
+fn shows_pattern(last: bool, word: Word) -> bool
+    ensures { result ≡ holds (word_shown last word) }
 {
+    if last {
+        return is_pattern(word);
+    }
     match word {
-        Word::Known(is) => Some(is),
-        _ if last => Some(is_pattern(word)),
-        _ => None,
+        Word::Known(is) => is,
+        _ => false,
     }
 }
 
@@ -88,10 +90,8 @@ fn front_of(last: bool, comment: Comment, bytes: &[u8], done: usize, scan: Scan)
     match scan_on(false, bytes, done, scan) {
         Scanned::Found(found) if found.opens => Front::Here,
         Scanned::Found(found) => whole_front(last, comment, bytes, done, scan, found.len),
-        Scanned::Reached(now) => match shown(last, now.word) {
-            Some(true) => Front::Here,
-            _ => Front::Open(now),
-        },
+        Scanned::Reached(now) if shows_pattern(last, now.word) => Front::Here,
+        Scanned::Reached(now) => Front::Open(now),
     }
 }
 
