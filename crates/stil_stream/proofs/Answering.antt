@@ -1,11 +1,14 @@
 -- What each call answers, from what was decided.
-use Rattle.std.proofs.Common.{◌≡◌, ℕ, ◌+◌, ◌-◌, ◌<◌, ◌≤◌, Bool, true, false, List, [], ◌∷◌, ◌++◌, length, take, drop, map, Option, Some, None, Ok, refl, sym, ap, subst, ◌∙◌, arith, inl, inr}
+use Rattle.std.proofs.Common.{◌≡◌, ℕ, ◌+◌, ◌-◌, ◌<◌, ◌≤◌, Bool, true, false, List, [], ◌∷◌, ◌++◌, length, take, drop, map, Option, Some, None, Err, refl, sym, ap, subst, ◌∙◌, arith, inl, inr}
 use Rattle.std.specs.Prelude.{◌||◌, nat_lt, is_some, if◌then◌else◌}
 use Rattle.std.specs.List.{flat_map}
 use Rattle.std.proofs.lemmas.Bool.{cases_Bool, lt-ltb, le-ltb, ltb-true, ltb-false}
-use Rattle.std.proofs.lemmas.List.{append-nil, take-append-drop, length-take-le, take_all}
+use Rattle.std.proofs.lemmas.List.{append-nil, take-append-drop, length-take-le, take_all, take_rest}
 use Rattle.base_types.specs.declared.kind.Kind.TheVariants.{FileSize}
+use Rattle.base_types.specs.FirstFault.{IsFirstFault}
 use Rattle.base_types.specs.declared.fault.Fault.{Fault}
+use Rattle.base_types.specs.declared.fault.ReadFault.{ReadFault}
+use Rattle.base_types.specs.declared.fault.ReadFault.TheVariants as faults
 use Rattle.stil_types.specs.declared.head.StilHead.{StilHead}
 use Rattle.stil_types.specs.declared.statement.PatternStatement.{PatternStatement}
 use Rattle.stil_parts.specs.declared.gap.Place.TheVariants.{Top}
@@ -15,12 +18,15 @@ use Rattle.stil_parts.specs.declared.part.Part.{Part}
 use Rattle.stil_parts.specs.declared.part.Part.TheVariants.{Whole}
 use Rattle.stil_parts.specs.declared.part.PartFault.{PartFault}
 use Rattle.stil_parts.specs.Parts.{part_len}
-use Rattle.stil_parts.specs.Coming.{Event, Byte, Statement, Coming, before, stopped, fault_at, largest, moved, part_events, point_behind, to_come}
+use Rattle.stil_parts.specs.Coming.{Event, Byte, Statement, Judge, Coming, before, stopped, fault_at, largest, moved, part_events, point_behind, to_come}
 use Rattle.stil_parts.specs.Heads.{head_end, head_len}
 use Rattle.stil_parts.specs.Deciding.{Follows, Shown, Takes, IsPart, IsStopped, IsWanting, verdict}
+use Rattle.stil_calls.specs.Faults.{fault_in}
+use Rattle.stil_calls.specs.Statements.{DenotesStatement, HoldsInStatement}
 use Rattle.stil_calls.specs.Parts.{judge_of}
 use Rattle.stil_stream.specs.Sayings.{Saying, Head, GapByte, Stated, Told, after, refusal, named, statement_at, said, told, told_before, told_behind, told_from}
-use Rattle.stil_stream.specs.Streams.{Streaming, hungry_again, refused, handed_out, beginning, shows_head, shows_part, is_shown, told_of, name_in, Wants, HandsOut, IsFirst}
+use Rattle.stil_stream.specs.Streams.{Streaming, hungry_again, refused, handed_out, beginning, shows_head, shows_part, is_shown, told_of, name_in, text_of, fault_of, Wants, HandsOut, IsFirst, AreGaps, Answers}
+use Rattle.stil_stream.proofs.Stating.{text-is, fault-one}
 use Rattle.stil_stream.proofs.Telling.{told-on, said-bytes, said-part, said-statement, shown-behind, wants-behind, len-goes, len-ends, len-none, head-told}
 
 some-text : (kept : List ℕ) (n : ℕ) (text : List ℕ) → text ≡ take n kept → 0 < n → n ≤ length kept → 0 < length text
@@ -100,7 +106,35 @@ module _ (head : StilHead) (old new : Streaming) (sound : old.fault ≡ None) (b
 
   pub part-first : (part : Part) (q : Point) (f : PartFault) → new ≡ refused f old → IsPart (judge_of head) old.ended old.point old.kept part q
       → judge_of head old.point part (take (part_len part) old.kept) ≡ Some f → IsFirst head old new f
-  part-first part q f e p found = first-as f e p.shown (λ more follows. p.comes more follows ∙ ap (λ (o : Option PartFault). verdict o _) found)
+  part-first part q f e p found =
+      let n = part_len part in
+      first-as f e p.shown (λ more follows. p.comes more follows
+          ∙ ap (λ (o : Option PartFault). verdict o (before (part_events old.point part (take n old.kept)) (to_come (judge_of head) q 0 (drop n old.kept ++ more)))) found)
+
+  -- a statement that the bytes denote
+  judge-whole : (n : ℕ) (text : List ℕ) → judge_of head old.point (Whole n) text ≡ fault_in head old.point.line text
+  unfolding judge_of
+  judge-whole n text = refl
+
+  pub denoted-out : (n : ℕ) (q : Point) (pattern line : ℕ) (text : List ℕ) (s : PatternStatement) → text ≡ take n old.kept → pattern ≡ old.point.opened - 1 → line ≡ old.point.line
+      → DenotesStatement head pattern line text s → new ≡ handed_out n q old → IsPart (judge_of head) old.ended old.point old.kept (Whole n) q
+      → (0 < length (text_of s)) × HandsOut head old new (text_of s) (Stated s ∷ [])
+  denoted-out n q pattern line text s is number place d e p =
+      let here = subst (λ (l : ℕ). DenotesStatement head (old.point.opened - 1) l (take n old.kept) s) place
+          (subst (λ (m : ℕ). DenotesStatement head m line (take n old.kept) s) number (subst (λ (t : List ℕ). DenotesStatement head pattern line t s) is d)) in
+      statement-out n q (text_of s) s e (text-is head (old.point.opened - 1) old.point.line (take n old.kept) _ s here.is) here.is p (judge-whole n (take n old.kept) ∙ here.sound)
+
+  -- or its first fault
+  pub refused-whole : (n : ℕ) (q : Point) (line : ℕ) (text : List ℕ) (fault : Fault) (f : PartFault) → text ≡ take n old.kept → line ≡ old.point.line → IsFirstFault (HoldsInStatement head line text) fault
+      → fault ≡ fault_of f → new ≡ refused f old → IsPart (judge_of head) old.ended old.point old.kept (Whole n) q → IsFirst head old new f
+  refused-whole n q line text fault f is place first same e p =
+      let here = subst (λ (l : ℕ). HoldsInStatement head l (take n old.kept) fault) place (subst (λ (t : List ℕ). HoldsInStatement head line t fault) is first.holds) in
+      let one : here.0 ≡ f = fault-one here.0 f (sym here.1.1 ∙ same) in
+      part-first (Whole n) q f e p (judge-whole n (take n old.kept) ∙ here.1.0 ∙ ap (λ (g : PartFault). Some g) one)
+
+  -- such an answer
+  pub answers-first : (f : PartFault) (answer : ReadFault) → answer ≡ faults.Fault (fault_of f) → IsFirst head old new f → Answers head old new (Err answer)
+  answers-first f answer e first = subst (λ (a : ReadFault). Answers head old new (Err a)) (sym e) (f, (refl, inr first))
 
   pub wants-more : new ≡ hungry_again old → IsWanting (judge_of head) old.ended old.point old.kept → Wants old new
   wants-more e w = record {
@@ -173,3 +207,16 @@ module _ (old new : Streaming) (sound : old.fault ≡ None) (before_head : old.i
   head-out head false n limit q text e is point within small all closed h le =
       head-as head n q text e is point (omega (arith, length-take-le limit old.kept within)) (shown-head (goes-shown limit n within all h))
       (λ more follows. len-goes old.kept limit within small n more h)
+
+-- a slice of the buffer
+pub slice-is : (old : Streaming) (buffer now text : List ℕ) (at n : ℕ) → drop at buffer ≡ old.kept → now ≡ buffer → text ≡ take (at + n - at) (drop at now) → text ≡ take n old.kept
+slice-is old buffer now text at n k e is =
+    let m : at + n - at ≡ n = omega arith in
+    is ∙ ap (λ (i : ℕ). take i (drop at now)) m ∙ ap (λ (x : List ℕ). take n (drop at x)) e ∙ ap (take n) k
+
+pub rest-is : (buffer now : List ℕ) (at : ℕ) → now ≡ buffer → take (length now - at) (drop at now) ≡ drop at buffer
+rest-is buffer now at e = take_rest now at ∙ ap (drop at) e
+
+-- the same of the bytes kept, where they were decided by another name
+pub gaps-here : (last : Bool) (p : Point) (x kept : List ℕ) (n : ℕ) (q : Point) → x ≡ kept → ((judge : Judge) → Takes judge last p x n (map Byte (take n x)) q) → AreGaps last p kept n q
+gaps-here last p x kept n q e t = subst (λ (y : List ℕ). AreGaps last p y n q) e (record { within = (t (λ r part text. None)).within; early = (t (λ r part text. None)).early; takes = t })

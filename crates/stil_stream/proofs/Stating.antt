@@ -26,7 +26,7 @@ text-is head pattern line text (Scan items) s e = same-text _ s e
 text-is head pattern line text (Loop times body) s e = same-text _ s e
 
 -- the line of a spot
-line_at_spot : Spot → ℕ
+abbrev line_at_spot : Spot → ℕ
 line_at_spot (spots.Line line) = line
 line_at_spot (spots.Cell name) = 0
 line_at_spot spots.Nowhere = 0

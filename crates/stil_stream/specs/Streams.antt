@@ -1,5 +1,5 @@
 -- A STIL text that comes in pieces, as its callers see it, and what each call answers.
-use Rattle.std.specs.Prelude.{◌≡◌, ℕ, ◌<◌, Bool, true, false, ◌||◌, nat_lt, if◌then◌else◌, ◌⊎◌, List, [], ◌∷◌, ◌++◌, length, take, drop, map, Option, Some, None, is_some, Result, Ok, Err}
+use Rattle.std.specs.Prelude.{◌≡◌, ℕ, ◌<◌, ◌≤◌, Bool, true, false, ◌||◌, nat_lt, if◌then◌else◌, ◌⊎◌, List, [], ◌∷◌, ◌++◌, length, take, drop, map, Option, Some, None, is_some, Result, Ok, Err}
 use Rattle.base_types.specs.declared.fault.FileKind.TheVariants.{Stil}
 use Rattle.base_types.specs.declared.fault.Fault.{Fault}
 use Rattle.base_types.specs.declared.fault.ReadFault.{ReadFault}
@@ -14,7 +14,7 @@ use Rattle.stil_parts.specs.declared.gap.Point.{Point}
 use Rattle.stil_parts.specs.declared.part.PartFault.{PartFault}
 use Rattle.stil_parts.specs.Gaps.{gap_at}
 use Rattle.stil_parts.specs.Parts.{part_at}
-use Rattle.stil_parts.specs.Coming.{Byte, Judge, largest}
+use Rattle.stil_parts.specs.Coming.{Byte, Judge, largest, IsEarly}
 use Rattle.stil_parts.specs.Heads.{head_end}
 use Rattle.stil_parts.specs.Deciding.{Follows, Takes}
 use Rattle.stil_parts.specs.declared.part.Part.{Part}
@@ -168,8 +168,10 @@ IsAccepted head (Ok nexts.End) = Unit {0}
 IsAccepted head (Err fault) = Unit {0}
 
 -- the first n bytes belong to no statement, whatever the head is and whatever follows
-abbrev pub AreGaps : Bool → Point → List ℕ → ℕ → Point → Type 0
-AreGaps last p kept n q = (judge : Judge) → Takes judge last p kept n (map Byte (take n kept)) q
+pub record AreGaps (last : Bool) (p : Point) (kept : List ℕ) (n : ℕ) (q : Point) : Type 0 where
+  pub within : n ≤ length kept
+  pub early : IsEarly q
+  pub takes : (judge : Judge) → Takes judge last p kept n (map Byte (take n kept)) q
 
 -- an answer that doesn't hang on the head
 abbrev pub AnswersAny : Streaming → Streaming → Result Next ReadFault → Type 0
