@@ -1,6 +1,6 @@
 -- What each call answers, from what was decided.
 use Rattle.std.proofs.Common.{◌≡◌, ℕ, ◌+◌, ◌-◌, ◌<◌, ◌≤◌, Bool, true, false, List, [], ◌∷◌, ◌++◌, length, take, drop, map, Option, Some, None, Err, refl, sym, ap, subst, ◌∙◌, arith, inl, inr}
-use Rattle.std.specs.Prelude.{◌||◌, nat_lt, is_some, if◌then◌else◌}
+use Rattle.std.specs.Prelude.{min, ◌||◌, nat_lt, is_some, if◌then◌else◌}
 use Rattle.std.specs.List.{flat_map}
 use Rattle.std.proofs.lemmas.Bool.{cases_Bool, lt-ltb, le-ltb, ltb-true, ltb-false}
 use Rattle.std.proofs.lemmas.List.{append-nil, take-append-drop, length-take-le, take_all, take_rest}
@@ -25,7 +25,7 @@ use Rattle.stil_calls.specs.Faults.{fault_in}
 use Rattle.stil_calls.specs.Statements.{DenotesStatement, HoldsInStatement}
 use Rattle.stil_calls.specs.Parts.{judge_of}
 use Rattle.stil_stream.specs.Sayings.{Saying, Head, GapByte, Stated, Told, after, refusal, named, statement_at, said, told, told_before, told_behind, told_from}
-use Rattle.stil_stream.specs.Streams.{Streaming, hungry_again, refused, handed_out, beginning, shows_head, shows_part, is_shown, told_of, name_in, text_of, fault_of, Wants, HandsOut, IsFirst, AreGaps, Answers}
+use Rattle.stil_stream.specs.Streams.{Streaming, hungry_again, refused, handed_out, beginning, shows_head, shows_part, is_shown, told_of, name_in, text_of, fault_of, Wants, HandsOut, IsFirst, AreGaps, Answers, HeadAnswers}
 use Rattle.stil_stream.proofs.Stating.{text-is, fault-one}
 use Rattle.stil_stream.proofs.Telling.{told-on, said-bytes, said-part, said-statement, shown-behind, wants-behind, len-goes, len-ends, len-none, head-told}
 
@@ -129,12 +129,12 @@ module _ (head : StilHead) (old new : Streaming) (sound : old.fault ≡ None) (b
       → fault ≡ fault_of f → new ≡ refused f old → IsPart (judge_of head) old.ended old.point old.kept (Whole n) q → IsFirst head old new f
   refused-whole n q line text fault f is place first same e p =
       let here = subst (λ (l : ℕ). HoldsInStatement head l (take n old.kept) fault) place (subst (λ (t : List ℕ). HoldsInStatement head line t fault) is first.holds) in
-      let one : here.0 ≡ f = fault-one here.0 f (sym here.1.1 ∙ same) in
-      part-first (Whole n) q f e p (judge-whole n (take n old.kept) ∙ here.1.0 ∙ ap (λ (g : PartFault). Some g) one)
+      let one : here.0 ≡ f = fault-one here.0 f (sym here.2 ∙ same) in
+      part-first (Whole n) q f e p (judge-whole n (take n old.kept) ∙ here.1 ∙ ap (λ (g : PartFault). Some g) one)
 
   -- such an answer
   pub answers-first : (f : PartFault) (answer : ReadFault) → answer ≡ faults.Fault (fault_of f) → IsFirst head old new f → Answers head old new (Err answer)
-  answers-first f answer e first = subst (λ (a : ReadFault). Answers head old new (Err a)) (sym e) (f, (refl, inr first))
+  answers-first f answer e first = subst (λ (a : ReadFault). Answers head old new (Err a)) (sym e) (f, refl, inr first)
 
   pub wants-more : new ≡ hungry_again old → IsWanting (judge_of head) old.ended old.point old.kept → Wants old new
   wants-more e w = record {
@@ -220,3 +220,14 @@ rest-is buffer now at e = take_rest now at ∙ ap (drop at) e
 -- the same of the bytes kept, where they were decided by another name
 pub gaps-here : (last : Bool) (p : Point) (x kept : List ℕ) (n : ℕ) (q : Point) → x ≡ kept → ((judge : Judge) → Takes judge last p x n (map Byte (take n x)) q) → AreGaps last p kept n q
 gaps-here last p x kept n q e t = subst (λ (y : List ℕ). AreGaps last p y n q) e (record { within = (t (λ r part text. None)).within; early = (t (λ r part text. None)).early; takes = t })
+
+-- the first bytes, up to the limit
+pub limit-is : (x : List ℕ) (limit : ℕ) → limit ≡ min (length x) largest → take limit x ≡ take largest x
+limit-is x limit e = elim (cases_Bool (nat_lt largest (length x))) [
+  | inl l ↦ (let lt = ltb-true largest (length x) l in let k : limit ≡ largest = omega arith in ap (λ (n : ℕ). take n x) k)
+  | inr l ↦ (let le = ltb-false largest (length x) l in take_all limit x (omega arith) ∙ sym (take_all largest x le))
+]
+
+-- an answer that the head is too long
+pub answers-large : (old new : Streaming) (answer : ReadFault) → answer ≡ faults.Fault (fault_of (fault_at FileSize 0)) → ((head : StilHead) → IsFirst head old new (fault_at FileSize 0)) → HeadAnswers old new (Err answer)
+answers-large old new answer e first = subst (λ (a : ReadFault). HeadAnswers old new (Err a)) (sym e) (fault_at FileSize 0, refl, inr first)
