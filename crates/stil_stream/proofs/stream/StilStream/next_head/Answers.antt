@@ -1,5 +1,6 @@
 use Rattle.std.proofs.Common.{◌≡◌, ℕ, ◌-◌, ◌≤◌, ◌<◌, List, length, take, drop, true, false, Some, None, refl, ap, sym, subst, ◌∙◌, arith}
 use Rattle.std.specs.Prelude.{min}
+use Rattle.std.proofs.lemmas.Bool.{true≢false, leb-true}
 use Rattle.stil_parts.specs.declared.gap.Point.{Point}
 use Rattle.stil_parts.specs.declared.gap.Place.TheVariants.{Top}
 use Rattle.stil_parts.specs.declared.gap.Comment.TheVariants.{Outside}
@@ -50,7 +51,10 @@ returns-in_ok-text-in-End c =
       answers = λ head. head-out old c.hand_out.new.self sound c.requires.in_head head c.if-self.walk_on n limit c.behind_head-point.result text c.hand_out.ensures.value
           (c.in_ok-text-in-End.ensures.value ∙ ap (take n) k) point (omega (arith, c.min-limit.ensures, len)) (omega (arith, c.min-limit.ensures))
           (λ few. omega (arith, c.min-limit.ensures, len))
-          (λ e. ?)
+          (λ e. elim c.if-self.branch [
+            | then-self w ↦ let a = w.walk_on-is in let b = w.if-self.true in (sym (ap (λ (o : Streaming). o.ended) c.self.view_is) ∙ b, omega (arith, len, leb-true (length rest) largest (sym a ∙ e)))
+            | else-self w ↦ let a = w.walk_on-is in absurd (true≢false (sym e ∙ a ∙ w.if-self.false))
+          ])
           (sym (ap (λ (x : List ℕ). head_end c.if-self.walk_on Outside 0 (take limit x)) k) ∙ h.0) (omega (arith, h.1, ap (λ (x : List ℕ). length (take limit x)) k));
     }
 
