@@ -60,10 +60,11 @@ module _ (head : StilHead) (old new : Streaming) (sound : old.fault ≡ None) (b
   pub gap-out : (n : ℕ) (q : Point) (text : List ℕ) → new ≡ handed_out n q old → text ≡ take n old.kept → Takes (judge_of head) old.ended old.point old.kept n (map Byte (take n old.kept)) q
       → (0 < length text) × HandsOut head old new text (map GapByte text ++ named None)
   gap-out n q text e is t =
-      let says : flat_map (said head) (map Byte (take n old.kept)) ≡ map GapByte text ++ named None = said-bytes head (take n old.kept) ∙ ap (map GapByte) (sym is) ∙ sym (append-nil (map GapByte text)) in
-      (some-text old.kept n text is t.some t.within,
-       hands-out head old new n q text _ e is sound (is-shown t.shown)
-           (λ more follows. told-as (map Byte (take n old.kept)) _ more q (drop n old.kept ++ more) says (t.comes more follows)))
+      let says : flat_map (said head) (map Byte (take n old.kept)) ≡ map GapByte text ++ named None = said-bytes head (take n old.kept) ∙ ap (map GapByte) (sym is) ∙ sym (append-nil (map GapByte text)) in (
+        some-text old.kept n text is t.some t.within,
+        hands-out head old new n q text _ e is sound (is-shown t.shown)
+            (λ more follows. told-as (map Byte (take n old.kept)) _ more q (drop n old.kept ++ more) says (t.comes more follows)),
+      )
 
   -- a part without fault
   part-out : (part : Part) (q : Point) (says : List Saying) → IsPart (judge_of head) old.ended old.point old.kept part q → judge_of head old.point part (take (part_len part) old.kept) ≡ None
@@ -81,15 +82,16 @@ module _ (head : StilHead) (old new : Streaming) (sound : old.fault ≡ None) (b
   pass-out part q text name other e is same p fine =
       let n = part_len part in
       let says : flat_map (said head) (part_events old.point part (take n old.kept)) ≡ map GapByte text ++ named name =
-          said-part head old.point part (take n old.kept) other ∙ ap (λ (x : List ℕ). map GapByte x ++ named (name_in part (take n old.kept))) (sym is)
-          ∙ ap (λ (o : Option (List ℕ)). map GapByte text ++ named o) (sym same) in
+      said-part head old.point part (take n old.kept) other ∙ ap (λ (x : List ℕ). map GapByte x ++ named (name_in part (take n old.kept))) (sym is)
+      ∙ ap (λ (o : Option (List ℕ)). map GapByte text ++ named o) (sym same) in
       (some-text old.kept n text is p.some p.within, hands-out head old new n q text _ e is sound (is-shown p.shown) (part-out part q _ p fine says))
 
   pub statement-out : (n : ℕ) (q : Point) (text : List ℕ) (s : PatternStatement) → new ≡ handed_out n q old → text ≡ take n old.kept → statement_at head old.point (take n old.kept) ≡ Some s
       → IsPart (judge_of head) old.ended old.point old.kept (Whole n) q → judge_of head old.point (Whole n) (take n old.kept) ≡ None → (0 < length text) × HandsOut head old new text (Stated s ∷ [])
-  statement-out n q text s e is denotes p fine =
-      (some-text old.kept n text is p.some p.within,
-       hands-out head old new n q text _ e is sound (is-shown p.shown) (part-out (Whole n) q _ p fine (said-statement head old.point (take n old.kept) s denotes)))
+  statement-out n q text s e is denotes p fine = (
+    some-text old.kept n text is p.some p.within,
+    hands-out head old new n q text _ e is sound (is-shown p.shown) (part-out (Whole n) q _ p fine (said-statement head old.point (take n old.kept) s denotes)),
+  )
 
   -- a fault
   first-as : (f : PartFault) → new ≡ refused f old → Shown (judge_of head) old.ended old.point old.kept
@@ -109,7 +111,7 @@ module _ (head : StilHead) (old new : Streaming) (sound : old.fault ≡ None) (b
   part-first part q f e p found =
       let n = part_len part in
       first-as f e p.shown (λ more follows. p.comes more follows
-          ∙ ap (λ (o : Option PartFault). verdict o (before (part_events old.point part (take n old.kept)) (to_come (judge_of head) q 0 (drop n old.kept ++ more)))) found)
+      ∙ ap (λ (o : Option PartFault). verdict o (before (part_events old.point part (take n old.kept)) (to_come (judge_of head) q 0 (drop n old.kept ++ more)))) found)
 
   -- a statement that the bytes denote
   judge-whole : (n : ℕ) (text : List ℕ) → judge_of head old.point (Whole n) text ≡ fault_in head old.point.line text
@@ -121,7 +123,7 @@ module _ (head : StilHead) (old new : Streaming) (sound : old.fault ≡ None) (b
       → (0 < length (text_of s)) × HandsOut head old new (text_of s) (Stated s ∷ [])
   denoted-out n q pattern line text s is number place d e p =
       let here = subst (λ (l : ℕ). DenotesStatement head (old.point.opened - 1) l (take n old.kept) s) place
-          (subst (λ (m : ℕ). DenotesStatement head m line (take n old.kept) s) number (subst (λ (t : List ℕ). DenotesStatement head pattern line t s) is d)) in
+      (subst (λ (m : ℕ). DenotesStatement head m line (take n old.kept) s) number (subst (λ (t : List ℕ). DenotesStatement head pattern line t s) is d)) in
       statement-out n q (text_of s) s e (text-is head (old.point.opened - 1) old.point.line (take n old.kept) _ s here.is) here.is p (judge-whole n (take n old.kept) ∙ here.sound)
 
   -- or its first fault
@@ -182,9 +184,9 @@ module _ (old new : Streaming) (sound : old.fault ≡ None) (before_head : old.i
   head-as head n q text e is point within shown len =
       hands-out head old new n q text (Head text ∷ []) e is sound shown
       (λ more follows.
-          ap (λ (b : Bool). told_from head b old.point (old.kept ++ more)) before_head ∙ head-told head old.point old.kept more n within (len more follows)
-          ∙ ap (λ (t : List ℕ). after (Head t ∷ []) (told_from head false (moved old.point t Top Outside) (drop n old.kept ++ more))) (sym is)
-          ∙ ap (λ (r : Point). after (Head text ∷ []) (told_from head false r (drop n old.kept ++ more))) (sym point))
+      ap (λ (b : Bool). told_from head b old.point (old.kept ++ more)) before_head ∙ head-told head old.point old.kept more n within (len more follows)
+      ∙ ap (λ (t : List ℕ). after (Head t ∷ []) (told_from head false (moved old.point t Top Outside) (drop n old.kept ++ more))) (sym is)
+      ∙ ap (λ (r : Point). after (Head text ∷ []) (told_from head false r (drop n old.kept ++ more))) (sym point))
 
   goes-shown : (limit n : ℕ) → limit ≤ length old.kept → (length old.kept ≤ largest → limit ≡ length old.kept) → head_end false Outside 0 (take limit old.kept) ≡ Some n → (old.ended || shows_head old.kept) ≡ true
   goes-shown limit n within all h = elim (cases_Bool (nat_lt largest (length old.kept))) [

@@ -145,9 +145,11 @@ module _ (bytes : List ℕ) (n : ℕ) (c : Comment) (p : IsPassed bytes n c) whe
       → (last ≡ false) × (head_end false Outside 0 bytes ≡ None) × IsWalked bytes (record { passed = n; comment = c; done = length rest; scan = s })
   rest-open last rest s is l e r =
       let none : head_turn false c (drop n bytes) ≡ None = ap (λ (b : Bool). head_turn b c (drop n bytes)) (sym l) ∙ sym (ap (head_turn last c) is) ∙ e in
-      let all : n + length rest ≡ length bytes = omega (arith, ap length is, length-drop n bytes, p.within) in
-      (l, walk-open bytes n c p none,
-       walk-seen bytes (record { passed = n; comment = c; done = length rest; scan = s }) all p (subst (λ (y : List ℕ). Resumes Top y (length rest) s) is r))
+      let all : n + length rest ≡ length bytes = omega (arith, ap length is, length-drop n bytes, p.within) in (
+        l,
+        walk-open bytes n c p none,
+        walk-seen bytes (record { passed = n; comment = c; done = length rest; scan = s }) all p (subst (λ (y : List ℕ). Resumes Top y (length rest) s) is r),
+      )
 
   -- where all bytes are passed
   done-len : length bytes ≤ n → length (drop n bytes) ≡ 0
@@ -162,9 +164,11 @@ module _ (bytes : List ℕ) (n : ℕ) (c : Comment) (p : IsPassed bytes n c) whe
   pub done-open : (last : Bool) (w : Walk) → last ≡ false → length bytes ≤ n → w.passed ≡ n → w.comment ≡ c → Resumes Top (drop w.passed bytes) w.done w.scan
       → (last ≡ false) × (head_end false Outside 0 bytes ≡ None) × IsWalked bytes w
   done-open last w l ge e f r =
-      let all : w.passed + w.done ≡ length bytes = omega (arith, r.within, length-drop w.passed bytes, p.within) in
-      (l, at-nil bytes n c p false ∙ ap (plus n) (end-nil false c (drop n bytes) (done-len ge)),
-       walk-seen bytes w all (subst (λ (m : ℕ). IsPassed bytes m w.comment) (sym e) (subst (λ (d : Comment). IsPassed bytes n d) (sym f) p)) r)
+      let all : w.passed + w.done ≡ length bytes = omega (arith, r.within, length-drop w.passed bytes, p.within) in (
+        l,
+        at-nil bytes n c p false ∙ ap (plus n) (end-nil false c (drop n bytes) (done-len ge)),
+        walk-seen bytes w all (subst (λ (m : ℕ). IsPassed bytes m w.comment) (sym e) (subst (λ (d : Comment). IsPassed bytes n d) (sym f) p)) r,
+      )
 
 -- a walk that has seen some first bytes
 module _ (bytes : List ℕ) (w : Walk) (walked : IsWalked bytes w) where
@@ -182,8 +186,8 @@ module _ (bytes : List ℕ) (w : Walk) (walked : IsWalked bytes w) where
             ∙ ap (head_end last Outside 0) (append_assoc (take n bytes) (drop n bytes) more)
             ∙ walked.passed.same last (drop n bytes ++ more)
             ∙ ap (λ (y : List ℕ). plus w.passed (head_end last w.comment 0 y))
-                (sym (append_assoc (drop w.passed (take n bytes)) (drop n bytes) more)
-                ∙ ap (λ (y : List ℕ). y ++ more) (sym (drop-append-le w.passed (take n bytes) (drop n bytes) (omega (arith, len))) ∙ ap (drop w.passed) seen-split));
+            (sym (append_assoc (drop w.passed (take n bytes)) (drop n bytes) more)
+            ∙ ap (λ (y : List ℕ). y ++ more) (sym (drop-append-le w.passed (take n bytes) (drop n bytes) (omega (arith, len))) ∙ ap (drop w.passed) seen-split));
       }
 
   -- more bytes change nothing of it

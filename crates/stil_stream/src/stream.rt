@@ -12,7 +12,9 @@ use lane_kernels::count_byte;
 use std::alloc::Global;
 use std::marker::Model;
 use stil_calls::{judge_part, opened_name, read_statement};
-use stil_parts::{Comment, Decision, LARGEST, Part, PartFault, Place, Point, Scan, begin_at, decide, part_len};
+use stil_parts::{
+    Comment, Decision, LARGEST, Part, PartFault, Place, Point, Scan, begin_at, decide, part_len,
+};
 use stil_types::StilHead;
 
 /// A STIL text that comes in pieces. Contracts see the bytes fed and not handed out, whether the input is ended, whether a
@@ -126,7 +128,11 @@ impl StilStream {
         }
         let kept = &self.buffer[self.at..];
         let limit = kept.len().min(LARGEST);
-        match walk_on(self.ended && kept.len() <= LARGEST, &kept[..limit], self.walk) {
+        match walk_on(
+            self.ended && kept.len() <= LARGEST,
+            &kept[..limit],
+            self.walk,
+        ) {
             Walked::End(len) => {
                 let text = Text::copy(alloc, &kept[..len])?;
                 let point = behind_head(self.point, text.bytes());

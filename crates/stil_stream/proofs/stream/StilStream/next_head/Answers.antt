@@ -46,7 +46,7 @@ returns-in_ok-text-in-End c =
     let h = c.in-End.ensures.value in
     let sound = sym (ap (λ (o : Streaming). o.fault) c.self.view_is) ∙ c.in_default.is in
     let point : c.behind_head-point.result ≡ moved old.point text Top Outside =
-        c.behind_head-point.ensures.value ∙ ap (λ (t : List ℕ). moved s.point t Top Outside) c.bytes.ensures.value ∙ ap (λ (o : Streaming). moved o.point text Top Outside) c.self.view_is in
+    c.behind_head-point.ensures.value ∙ ap (λ (t : List ℕ). moved s.point t Top Outside) c.bytes.ensures.value ∙ ap (λ (o : Streaming). moved o.point text Top Outside) c.self.view_is in
     record {
       answers = λ head. head-out old c.hand_out.new.self sound c.requires.in_head head c.if-self.walk_on n limit c.behind_head-point.result text c.hand_out.ensures.value
           (c.in_ok-text-in-End.ensures.value ∙ ap (take n) k) point (omega (arith, c.min-limit.ensures, len)) (omega (arith, c.min-limit.ensures))

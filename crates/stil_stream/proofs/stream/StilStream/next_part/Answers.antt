@@ -15,7 +15,7 @@ returns-in-Some c =
     let text = take (s.at + c.part_len-len.result - s.at) (drop s.at now) in
     let is = slice-is old s.buffer.items now text s.at c.part_len-len.result (ap (λ (o : Streaming). o.kept) c.self.view_is) c.deref.ensures.value refl ∙ ap (λ (n : ℕ). take n old.kept) c.part_len-len.ensures.value in
     let here = ap (λ (t : List ℕ). judge_of c.args.head.now old.point part t) (sym is) ∙ ap (λ (o : Streaming). judge_of c.args.head.now o.point part text) (sym c.self.view_is)
-        ∙ sym c.in_ok-fault.ensures.value ∙ c.in-Some.is in
+    ∙ sym c.in_ok-fault.ensures.value ∙ c.in-Some.is in
     let first = part-first c.args.head.now old c.refuse.new.self c.requires.sound c.requires.behind_head part c.args.point c.in-Some.fault c.refuse.ensures.value c.requires.is here in
     record { answers = answers-first c.args.head.now old c.refuse.new.self c.requires.sound c.requires.behind_head c.in-Some.fault c.refuse.result c.refuse.ensures.answer first; accepted = tt }
 
@@ -28,7 +28,7 @@ returns c =
     let text = take (s.at + c.part_len-len.result - s.at) (drop s.at now) in
     let is = slice-is old s.buffer.items now text s.at c.part_len-len.result (ap (λ (o : Streaming). o.kept) c.self.view_is) c.deref.ensures.value refl ∙ ap (λ (n : ℕ). take n old.kept) c.part_len-len.ensures.value in
     let fine = ap (λ (t : List ℕ). judge_of c.args.head.now old.point part t) (sym is) ∙ ap (λ (o : Streaming). judge_of c.args.head.now o.point part text) (sym c.self.view_is)
-        ∙ sym c.in_ok-fault.ensures.value ∙ c.in_default-2.is in
+    ∙ sym c.in_ok-fault.ensures.value ∙ c.in_default-2.is in
     record {
       answers = pass-out c.args.head.now old c.hand_out.new.self c.requires.sound c.requires.behind_head part c.args.point c.in_ok-text.text c.in_ok-pattern.pattern c.in_default.not-Whole
           (c.hand_out.ensures.value ∙ ap (λ (n : ℕ). handed_out n c.args.point old) c.part_len-len.ensures.value) (c.in_ok-text.ensures.value ∙ is)

@@ -59,7 +59,7 @@ returns-in-Stop-clause-answers c =
     let f = c.in-Stop.fault in
     let sound = sym (ap (λ (o : Streaming). o.fault) c.self.view_is) ∙ c.in_default.is in
     let stopped = subst (λ (o : Streaming). IsStopped judge o.ended o.point o.kept f) c.self.view_is
-        (subst (λ (x : List ℕ). IsStopped judge s.ended s.point x f) (rest-is s.buffer.items now s.at c.deref.ensures.value) (c.in-Stop.ensures.value judge)) in
+    (subst (λ (x : List ℕ). IsStopped judge s.ended s.point x f) (rest-is s.buffer.items now s.at c.deref.ensures.value) (c.in-Stop.ensures.value judge)) in
     answers-first c.args.head.now old c.refuse.new.self sound c.requires.behind_head f c.refuse.result c.refuse.ensures.answer
     (stop-first c.args.head.now old c.refuse.new.self sound c.requires.behind_head f c.refuse.ensures.value stopped)
 

@@ -21,5 +21,5 @@ returns-in-Err-Fault-clause-answers c =
     let text = take (s.at + c.args.len - s.at) (drop s.at now) in
     let is = slice-is old s.buffer.items now text s.at c.args.len (ap (λ (o : Streaming). o.kept) c.self.view_is) c.deref.ensures.value refl in
     let first = refused-whole c.args.head.now old c.refuse.new.self c.requires.sound c.requires.behind_head c.args.len c.args.point s.point.line text _ c.part_fault.result is
-        (ap (λ (o : Streaming). o.point.line) c.self.view_is) (rw c.in-Err-Fault.field-0-is at c.in-Err-Fault.ensures.first) (sym c.in-Err-Fault.fault-is ∙ c.part_fault.ensures) c.refuse.ensures.value c.requires.is in
+    (ap (λ (o : Streaming). o.point.line) c.self.view_is) (rw c.in-Err-Fault.field-0-is at c.in-Err-Fault.ensures.first) (sym c.in-Err-Fault.fault-is ∙ c.part_fault.ensures) c.refuse.ensures.value c.requires.is in
     answers-first c.args.head.now old c.refuse.new.self c.requires.sound c.requires.behind_head c.part_fault.result c.refuse.result c.refuse.ensures.answer first
