@@ -18,14 +18,14 @@ use Rattle.stil_parts.specs.declared.part.Part.{Part}
 use Rattle.stil_parts.specs.declared.part.Part.TheVariants.{Whole}
 use Rattle.stil_parts.specs.declared.part.PartFault.{PartFault}
 use Rattle.stil_parts.specs.Parts.{part_len}
-use Rattle.stil_parts.specs.Coming.{Event, Byte, Statement, Judge, Coming, before, stopped, fault_at, largest, moved, part_events, point_behind, to_come}
+use Rattle.stil_parts.specs.Coming.{Event, Byte, Judge, before, stopped, fault_at, largest, moved, part_events, to_come}
 use Rattle.stil_parts.specs.Heads.{head_end, head_len}
 use Rattle.stil_parts.specs.Deciding.{Follows, Shown, Takes, IsPart, IsStopped, IsWanting, verdict}
 use Rattle.stil_calls.specs.Faults.{fault_in}
 use Rattle.stil_calls.specs.Statements.{DenotesStatement, HoldsInStatement}
 use Rattle.stil_calls.specs.Parts.{judge_of}
-use Rattle.stil_stream.specs.Sayings.{Saying, Head, GapByte, Stated, Told, after, refusal, named, statement_at, said, told, told_before, told_behind, told_from}
-use Rattle.stil_stream.specs.Streams.{Streaming, hungry_again, refused, handed_out, beginning, shows_head, shows_part, is_shown, told_of, name_in, text_of, fault_of, Wants, HandsOut, IsFirst, AreGaps, Answers, HeadAnswers}
+use Rattle.stil_stream.specs.Sayings.{Saying, Head, GapByte, Stated, after, named, statement_at, said, told, told_before, told_behind, told_from}
+use Rattle.stil_stream.specs.Streams.{Streaming, hungry_again, refused, handed_out, shows_head, shows_part, is_shown, told_of, name_in, text_of, fault_of, Wants, HandsOut, IsFirst, AreGaps, Answers, HeadAnswers}
 use Rattle.stil_stream.proofs.Stating.{text-is, fault-one}
 use Rattle.stil_stream.proofs.Telling.{told-on, said-bytes, said-part, said-statement, shown-behind, wants-behind, len-goes, len-ends, len-none, head-told}
 

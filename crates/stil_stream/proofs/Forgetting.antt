@@ -1,15 +1,15 @@
 -- Beside a scan of a part goes one that knows of no Pattern, up to the brace that opens one; and what is known of a word stays.
-use Rattle.std.proofs.Common.{◌≡◌, ℕ, ◌+◌, ◌-◌, Bool, true, false, cond, ◌&&◌, eqb, List, [], ◌∷◌, Option, Some, None, refl, sym, ap, ◌∙◌}
+use Rattle.std.proofs.Common.{◌≡◌, ℕ, ◌+◌, ◌-◌, Bool, true, false, cond, ◌&&◌, eqb, List, [], ◌∷◌, None, refl, sym, ap, ◌∙◌}
 use Rattle.stil_tokens.specs.StilTokens.{is_blank, is_quote, other_mark}
 use Rattle.stil_parts.specs.declared.word.Word.{Word}
 use Rattle.stil_parts.specs.declared.word.Word.TheVariants.{Known}
-use Rattle.stil_parts.specs.Words.{word_byte, word_ends, word_settled, word_text, word_colon, quote_word, mark_word, names_pattern}
+use Rattle.stil_parts.specs.Words.{word_byte, quote_word, mark_word, names_pattern}
 use Rattle.stil_parts.specs.declared.scan.Mode.{Mode}
 use Rattle.stil_parts.specs.declared.scan.Mode.TheVariants.{Free, Run, Slash, Quoted, Line, Block, Brace, Note}
 use Rattle.stil_parts.specs.declared.scan.Scan.{Scan}
 use Rattle.stil_parts.specs.declared.scan.After.{After}
 use Rattle.stil_parts.specs.declared.scan.After.TheVariants.{Goes, Ends, Opens}
-use Rattle.stil_parts.specs.Scanner.{goes, mark_step, run_step, free_step, block_step, inside, mode_step, step, end_of, run, later}
+use Rattle.stil_parts.specs.Scanner.{goes, mark_step, run_step, free_step, inside, mode_step, step, end_of, run, later}
 use Rattle.stil_parts.proofs.Scans.{later-none}
 use Rattle.stil_parts.proofs.Ends.{Went, Ended, Opened, stepped, end_goes, end_ends, end_opens, run_goes}
 

@@ -1,5 +1,5 @@
 -- What a scan shows of the front of a head: the word of its first statement, and where this ends.
-use Rattle.std.proofs.Common.{◌≡◌, ℕ, suc, ◌+◌, ◌-◌, ◌<◌, ◌≤◌, Bool, true, false, ◌&&◌, List, [], ◌∷◌, ◌++◌, length, take, drop, Option, Some, None, refl, sym, ap, subst, ◌∙◌, arith, append_assoc, length-drop, inl, inr}
+use Rattle.std.proofs.Common.{◌≡◌, ℕ, ◌+◌, ◌-◌, ◌<◌, ◌≤◌, Bool, true, false, ◌&&◌, List, [], ◌∷◌, ◌++◌, length, take, drop, Option, Some, None, refl, sym, ap, subst, ◌∙◌, arith, append_assoc, length-drop, inl, inr}
 use Rattle.std.specs.Prelude.{nat_lt}
 use Rattle.std.proofs.lemmas.Bool.{cases_Bool, cases_eq, ne_eqb, lt-ltb, true≢false, false≢true}
 use Rattle.std.proofs.lemmas.List.{append-nil, take-append-drop, length-take-le, take-take, take_all}
@@ -11,9 +11,8 @@ use Rattle.stil_parts.specs.declared.word.Word.{Word}
 use Rattle.stil_parts.specs.declared.word.Word.TheVariants.{Start, Letters, Text, Joined, After, Known}
 use Rattle.stil_parts.specs.declared.word.Word.TheVariants as words
 use Rattle.stil_parts.specs.declared.scan.Scan.{Scan}
-use Rattle.stil_parts.specs.declared.scan.After.TheVariants.{Goes, Ends, Opens}
+use Rattle.stil_parts.specs.declared.scan.After.TheVariants.{Goes, Ends}
 use Rattle.stil_parts.specs.declared.scan.Found.{Found}
-use Rattle.stil_parts.specs.declared.head.HeadTurn.{HeadTurn}
 use Rattle.stil_parts.specs.declared.head.HeadTurn.TheVariants.{Passed, Here}
 use Rattle.stil_parts.specs.Words.{word_shown, word_settled, names_pattern}
 use Rattle.stil_parts.specs.Scanner.{free_step, mode_step, step, found, later, at_brace, end_of, run, HasReached, HasFound}
@@ -23,7 +22,7 @@ use Rattle.stil_parts.specs.Heads.{word_of, statement_turn, head_turn}
 use Rattle.stil_parts.specs.Resuming.{Reaches}
 use Rattle.stil_parts.proofs.Ends.{Went, Ended, Opened, stepped, end_goes, end_ends, end_opens, run_goes, later-some, end-stable, end-on, end-within}
 use Rattle.stil_parts.proofs.Scans.{later-none}
-use Rattle.stil_parts.proofs.Resumed.{resumed, resumed-none, resumed-some, resumed-reaches}
+use Rattle.stil_parts.proofs.Resumed.{resumed-some, resumed-reaches}
 use Rattle.stil_parts.proofs.GapLemmas.{gap-stable, gap-two, outside-one, gap-within}
 use Rattle.stil_stream.specs.Walks.{holds, IsPassing}
 use Rattle.stil_stream.proofs.Forgetting.{forget, beside-ends, known-goes, pattern-opens, together}

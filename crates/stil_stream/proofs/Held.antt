@@ -1,9 +1,8 @@
 -- What the fields of a stream keep.
-use Rattle.std.proofs.Common.{◌≡◌, ℕ, ◌+◌, ◌-◌, ◌≤◌, ◌<◌, Bool, true, false, List, [], ◌++◌, length, take, drop, Option, Some, None, refl, sym, ap, subst, ◌∙◌, arith, length-append, length-drop, inl, inr}
-use Rattle.std.specs.Prelude.{nat_lt, min, is_some, ◌||◌}
+use Rattle.std.proofs.Common.{◌≡◌, ℕ, ◌+◌, ◌≤◌, Bool, true, false, List, [], ◌++◌, length, take, drop, None, refl, sym, ap, subst, ◌∙◌, arith, length-append, length-drop, inl, inr}
+use Rattle.std.specs.Prelude.{nat_lt, is_some, ◌||◌}
 use Rattle.std.proofs.lemmas.Bool.{cases_Bool, ltb-false, false≢true, true≢false}
-use Rattle.std.proofs.lemmas.List.{take-append-le, take-append-drop, drop-append-le, take-take, take_all, length-take-le}
-use Rattle.stil_parts.specs.declared.gap.Place.{Place}
+use Rattle.std.proofs.lemmas.List.{take-append-le, take-append-drop, drop-append-le, take-take, take_all}
 use Rattle.stil_parts.specs.declared.gap.Place.TheVariants.{Top}
 use Rattle.stil_parts.specs.declared.gap.Comment.TheVariants.{Outside}
 use Rattle.stil_parts.specs.declared.gap.Point.{Point}
@@ -14,7 +13,7 @@ use Rattle.stil_parts.specs.Coming.{Judge, largest, next_turn, IsEarly}
 use Rattle.stil_parts.specs.Resuming.{Resumes}
 use Rattle.stil_parts.proofs.Resumed.{reaches-more}
 use Rattle.stil_stream.specs.declared.walk.Walk.{Walk}
-use Rattle.stil_stream.specs.Streams.{beginning, largest_kept, shows_part}
+use Rattle.stil_stream.specs.Streams.{beginning, shows_part}
 use Rattle.stil_stream.specs.Walks.{IsWalked}
 use Rattle.stil_stream.specs.Holding.{IsHeld}
 use Rattle.stil_stream.proofs.Walking.{resumes-begin, walk-more, passed-none}

@@ -1,18 +1,15 @@
 -- A statement that bytes denote has these bytes; and a fault of a text tells its kind and line.
-use Rattle.std.proofs.Common.{◌≡◌, ℕ, List, Option, Some, None, refl, sym, ap, ◌∙◌}
+use Rattle.std.proofs.Common.{◌≡◌, ℕ, List, Some, sym, ap, ◌∙◌}
 use Rattle.base_types.specs.declared.kind.Kind.{Kind}
 use Rattle.base_types.specs.declared.fault.Fault.{Fault}
 use Rattle.base_types.specs.declared.fault.Spot.{Spot}
 use Rattle.base_types.specs.declared.fault.Spot.TheVariants as spots
 use Rattle.stil_types.specs.declared.head.StilHead.{StilHead}
 use Rattle.stil_types.specs.declared.statement.PatternStatement.{PatternStatement}
-use Rattle.stil_types.specs.declared.statement.PatternStatement.TheVariants as statements
 use Rattle.stil_parts.specs.declared.part.PartFault.{PartFault}
 use Rattle.stil_syntax.specs.declared.shape.Shape.{Shape}
 use Rattle.stil_syntax.specs.declared.shape.Shape.TheVariants.{NoForm, Unsupported, Other, Scan, Loop}
-use Rattle.stil_syntax.specs.Shapes.{body_statements}
-use Rattle.stil_calls.specs.Scans.{call_of}
-use Rattle.stil_calls.specs.Statements.{statement_of, body_of}
+use Rattle.stil_calls.specs.Statements.{statement_of}
 use Rattle.stil_stream.specs.Streams.{text_of, fault_of}
 
 same-text : (a s : PatternStatement) → Some a ≡ Some s → text_of s ≡ text_of a

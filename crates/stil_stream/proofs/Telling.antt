@@ -1,9 +1,9 @@
 -- What a text says, by what comes of it.
-use Rattle.std.proofs.Common.{◌≡◌, ℕ, ◌+◌, ◌<◌, ◌≤◌, Bool, true, false, List, [], ◌∷◌, ◌++◌, length, take, drop, map, Option, Some, None, refl, sym, ap, ◌∙◌, arith, length-append, inl, inr}
+use Rattle.std.proofs.Common.{◌≡◌, ℕ, ◌<◌, ◌≤◌, Bool, true, false, List, [], ◌∷◌, ◌++◌, length, take, drop, map, Option, Some, None, refl, sym, ap, ◌∙◌, arith, length-append, inl, inr}
 use Rattle.std.specs.Prelude.{nat_lt, is_some, ◌||◌, if◌then◌else◌}
 use Rattle.std.specs.List.{flat_map}
 use Rattle.std.proofs.lemmas.Bool.{cases_Bool, lt-ltb, le-ltb}
-use Rattle.std.proofs.lemmas.List.{append-nil, take-append-drop, take-append-le, drop-append-le, take-take, take_all}
+use Rattle.std.proofs.lemmas.List.{append-nil, take-append-drop, take-append-le, drop-append-le, take-take}
 use Rattle.std.proofs.lemmas.Grind.{flat_map-append}
 use Rattle.stil_types.specs.declared.head.StilHead.{StilHead}
 use Rattle.stil_types.specs.declared.statement.PatternStatement.{PatternStatement}
@@ -16,11 +16,11 @@ use Rattle.stil_parts.specs.Gaps.{gap_at}
 use Rattle.stil_parts.specs.Parts.{part_at}
 use Rattle.stil_parts.specs.Coming.{Event, Byte, Opened, Statement, Judge, Coming, before, largest, moved, part_events, turn_in, next_turn}
 use Rattle.stil_parts.specs.Heads.{head_end, head_len}
-use Rattle.stil_parts.specs.Deciding.{Follows, Shown}
+use Rattle.stil_parts.specs.Deciding.{Shown}
 use Rattle.stil_parts.proofs.Turns.{turn-gap, turn-none}
 use Rattle.stil_parts.proofs.HeadStable.{head-stays}
 use Rattle.stil_calls.specs.Parts.{opened_in}
-use Rattle.stil_stream.specs.Sayings.{Saying, Head, GapByte, Stated, after, refusal, named, stated, statement_at, said, told, told_before, told_from}
+use Rattle.stil_stream.specs.Sayings.{Saying, Head, GapByte, Stated, after, named, stated, statement_at, said, told, told_before, told_from}
 use Rattle.stil_stream.specs.Streams.{name_in, shows_head, shows_part}
 
 pub told-on : (head : StilHead) (es : List Event) (c : Coming) → told head (before es c) ≡ after (flat_map (said head) es) (told head c)

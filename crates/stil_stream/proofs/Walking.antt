@@ -8,7 +8,6 @@ use Rattle.stil_parts.specs.declared.gap.Place.TheVariants.{Top}
 use Rattle.stil_parts.specs.declared.gap.Comment.{Comment}
 use Rattle.stil_parts.specs.declared.gap.Comment.TheVariants.{Outside}
 use Rattle.stil_parts.specs.declared.scan.Scan.{Scan}
-use Rattle.stil_parts.specs.declared.head.HeadTurn.{HeadTurn}
 use Rattle.stil_parts.specs.declared.head.HeadTurn.TheVariants.{Passed, Here}
 use Rattle.stil_parts.specs.Heads.{head_turn, head_end}
 use Rattle.stil_parts.specs.Resuming.{Resumes}

@@ -1,4 +1,4 @@
-use Rattle.std.proofs.Common.{◌≡◌, ◌-◌, length, take, drop, refl}
+use Rattle.std.proofs.Common.{refl}
 use Rattle.std.proofs.lemmas.List.{take_rest}
 use Rattle.stil_stream.proofs.Walking.{walk-begin, rest-passes, rest-here, rest-last, rest-open, done-last, done-open}
 use Rattle.stil_stream.proofs.walk.walk_on.Goals as goal

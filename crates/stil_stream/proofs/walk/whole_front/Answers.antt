@@ -1,4 +1,4 @@
-use Rattle.std.proofs.Common.{◌≡◌, ◌-◌, ◌<◌, ◌≤◌, length, take, arith, false}
+use Rattle.std.proofs.Common.{◌-◌, arith, false}
 use Rattle.std.proofs.lemmas.List.{length-take-le}
 use Rattle.stil_parts.specs.Parts.{begin}
 use Rattle.stil_parts.specs.Scanner.{found}

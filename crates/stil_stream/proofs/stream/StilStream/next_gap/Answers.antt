@@ -1,4 +1,4 @@
-use Rattle.std.proofs.Common.{◌≡◌, ap, sym}
+use Rattle.std.proofs.Common.{ap}
 use Rattle.stil_calls.specs.Parts.{judge_of}
 use Rattle.stil_stream.specs.Streams.{Streaming}
 use Rattle.stil_stream.proofs.Answering.{gap-out, slice-is}

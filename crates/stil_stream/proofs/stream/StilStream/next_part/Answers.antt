@@ -1,6 +1,4 @@
-use Rattle.std.proofs.Common.{◌≡◌, ℕ, ◌+◌, ◌-◌, List, take, drop, refl, ap, sym, ◌∙◌}
-use Rattle.stil_parts.specs.declared.gap.Point.{Point}
-use Rattle.stil_parts.specs.Parts.{part_len}
+use Rattle.std.proofs.Common.{ℕ, ◌+◌, ◌-◌, List, take, drop, refl, ap, sym, ◌∙◌}
 use Rattle.stil_calls.specs.Parts.{judge_of}
 use Rattle.stil_stream.specs.Streams.{Streaming, name_in, handed_out}
 use Rattle.stil_stream.proofs.Answering.{pass-out, part-first, answers-first, slice-is}

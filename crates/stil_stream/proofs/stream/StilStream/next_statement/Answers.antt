@@ -1,6 +1,6 @@
-use Rattle.std.proofs.Common.{◌≡◌, ℕ, ◌-◌, List, length, take, drop, false, Some, None, refl, ap, sym, subst, ◌∙◌}
+use Rattle.std.proofs.Common.{ℕ, ◌-◌, List, length, take, drop, None, refl, ap, sym, subst, ◌∙◌}
 use Rattle.stil_parts.specs.Coming.{Judge}
-use Rattle.stil_parts.specs.Deciding.{IsPart, Takes, IsStopped, IsWanting, IsAtEnd}
+use Rattle.stil_parts.specs.Deciding.{IsPart, IsStopped, IsWanting}
 use Rattle.stil_calls.specs.Parts.{judge_of}
 use Rattle.stil_stream.specs.Streams.{Streaming, AreGaps, Wants, HasEnded, hungry_again}
 use Rattle.stil_stream.proofs.Held.{held-want}

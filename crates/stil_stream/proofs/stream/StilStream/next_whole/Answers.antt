@@ -1,4 +1,4 @@
-use Rattle.std.proofs.Common.{◌≡◌, ◌+◌, ◌-◌, take, drop, refl, ap, sym, ◌∙◌}
+use Rattle.std.proofs.Common.{◌+◌, ◌-◌, take, drop, refl, ap, sym, ◌∙◌}
 use Rattle.stil_stream.specs.Streams.{Streaming}
 use Rattle.stil_stream.proofs.Answering.{denoted-out, refused-whole, answers-first, slice-is}
 use Rattle.stil_stream.proofs.stream.StilStream.next_whole.Goals as goal
