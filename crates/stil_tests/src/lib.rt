@@ -1,7 +1,9 @@
-//! Tests of the STIL crates: the statements of patterns.
+//! Tests of the STIL crates: the statements of patterns, and texts in pieces.
 //!
-//! Floor: tests, on stil_calls, stil_parts, stil_types and base_types.
+//! Floor: tests, on stil_stream, stil_calls, stil_parts, stil_types and base_types.
 #![tactic(auto)]
 
 #[cfg(test)]
 mod statements;
+#[cfg(test)]
+mod streams;

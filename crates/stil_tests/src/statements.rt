@@ -92,7 +92,7 @@ fn chain(alloc: Global) -> Result<ScanChainDecl, NoMemory> {
 }
 
 /// One chain, a scan procedure and another, a scan macro, and a word of the user.
-fn head(alloc: Global) -> Result<StilHead, NoMemory> {
+pub(crate) fn head(alloc: Global) -> Result<StilHead, NoMemory> {
     let mut chains = Rows::new(alloc);
     chains.push(chain(alloc)?)?;
     let mut procedures = Rows::new(alloc);
