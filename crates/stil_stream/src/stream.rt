@@ -1,4 +1,8 @@
 //! The text in pieces.
+//!
+//! What must change together: where the point moves, the scan of a part begins anew (`hand_out`), and where more is wanted, the
+//! scan or walk that has seen all kept bytes is stored. `feed` alone moves kept bytes, and only where some were handed out, so
+//! that a long part that comes in small pieces isn't moved at each.
 ghost use Rattle.std.specs.Prelude.{◌≡◌, ◌≤◌, ◌<◌, ◌^◌, true, false, None, length, drop, vec_len, OnOk, OnErr, IfOk, not, ◌&&◌};
 ghost use Rattle.stil_parts.specs.Coming.{IsEarly, largest, moved};
 ghost use Rattle.stil_parts.specs.Deciding.{IsPart};
