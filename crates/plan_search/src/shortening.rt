@@ -1,5 +1,5 @@
 //! Makes a plan shorter by what the search proposes, tested.
-ghost use Rattle.std.specs.Prelude.{◌≡◌, ℕ, ◌<◌, ◌≤◌, length, IfOk, OnOk, OnErr, IsTrue, IsPermutation};
+ghost use Rattle.std.specs.Prelude.{◌≡◌, ℕ, ◌<◌, ◌≤◌, ◌↔◌, length, IfOk, OnOk, OnErr, IsTrue, IsPermutation};
 ghost use Rattle.chain_rules.specs.Legality.{IsLegal, chain_at};
 ghost use Rattle.wire_cost.specs.Lengths.{plan_length_of};
 ghost use Rattle.order_search.specs.Searches.{AreSearchable};
@@ -17,7 +17,7 @@ use wire_cost::Ends;
 
 // Whether both hold the same units, each as often.
 fn have_same_units(alloc: Global, one: &[u32], other: &[u32]) -> Result<bool, NoMemory>
-    ensures found { IfOk result (λ yes. IsTrue yes → IsPermutation one.now other.now) }
+    ensures value { IfOk result (λ yes. IsTrue yes ↔ IsPermutation one.now other.now) }
 {
     let mut one = Vec::from_slice(alloc, one)?;
     let mut other = Vec::from_slice(alloc, other)?;
@@ -29,7 +29,7 @@ fn have_same_units(alloc: Global, one: &[u32], other: &[u32]) -> Result<bool, No
 // Whether each chain holds the same units in both plans.
 fn have_same_members(alloc: Global, one: &Plan, other: &Plan) -> Result<bool, NoMemory>
     requires chains { length one.now.chains ≡ length other.now.chains }
-    ensures found { IfOk result (λ yes. IsTrue yes → HaveSameMembers one.now other.now) }
+    ensures value { IfOk result (λ yes. IsTrue yes ↔ HaveSameMembers one.now other.now) }
 {
     for c in 0..one.len() {
         if !have_same_units(alloc, one.chain(c), other.chain(c))? {
@@ -51,9 +51,7 @@ fn is_gain(
 ) -> Result<bool, NoMemory>
     requires searchable { AreSearchable rules.now ends.now }
     requires legal { IsLegal rules.now plan.now }
-    ensures legal { IfOk result (λ yes. IsTrue yes → IsLegal rules.now proposed.now) }
-    ensures members { IfOk result (λ yes. IsTrue yes → effort ≡ Order → HaveSameMembers plan.now proposed.now) }
-    ensures shorter { IfOk result (λ yes. IsTrue yes → plan_length_of ends.now proposed.now < plan_length_of ends.now plan.now) }
+    ensures value { IfOk result (λ yes. IsTrue yes ↔ (IsLegal rules.now proposed.now × (plan_length_of ends.now proposed.now < plan_length_of ends.now plan.now) × (effort ≡ Order → HaveSameMembers plan.now proposed.now))) }
 {
     if !is_legal(rules, proposed) {
         return Ok(false);
