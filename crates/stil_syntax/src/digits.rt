@@ -21,7 +21,7 @@ pub fn counted(number: u64, digit: u8) -> u64
 }
 
 /// The number that digits write; the greatest where it would be greater.
-pub(crate) fn count_from(digits: &[u8]) -> u64
+pub fn count_from(digits: &[u8]) -> u64
     requires digits { list_all is_digit digits.now ≡ true }
     ensures value { result ≡ count_from 0 digits.now }
 {

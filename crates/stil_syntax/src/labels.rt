@@ -55,7 +55,7 @@ pub fn closes_nothing(tokens: &Stretch<'_, '_>) -> bool
 }
 
 /// Whether in a block a statement begins behind the token.
-pub(crate) fn begins_behind(text: &[u8]) -> bool
+pub fn begins_behind(text: &[u8]) -> bool
     ensures value { result ≡ begins_behind text.now }
 {
     match text {

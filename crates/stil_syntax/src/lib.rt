@@ -20,11 +20,11 @@ mod shape;
 mod stretch;
 mod words;
 
-pub use digits::{counted, is_digit};
+pub use digits::{count_from, counted, is_digit};
 pub use item::{Data, Item, Items};
-pub use labels::{behind_labels, closes_nothing};
+pub use labels::{begins_behind, behind_labels, closes_nothing};
 pub use laws::form_law;
-pub use loops::body_statement;
+pub use loops::{body_statement, in_block};
 pub use name::NameText;
 pub use shape::{Shape, shape_of};
 pub use stretch::Stretch;

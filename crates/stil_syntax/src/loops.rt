@@ -50,7 +50,7 @@ fn behind_brace<'a, 's>(tokens: &Stretch<'a, 's>) -> Stretch<'a, 's>
 }
 
 /// The tokens in the first block: all behind its `{` but the last.
-fn in_block<'a, 's>(tokens: &Stretch<'a, 's>) -> Stretch<'a, 's>
+pub fn in_block<'a, 's>(tokens: &Stretch<'a, 's>) -> Stretch<'a, 's>
     ensures value { result ≡ in_block tokens.now }
 {
     let behind = behind_brace(tokens);

@@ -1,8 +1,10 @@
-//! Tests of the STIL crates: the statements of patterns, and texts in pieces.
+//! Tests of the STIL crates: heads, the statements of patterns, and texts in pieces.
 //!
-//! Floor: tests, on stil_stream, stil_calls, stil_parts, stil_types and base_types.
+//! Floor: tests, on stil_head, stil_stream, stil_calls, stil_parts, stil_types and base_types.
 #![tactic(auto)]
 
+#[cfg(test)]
+mod heads;
 #[cfg(test)]
 mod statements;
 #[cfg(test)]

@@ -1,0 +1,17 @@
+use Rattle.token_forms.specs.Tokens.{Token}
+use Rattle.std.proofs.Common.{◌≡◌, ◌∙◌, sym, ap, not, refl, arith, map, drop, length, List, ℕ, Bool, true, false, codes, cond, subst, ◌<◌, ◌≤◌}
+use Rattle.stil_syntax.specs.Shapes.{body_statements}
+use Rattle.stil_head.specs.Statements.{start_of, is_whole, has_word}
+use Rattle.stil_head.proofs.Leasts.{more_places, more_if, no_more}
+use Rattle.stil_head.specs.Chains.{listed}
+use Rattle.stil_head.specs.Callees.{callee_at}
+use Rattle.stil_head.proofs.Fronts.{more_values, last_value}
+use Rattle.stil_head.proofs.callee.add_callees.Goals as goal
+
+pub loop-s-preserved : goal.loop-s-preserved
+loop-s-preserved c = more_values (λ (p : List Token). listed (callee_at p)) c.loop-s.callees c.add_callee.new.callees c.in-Some.s (body_statements c.body_statement.new.tokens) (body_statements c.loop-s.rest) c.in-Some.ensures.value c.in_ok-add_callee.ensures.value ∙ c.loop-s.invariant
+
+pub returns : goal.returns
+returns c = record {
+  value = last_value (λ (p : List Token). listed (callee_at p)) c.loop-s.callees _ (body_statements c.loop-s.rest) c.in_default.ensures.value c.loop-s.invariant;
+}

@@ -1,0 +1,11 @@
+use Rattle.stil_head.proofs.keywords.add_names.Given as goal
+use Rattle.std.proofs.Common.{◌≡◌, ◌≤◌, ◌+◌, ◌-◌, ◌||◌, ◌++◌, length, drop, map, true, false, List, ℕ, [], codes, Option, Some, None}
+use Rattle.std.specs.List.{flat_map, list_any, count_by}
+use Rattle.std.specs.Str.{bytes_eq}
+use Rattle.stil_head.specs.Callees.{names_within}
+
+abbrev pub invariant-loop-left : goal.invariant-loop-left
+invariant-loop-left l = l.names ++ names_within l.left l.rest ≡ l.fn.names ++ names_within (length l.tokens) l.tokens
+
+abbrev pub decreases-loop-left : goal.decreases-loop-left
+decreases-loop-left l = l.left

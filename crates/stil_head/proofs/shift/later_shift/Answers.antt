@@ -1,0 +1,23 @@
+use Rattle.token_forms.specs.Tokens.{Token}
+use Rattle.std.proofs.Common.{◌≡◌, ◌∙◌, sym, ap, not, refl, arith, map, drop, length, List, ℕ, Bool, true, false, codes, cond, subst, ◌<◌, ◌≤◌}
+use Rattle.stil_syntax.specs.Shapes.{body_statements}
+use Rattle.stil_head.specs.Statements.{start_of, is_whole, has_word}
+use Rattle.stil_head.proofs.Leasts.{more_places, more_if, no_more}
+use Rattle.stil_head.proofs.Loops.{no_tokens, holds_next, places_next, later_next, outer_next}
+use Rattle.stil_head.specs.Callees.{begins_shift}
+use Rattle.stil_head.proofs.Leasts.{then_if, lesser_none}
+use Rattle.stil_head.specs.Leasts.{lesser, least_of, place_if, found_if}
+use Rattle.stil_head.specs.Unsupported.{places_at, later_shifts, is_barred, is_name_of}
+use Rattle.stil_head.proofs.Walks.{walk_places, walk_later, walk_ends}
+use Rattle.stil_head.proofs.shift.later_shift.Goals as goal
+
+pub loop-rest-preserved : goal.loop-rest-preserved
+loop-rest-preserved c =
+    walk_later c.loop-rest.seen c.either-seen.result c.loop-rest.begins c.begins_behind-begins.result c.loop-rest.rest c.take_text.new.tokens c.take_text.result.now c.loop-rest.least c.lesser-least.result c.found_if.result c.shift_begins-here.result c.both.result c.start_of.result
+    (omega (arith, c.len.ensures.value)) c.shift_begins-here.ensures.value c.both.ensures.value c.start_of.ensures.value c.found_if.ensures.value c.lesser-least.ensures.value c.either-seen.ensures.value c.take_text.ensures.text c.take_text.ensures.rest c.begins_behind-begins.ensures.value
+    ∙ c.loop-rest.invariant
+
+pub returns : goal.returns
+returns c = record {
+  value = sym (lesser_none c.loop-rest.least) ∙ ap (λ (ts : List Token). lesser c.loop-rest.least (least_of (later_shifts c.loop-rest.seen c.loop-rest.begins ts))) (sym (no_tokens c.loop-rest.rest (omega (arith, c.len.ensures.value)))) ∙ c.loop-rest.invariant;
+}

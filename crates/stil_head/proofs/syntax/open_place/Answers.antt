@@ -1,0 +1,15 @@
+use Rattle.token_forms.specs.Tokens.{Token}
+use Rattle.std.proofs.Common.{◌≡◌, ◌∙◌, sym, ap, not, refl, arith, map, drop, length, List, ℕ, Bool, true, false, codes, cond, subst, ◌<◌, ◌≤◌}
+use Rattle.stil_syntax.specs.Shapes.{body_statements}
+use Rattle.stil_head.specs.Statements.{start_of, is_whole, has_word}
+use Rattle.stil_head.proofs.Leasts.{more_places, more_if, no_more}
+use Rattle.stil_head.specs.Leasts.{place_if}
+use Rattle.stil_head.proofs.syntax.open_place.Goals as goal
+
+pub loop-s-preserved : goal.loop-s-preserved
+loop-s-preserved c = more_if (λ (s : List Token). not (is_whole s)) start_of c.loop-s.least c.lesser-least.result c.found_if.result (not c.is_whole.result) c.start_of.result c.in-Some.s (body_statements c.body_statement.new.tokens) (body_statements c.loop-s.rest) c.in-Some.ensures.value (ap not c.is_whole.ensures.value) c.start_of.ensures.value c.found_if.ensures.value c.lesser-least.ensures.value ∙ c.loop-s.invariant
+
+pub returns : goal.returns
+returns c = record {
+  value = no_more (λ (s : List Token). place_if ((λ (s : List Token). not (is_whole s)) s) (start_of s)) c.loop-s.least _ (body_statements c.loop-s.rest) c.in_default.ensures.value c.loop-s.invariant;
+}

@@ -1,0 +1,12 @@
+use Rattle.stil_head.proofs.unsupported.mark_count.Given as goal
+use Rattle.std.proofs.Common.{◌≡◌, ◌≤◌, ◌+◌, ◌-◌, ◌||◌, ◌++◌, length, drop, map, true, false, List, ℕ, [], codes, Option, Some, None}
+use Rattle.std.specs.List.{flat_map, list_any, count_by}
+use Rattle.std.specs.Str.{bytes_eq}
+use Rattle.stil_syntax.specs.Shapes.{body_statements}
+use Rattle.stil_head.specs.Unsupported.{has_mark}
+
+abbrev pub invariant-loop-s : goal.invariant-loop-s
+invariant-loop-s l = record { same : l.count + count_by (has_mark false) (body_statements l.rest) ≡ count_by (has_mark false) (body_statements l.block); few : l.count + length l.rest ≤ length l.block }
+
+abbrev pub decreases-loop-s : goal.decreases-loop-s
+decreases-loop-s l = length l.rest

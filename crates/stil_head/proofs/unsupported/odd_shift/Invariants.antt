@@ -1,0 +1,13 @@
+use Rattle.stil_head.proofs.unsupported.odd_shift.Given as goal
+use Rattle.std.proofs.Common.{◌≡◌, ◌≤◌, ◌+◌, ◌-◌, ◌||◌, ◌++◌, length, drop, map, true, false, List, ℕ, [], codes, Option, Some, None}
+use Rattle.std.specs.List.{flat_map, list_any, count_by}
+use Rattle.std.specs.Str.{bytes_eq}
+use Rattle.stil_syntax.specs.Shapes.{body_statements}
+use Rattle.stil_head.specs.Leasts.{lesser, least_of}
+use Rattle.stil_head.specs.Unsupported.{odd_shifts}
+
+abbrev pub invariant-loop-s : goal.invariant-loop-s
+invariant-loop-s l = lesser l.least (least_of (odd_shifts (body_statements l.rest))) ≡ least_of (odd_shifts (body_statements l.body))
+
+abbrev pub decreases-loop-s : goal.decreases-loop-s
+decreases-loop-s l = length l.rest

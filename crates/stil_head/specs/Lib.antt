@@ -1,0 +1,9 @@
+pub mod Callees
+pub mod Chains
+pub mod Faults
+pub mod Heads
+pub mod Leasts
+pub mod Statements
+pub mod TopWords
+pub mod Twice
+pub mod Unsupported
