@@ -12,8 +12,10 @@ use Rattle.stil_syntax.specs.declared.shape.Shape.TheVariants.{NoForm, Unsupport
 use Rattle.stil_types.specs.declared.statement.PatternStatement.{PatternStatement}
 use Rattle.stil_syntax.specs.Shapes.{shape_of, body_statements}
 use Rattle.stil_calls.specs.Scans.{gives_twice, has_unsound, is_foreign, is_short, is_long, call_of}
+use Rattle.stil_calls.specs.declared.judging.Judging.{Judging}
+use Rattle.stil_calls.specs.declared.judging.Judging.TheVariants.{Form, Lengths}
 use Rattle.stil_calls.specs.Faults.{kind_of, line_in, fault_or, body_fault, shape_fault}
-use Rattle.stil_calls.specs.Statements.{call_in, body_of, statement_of, IsAcceptedBy, IsAcceptedIn, AreAccepted}
+use Rattle.stil_calls.specs.Statements.{call_in, body_of, is_read, statement_of, IsAcceptedBy, IsAcceptedIn, AreAcceptedBy}
 use Rattle.stil_calls.proofs.Accepted.{is_call, is_accepted}
 
 -- a test that would give a kind doesn't hold
@@ -21,8 +23,12 @@ passed : (b : Bool) (k : Kind) (more : Option Kind) → cond b (Some k) more ≡
 passed true k more e = absurd cc
 passed false k more e = (refl, e)
 
-scan_accepted : (head : StilHead) (items : List Item) → kind_of head (Scan items) ≡ None → IsAcceptedBy head (call_of head.chains items)
-scan_accepted head items e =
+scan_accepted : (judging : Judging) (head : StilHead) (items : List Item) → kind_of judging head (Scan items) ≡ None → IsAcceptedBy judging head (call_of head.chains items)
+scan_accepted Form head items e =
+    let a = passed (gives_twice items) _ _ e in
+    let b = passed (has_unsound head.chains items) _ _ (a.1) in
+    is_call head.chains items (b.0)
+scan_accepted Lengths head items e =
     let a = passed (gives_twice items) _ _ e in
     let b = passed (has_unsound head.chains items) _ _ (a.1) in
     let c = passed (is_foreign head.chains items) _ _ (b.1) in
@@ -35,24 +41,38 @@ clean : (k : Option Kind) (line : ℕ) (more : Option PartFault) → fault_or k 
 clean None line more e = (refl, e)
 clean (Some k) line more e = absurd cc
 
-call_accepted : (head : StilHead) (shape : Shape) → kind_of head shape ≡ None → IsAcceptedIn head (call_in head shape)
-call_accepted head NoForm e = tt
-call_accepted head Unsupported e = tt
-call_accepted head Other e = tt
-call_accepted head (Scan items) e = scan_accepted head items e
-call_accepted head (Loop times body) e = tt
+-- a Loop itself is never at fault
+loop_clean : (judging : Judging) (head : StilHead) (line : ℕ) (text : List ℕ) (times : ℕ) (body : List Token) → shape_fault judging head line text (Loop times body) ≡ None
+    → body_fault judging head line text (body_statements body) ≡ None
+loop_clean Form head line text times body e = e
+loop_clean Lengths head line text times body e = e
 
-body_accepted : (head : StilHead) (line : ℕ) (text : List ℕ) (ss : List (List Token)) → body_fault head line text ss ≡ None → All (λ s. IsAcceptedIn head s.call) (map (body_of head line text) ss)
-body_accepted head line text [] e = All-nil (λ s. IsAcceptedIn head s.call)
-body_accepted head line text (s ∷ ss) e =
-    let p = clean (kind_of head (shape_of head true s)) (line_in line text (place_of s).start) (body_fault head line text ss) e in
-    All-cons (λ s. IsAcceptedIn head s.call) (body_of head line text s) (map (body_of head line text) ss) (call_accepted head (shape_of head true s) (p.0)) (body_accepted head line text ss (p.1))
+module _ (judging : Judging) (head : StilHead) (line : ℕ) (text : List ℕ) where
+  call_accepted : (shape : Shape) → kind_of judging head shape ≡ None → IsAcceptedIn judging head (call_in head shape)
+  call_accepted NoForm e = tt
+  call_accepted Unsupported e = tt
+  call_accepted Other e = tt
+  call_accepted (Scan items) e = scan_accepted judging head items e
+  call_accepted (Loop times body) e = tt
 
-pub are_accepted : (head : StilHead) (pattern line : ℕ) (text : List ℕ) (shape : Shape) (s : PatternStatement) → shape_fault head line text shape ≡ None → statement_of head pattern line text shape ≡ Some s → AreAccepted head s
-are_accepted head pattern line text NoForm s sound e = absurd cc
-are_accepted head pattern line text Unsupported s sound e = absurd cc
-are_accepted head pattern line text Other s sound e = subst (AreAccepted head) (same_Some _ _ e) tt
-are_accepted head pattern line text (Scan items) s sound e =
-    subst (AreAccepted head) (same_Some _ _ e) (scan_accepted head items ((clean (kind_of head (Scan items)) line None sound).0))
-are_accepted head pattern line text (Loop times body) s sound e =
-    subst (AreAccepted head) (same_Some _ _ e) (body_accepted head line text (body_statements body) sound)
+  body_accepted : (ss : List (List Token)) → body_fault judging head line text ss ≡ None → All (λ s. IsAcceptedIn judging head s.call) (map (body_of head line text) ss)
+  body_accepted [] e = All-nil (λ s. IsAcceptedIn judging head s.call)
+  body_accepted (s ∷ ss) e =
+      let p = clean (kind_of judging head (shape_of head true s)) (line_in line text (place_of s).start) (body_fault judging head line text ss) e in
+      All-cons (λ s. IsAcceptedIn judging head s.call) (body_of head line text s) (map (body_of head line text) ss) (call_accepted (shape_of head true s) (p.0)) (body_accepted ss (p.1))
+
+  pub are_accepted : (pattern : ℕ) (shape : Shape) (s : PatternStatement) → shape_fault judging head line text shape ≡ None → statement_of head pattern line text shape ≡ Some s → AreAcceptedBy judging head s
+  are_accepted pattern NoForm s sound e = absurd cc
+  are_accepted pattern Unsupported s sound e = absurd cc
+  are_accepted pattern Other s sound e = subst (AreAcceptedBy judging head) (same_Some _ _ e) tt
+  are_accepted pattern (Scan items) s sound e =
+      subst (AreAcceptedBy judging head) (same_Some _ _ e) (scan_accepted judging head items ((clean (kind_of judging head (Scan items)) line None sound).0))
+  are_accepted pattern (Loop times body) s sound e =
+      subst (AreAcceptedBy judging head) (same_Some _ _ e) (body_accepted (body_statements body) (loop_clean judging head line text times body sound))
+
+  pub is_read_so : (shape : Shape) → shape_fault judging head line text shape ≡ None → is_read shape ≡ true
+  is_read_so NoForm sound = absurd cc
+  is_read_so Unsupported sound = absurd cc
+  is_read_so Other sound = refl
+  is_read_so (Scan items) sound = refl
+  is_read_so (Loop times body) sound = refl

@@ -1,15 +1,19 @@
 -- What is wrong with a statement of a Pattern: each kind of fault as a predicate of its own, and which comes first.
-use Rattle.std.specs.Prelude.{ℕ, ◌+◌, Bool, true, false, ◌==◌, if◌then◌else◌, List, [], ◌∷◌, take, count_by, Option, Some, None}
+use Rattle.std.specs.Prelude.{ℕ, ◌+◌, Bool, true, false, ◌&&◌, ◌==◌, if◌then◌else◌, List, [], ◌∷◌, take, count_by, Option, Some, None}
 use Rattle.token_forms.specs.Tokens.{Token, place_of}
 use Rattle.base_types.specs.declared.kind.Kind.{Kind}
 use Rattle.base_types.specs.declared.kind.Kind.TheVariants as kinds
 use Rattle.stil_tokens.specs.StilTokens.{tokens_in}
 use Rattle.stil_parts.specs.declared.part.PartFault.{PartFault}
 use Rattle.stil_parts.specs.Coming.{fault_at}
+use Rattle.stil_types.specs.declared.head.ScanChainDecl.{ScanChainDecl}
 use Rattle.stil_types.specs.declared.head.StilHead.{StilHead}
+use Rattle.stil_syntax.specs.declared.item.Item.{Item}
 use Rattle.stil_syntax.specs.declared.shape.Shape.{Shape}
 use Rattle.stil_syntax.specs.declared.shape.Shape.TheVariants.{NoForm, Unsupported, Scan, Loop}
 use Rattle.stil_syntax.specs.Shapes.{shape_of, body_statements}
+use Rattle.stil_calls.specs.declared.judging.Judging.{Judging}
+use Rattle.stil_calls.specs.declared.judging.Judging.TheVariants.{Form, Lengths}
 use Rattle.stil_calls.specs.Scans.{gives_twice, has_unsound, is_foreign, is_short, is_long, is_vast}
 
 -- the statement matches no form, or a scan call gives one name twice
@@ -48,15 +52,28 @@ abbrev pub is_too_many_shifts : StilHead → Shape → Bool
 is_too_many_shifts head (Scan items) = is_vast head.chains items
 is_too_many_shifts head shape = false
 
--- the least kind that holds of a statement
-abbrev pub kind_of : StilHead → Shape → Option Kind
-kind_of head shape =
+-- scan calls are judged by the lengths of the chains too
+abbrev pub by_lengths : Judging → Bool
+by_lengths Form = false
+by_lengths Lengths = true
+
+-- the least kind that holds of how much a scan call gives, and counts
+abbrev pub size_kind : Judging → List ScanChainDecl → List Item → Option Kind
+size_kind judging chains items =
+    if by_lengths judging && is_short chains items then Some kinds.ShortLoad
+    else (if by_lengths judging && is_long chains items then Some kinds.LongCompare
+    else (if is_vast chains items then Some kinds.TooManyShifts
+    else None))
+
+-- the least kind that holds of a statement and counts
+abbrev pub kind_of : Judging → StilHead → Shape → Option Kind
+kind_of judging head shape =
     if is_pattern_syntax shape then Some kinds.PatternSyntax
     else (if is_pattern_unsupported shape then Some kinds.PatternUnsupported
     else (if is_scan_character head shape then Some kinds.ScanCharacter
     else (if is_foreign_data head shape then Some kinds.ForeignData
-    else (if is_short_load head shape then Some kinds.ShortLoad
-    else (if is_long_compare head shape then Some kinds.LongCompare
+    else (if by_lengths judging && is_short_load head shape then Some kinds.ShortLoad
+    else (if by_lengths judging && is_long_compare head shape then Some kinds.LongCompare
     else (if is_too_many_shifts head shape then Some kinds.TooManyShifts
     else None))))))
 
@@ -70,19 +87,24 @@ fault_or None line more = more
 fault_or (Some kind) line more = Some (fault_at kind line)
 
 -- the first fault of some statements in the block of a Loop
-abbrev pub body_fault : StilHead → ℕ → List ℕ → List (List Token) → Option PartFault
-body_fault head line text [] = None
-body_fault head line text (s ∷ ss) = fault_or (kind_of head (shape_of head true s)) (line_in line text (place_of s).start) (body_fault head line text ss)
+abbrev pub body_fault : Judging → StilHead → ℕ → List ℕ → List (List Token) → Option PartFault
+body_fault judging head line text [] = None
+body_fault judging head line text (s ∷ ss) =
+    fault_or (kind_of judging head (shape_of head true s)) (line_in line text (place_of s).start) (body_fault judging head line text ss)
 
 -- the first fault in the block of a statement: that of a Loop is read
-abbrev pub inner_fault : StilHead → ℕ → List ℕ → Shape → Option PartFault
-inner_fault head line text (Loop times body) = body_fault head line text (body_statements body)
-inner_fault head line text shape = None
+abbrev pub inner_fault : Judging → StilHead → ℕ → List ℕ → Shape → Option PartFault
+inner_fault judging head line text (Loop times body) = body_fault judging head line text (body_statements body)
+inner_fault judging head line text shape = None
 
 -- the first fault of a statement of this form: its own, and then those in its block
-abbrev pub shape_fault : StilHead → ℕ → List ℕ → Shape → Option PartFault
-shape_fault head line text shape = fault_or (kind_of head shape) line (inner_fault head line text shape)
+abbrev pub shape_fault : Judging → StilHead → ℕ → List ℕ → Shape → Option PartFault
+shape_fault judging head line text shape = fault_or (kind_of judging head shape) line (inner_fault judging head line text shape)
 
 -- the first fault of a statement of these bytes, whose first line is this one
-unfoldable pub fault_in : StilHead → ℕ → List ℕ → Option PartFault
-fault_in head line text = shape_fault head line text (shape_of head false (tokens_in text))
+unfoldable pub fault_by : Judging → StilHead → ℕ → List ℕ → Option PartFault
+fault_by judging head line text = shape_fault judging head line text (shape_of head false (tokens_in text))
+
+-- the same where all kinds count
+abbrev pub fault_in : StilHead → ℕ → List ℕ → Option PartFault
+fault_in head line text = fault_by Lengths head line text

@@ -11,7 +11,9 @@ use Rattle.stil_parts.specs.Coming.{Judge}
 use Rattle.stil_types.specs.declared.head.StilHead.{StilHead}
 use Rattle.stil_syntax.specs.Names.{is_word, name_at}
 use Rattle.stil_syntax.specs.Shapes.{behind_labels, closes_nothing}
-use Rattle.stil_calls.specs.Faults.{fault_in, fault_or}
+use Rattle.stil_calls.specs.declared.judging.Judging.{Judging}
+use Rattle.stil_calls.specs.declared.judging.Judging.TheVariants.{Form, Lengths}
+use Rattle.stil_calls.specs.Faults.{fault_by, fault_or}
 
 -- the name of a Pattern, where only { stands behind it
 abbrev pub opened_name : Option (List ℕ × List Token) → Option (List ℕ)
@@ -50,7 +52,15 @@ unfoldable pub passing_in : List ℕ → Option Kind
 passing_in text = top_kind (tokens_in text)
 
 -- what is wrong with a part
-unfoldable pub judge_of : StilHead → Judge
-judge_of head p (Whole n) text = fault_in head p.line text
-judge_of head p (Opens n) text = fault_or (opening_kind (opened_in text)) p.line None
-judge_of head p (Passes n) text = fault_or (passing_in text) p.line None
+unfoldable pub judge_by : Judging → StilHead → Judge
+judge_by judging head p (Whole n) text = fault_by judging head p.line text
+judge_by judging head p (Opens n) text = fault_or (opening_kind (opened_in text)) p.line None
+judge_by judging head p (Passes n) text = fault_or (passing_in text) p.line None
+
+-- where all kinds count
+abbrev pub judge_of : StilHead → Judge
+judge_of head = judge_by Lengths head
+
+-- where loads may be short and compares long
+abbrev pub lenient_judge_of : StilHead → Judge
+lenient_judge_of head = judge_by Form head

@@ -1,9 +1,8 @@
--- A scan call beside the chains of the head: what it gives each chain, and what is wrong with it (IEEE 1450-1999, Shift).
+-- A scan call beside the chains of the head: what it gives each chain, and what is wrong with it (IEEE 1450-1999, Shift). Its
+-- names and those of the ports stand without backslashes.
 use Rattle.std.specs.Prelude.{ℕ, Bool, false, ◌&&◌, ◌||◌, not, nat_lt, if◌then◌else◌, max, List, [], ◌∷◌, map, Option, Some, None}
 use Rattle.std.specs.List.{list_any}
 use Rattle.std.specs.Str.{bytes_eq}
-use Rattle.base_types.specs.declared.kind.Kind.{Kind}
-use Rattle.base_types.specs.declared.kind.Kind.TheVariants.{ShortLoad, LongCompare, TooManyShifts}
 use Rattle.stil_types.specs.declared.head.ScanChainDecl.{ScanChainDecl}
 use Rattle.stil_types.specs.declared.statement.ScanCall.{ScanCall}
 use Rattle.stil_types.specs.Calls.{most_bits, longest_string}
@@ -90,14 +89,6 @@ most_characters = 524288
 -- a string is longer
 abbrev pub is_vast : List ScanChainDecl → List Item → Bool
 is_vast chains items = nat_lt most_characters (shifts_in chains items)
-
--- the least kind that holds of how much is given
-abbrev pub size_kind : List ScanChainDecl → List Item → Option Kind
-size_kind chains items =
-    if is_short chains items then Some ShortLoad
-    else (if is_long chains items then Some LongCompare
-    else (if is_vast chains items then Some TooManyShifts
-    else None))
 
 -- what is given, written out
 abbrev pub written_in : Option (List ℕ) → Option (List ℕ)

@@ -1,8 +1,9 @@
 //! The first fault of a statement.
 ghost use Rattle.std.specs.Prelude.{◌≡◌, ◌<◌, ◌+◌, ◌^◌, length, IfOk};
-ghost use Rattle.stil_calls.specs.Faults.{line_in, fault_or, body_fault, inner_fault, shape_fault, fault_in};
+ghost use Rattle.stil_calls.specs.Faults.{line_in, fault_or, body_fault, inner_fault, shape_fault, fault_by};
 ghost use Rattle.stil_syntax.specs.Shapes.{body_statements};
 
+use crate::judging::Judging;
 use crate::kinds::kind_of;
 use base_types::{Kind, Lines, NoMemory};
 use std::alloc::Global;
@@ -33,19 +34,20 @@ pub(crate) fn fault_or(kind: Option<Kind>, line: u64, more: Option<PartFault>) -
 /// The first fault of the statements in the block of a Loop.
 fn body_fault(
     alloc: Global,
+    judging: Judging,
     head: &StilHead,
     line: u64,
     text: &[u8],
     body: &Stretch<'_, '_>,
 ) -> Result<Option<PartFault>, NoMemory>
     requires room { line + length text.now < 2 ^ 64 }
-    ensures value { IfOk result (λ found. found ≡ body_fault head.now line text.now (body_statements body.now)) }
+    ensures value { IfOk result (λ found. found ≡ body_fault judging head.now line text.now (body_statements body.now)) }
 {
     let mut lines = Lines::of(text);
     let mut rest = body.again();
     while let Some(statement) = body_statement(&mut rest) {
         let shape = shape_of(alloc, head, true, &statement)?;
-        if let Some(kind) = kind_of(alloc, head, &shape)? {
+        if let Some(kind) = kind_of(alloc, judging, head, &shape)? {
             let line = line_in(&mut lines, line, statement.place().start);
             return Ok(Some(PartFault { kind, line }));
         }
@@ -56,33 +58,35 @@ fn body_fault(
 /// The first fault of a statement: its own, and then those in its block.
 pub(crate) fn shape_fault(
     alloc: Global,
+    judging: Judging,
     head: &StilHead,
     line: u64,
     text: &[u8],
     shape: &Shape<'_, '_>,
 ) -> Result<Option<PartFault>, NoMemory>
     requires room { line + length text.now < 2 ^ 64 }
-    ensures value { IfOk result (λ found. found ≡ shape_fault head.now line text.now shape.now) }
+    ensures value { IfOk result (λ found. found ≡ shape_fault judging head.now line text.now shape.now) }
 {
     match shape {
-        Shape::Loop(_times, body) => body_fault(alloc, head, line, text, body),
-        _ => Ok(fault_or(kind_of(alloc, head, shape)?, line, None)),
+        Shape::Loop(_times, body) => body_fault(alloc, judging, head, line, text, body),
+        _ => Ok(fault_or(kind_of(alloc, judging, head, shape)?, line, None)),
     }
 }
 
 /// The first fault of a statement of these bytes.
-#[tactic(auto, unfolding(crate::specs::Faults::fault_in))]
-pub(crate) fn fault_in(
+#[tactic(auto, unfolding(crate::specs::Faults::fault_by))]
+pub(crate) fn fault_by(
     alloc: Global,
+    judging: Judging,
     head: &StilHead,
     line: u64,
     text: &[u8],
 ) -> Result<Option<PartFault>, NoMemory>
     requires size { length text.now < 2 ^ 32 }
     requires room { line + length text.now < 2 ^ 64 }
-    ensures value { IfOk result (λ found. found ≡ fault_in head.now line text.now) }
+    ensures value { IfOk result (λ found. found ≡ fault_by judging head.now line text.now) }
 {
     let spans = stil_tokens(alloc, text)?;
     let shape = shape_of(alloc, head, false, &Stretch::of(text, &spans))?;
-    shape_fault(alloc, head, line, text, &shape)
+    shape_fault(alloc, judging, head, line, text, &shape)
 }

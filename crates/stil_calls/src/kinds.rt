@@ -1,8 +1,8 @@
 //! What is wrong with a statement.
 ghost use Rattle.std.specs.Prelude.{◌≡◌, IfOk};
-ghost use Rattle.stil_calls.specs.Faults.{kind_of};
-ghost use Rattle.stil_calls.specs.Scans.{size_kind};
+ghost use Rattle.stil_calls.specs.Faults.{size_kind, kind_of};
 
+use crate::judging::{Judging, by_lengths};
 use crate::scan::{has_unsound, is_foreign, is_long, is_short, is_vast, shifts_in};
 use crate::twice::gives_twice;
 use base_types::{Kind, NoMemory};
@@ -10,15 +10,15 @@ use std::alloc::Global;
 use stil_syntax::{Item, Shape};
 use stil_types::{ScanChainDecl, StilHead};
 
-/// The least kind that holds of how much a scan call gives.
-fn size_kind(chains: &[ScanChainDecl], items: &[Item<'_>]) -> Option<Kind>
-    ensures value { result ≡ size_kind chains.now items.now }
+/// The least kind that holds of how much a scan call gives, and counts.
+fn size_kind(judging: Judging, chains: &[ScanChainDecl], items: &[Item]) -> Option<Kind>
+    ensures value { result ≡ size_kind judging chains.now items.now }
 {
     let shifts = shifts_in(chains, items);
-    if is_short(chains, items, shifts) {
+    if by_lengths(judging) && is_short(chains, items, shifts) {
         return Some(Kind::ShortLoad);
     }
-    if is_long(chains, items) {
+    if by_lengths(judging) && is_long(chains, items) {
         return Some(Kind::LongCompare);
     }
     if is_vast(chains, items, shifts) {
@@ -28,8 +28,13 @@ fn size_kind(chains: &[ScanChainDecl], items: &[Item<'_>]) -> Option<Kind>
 }
 
 /// The least kind that holds of a scan call.
-fn scan_kind(alloc: Global, head: &StilHead, items: &[Item<'_>]) -> Result<Option<Kind>, NoMemory>
-    ensures value { IfOk result (λ kind. kind ≡ kind_of head.now (Shape.Scan items.now)) }
+fn scan_kind(
+    alloc: Global,
+    judging: Judging,
+    head: &StilHead,
+    items: &[Item],
+) -> Result<Option<Kind>, NoMemory>
+    ensures value { IfOk result (λ kind. kind ≡ kind_of judging head.now (Shape.Scan items.now)) }
 {
     let chains = head.chains.as_slice();
     if gives_twice(alloc, items)? {
@@ -41,22 +46,23 @@ fn scan_kind(alloc: Global, head: &StilHead, items: &[Item<'_>]) -> Result<Optio
     if is_foreign(chains, items) {
         return Ok(Some(Kind::ForeignData));
     }
-    Ok(size_kind(chains, items))
+    Ok(size_kind(judging, chains, items))
 }
 
-/// The least kind that holds of a statement.
+/// The least kind that holds of a statement and counts.
 pub(crate) fn kind_of(
     alloc: Global,
+    judging: Judging,
     head: &StilHead,
     shape: &Shape<'_, '_>,
 ) -> Result<Option<Kind>, NoMemory>
-    ensures value { IfOk result (λ kind. kind ≡ kind_of head.now shape.now) }
+    ensures value { IfOk result (λ kind. kind ≡ kind_of judging head.now shape.now) }
 {
     match shape {
         Shape::NoForm => Ok(Some(Kind::PatternSyntax)),
         Shape::Unsupported => Ok(Some(Kind::PatternUnsupported)),
         Shape::Other => Ok(None),
-        Shape::Scan(items) => scan_kind(alloc, head, items.as_slice()),
+        Shape::Scan(items) => scan_kind(alloc, judging, head, items.as_slice()),
         Shape::Loop(_times, _body) => Ok(None),
     }
 }

@@ -3,12 +3,13 @@
 //!
 //! Floor: readers, on base_types, token_forms, stil_tokens, stil_parts, stil_types and stil_syntax.
 //! Contract: `read_statement` answers the statement that the bytes denote beside the head (`specs/Statements.antt`), or its
-//! first fault (`specs/Faults.antt`); `judge_part` is the judge of the parts of a text (`specs/Parts.antt`). Begin with
-//! `statement.rt`.
+//! first fault (`specs/Faults.antt`); `judge_part` is the judge of the parts of a text (`specs/Parts.antt`). A `Judging` tells
+//! whether the lengths of the chains count. Begin with `statement.rt`.
 #![tactic(auto)]
 
 mod escape;
 mod faults;
+mod judging;
 mod kinds;
 mod laws;
 mod part;
@@ -18,6 +19,7 @@ mod statement;
 mod strings;
 mod twice;
 
+pub use judging::Judging;
 pub use laws::size_law;
 pub use part::{judge_part, opened_name};
-pub use statement::read_statement;
+pub use statement::{read_statement, read_statement_by};

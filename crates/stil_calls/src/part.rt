@@ -1,9 +1,10 @@
 //! The judge of the parts of a STIL text.
 ghost use Rattle.std.specs.Prelude.{◌≡◌, ◌<◌, ◌+◌, ◌^◌, length, IfOk};
 ghost use Rattle.stil_syntax.specs.Names.{name_at};
-ghost use Rattle.stil_calls.specs.Parts.{opened_name, opens_by, opening_kind, opened_in, passing_kind, top_kind, passing_in, judge_of};
+ghost use Rattle.stil_calls.specs.Parts.{opened_name, opens_by, opening_kind, opened_in, passing_kind, top_kind, passing_in, judge_by};
 
-use crate::faults::{fault_in, fault_or};
+use crate::faults::{fault_by, fault_or};
+use crate::judging::Judging;
 use base_types::{Kind, Name, NoMemory};
 use std::alloc::Global;
 use stil_parts::{Part, PartFault, Point};
@@ -97,9 +98,10 @@ fn opening_kind(alloc: Global, text: &[u8]) -> Result<Option<Kind>, NoMemory>
 
 /// What is wrong with a part of these bytes at a point of the text, if anything is: with a statement in a Pattern, with what
 /// opens a Pattern, or with a statement outside, of which only `Ann` passes. Or want of memory.
-#[tactic(auto, unfolding(crate::specs::Parts::judge_of))]
+#[tactic(auto, unfolding(crate::specs::Parts::judge_by))]
 pub fn judge_part(
     alloc: Global,
+    judging: Judging,
     head: &StilHead,
     point: Point,
     part: Part,
@@ -107,10 +109,10 @@ pub fn judge_part(
 ) -> Result<Option<PartFault>, NoMemory>
     requires size { length text.now < 2 ^ 32 }
     requires room { point.line + length text.now < 2 ^ 64 }
-    ensures value { IfOk result (λ found. found ≡ judge_of head.now point part text.now) }
+    ensures value { IfOk result (λ found. found ≡ judge_by judging head.now point part text.now) }
 {
     match part {
-        Part::Whole(_len) => fault_in(alloc, head, point.line, text),
+        Part::Whole(_len) => fault_by(alloc, judging, head, point.line, text),
         Part::Opens(_len) => Ok(fault_or(opening_kind(alloc, text)?, point.line, None)),
         Part::Passes(_len) => Ok(fault_or(passing_in(alloc, text)?, point.line, None)),
     }

@@ -1,12 +1,13 @@
 //! The statements of a Pattern.
-ghost use Rattle.std.specs.Prelude.{◌≡◌, ◌<◌, ◌≤◌, ◌+◌, ◌^◌, length, map, IfOk, None, Some};
+ghost use Rattle.std.specs.Prelude.{◌≡◌, ◌<◌, ◌+◌, ◌^◌, true, length, map, IfOk, Some};
 ghost use Rattle.base_types.specs.FirstFault.{IfFault, IsFirstFault};
 ghost use Rattle.token_forms.specs.Tokens.{place_of};
-ghost use Rattle.stil_calls.specs.Statements.{call_in, body_of, statement_of, DenotesStatement, HoldsInStatement, AreAccepted};
-ghost use Rattle.stil_calls.specs.Faults.{shape_fault};
+ghost use Rattle.stil_calls.specs.Statements.{call_in, body_of, is_read, statement_of, DenotesBy, DenotesStatement, HoldsBy, HoldsInStatement, AreAcceptedBy, AreAccepted};
 ghost use Rattle.stil_syntax.specs.Shapes.{shape_of, body_statements};
+ghost use Rattle.stil_types.specs.Statements.{IsPlaced};
 
 use crate::faults::{line_in, shape_fault};
+use crate::judging::Judging;
 use crate::strings::call_of;
 use base_types::{Fault, FileKind, Lines, NoMemory, ReadFault, Rows, Text};
 use std::alloc::Global;
@@ -73,7 +74,7 @@ fn body_of_all(
     Ok(Rows::of(rows))
 }
 
-/// What a statement without fault denotes.
+/// What a statement denotes whose form is read.
 fn statement_of(
     alloc: Global,
     head: &StilHead,
@@ -83,7 +84,7 @@ fn statement_of(
     shape: &Shape<'_, '_>,
 ) -> Result<PatternStatement, NoMemory>
     requires room { line + length text.now < 2 ^ 64 }
-    requires sound { shape_fault head.now line text.now shape.now ≡ None }
+    requires read { is_read shape.now ≡ true }
     ensures value { IfOk result (λ s. statement_of head.now pattern line text.now shape.now ≡ Some s) }
 {
     let copy = Text::copy(alloc, text)?;
@@ -110,6 +111,34 @@ fn statement_of(
     }
 }
 
+/// The statement of a Pattern that these bytes are, or its first fault of those that count.
+pub fn read_statement_by(
+    alloc: Global,
+    judging: Judging,
+    head: &StilHead,
+    pattern: u32,
+    line: u64,
+    text: &[u8],
+) -> Result<PatternStatement, ReadFault>
+    requires size { length text.now < 2 ^ 32 }
+    requires room { line + length text.now < 2 ^ 64 }
+    ensures value { IfOk result (λ s. DenotesBy judging head.now pattern line text.now s) }
+    ensures first { IfFault result (IsFirstFault (HoldsBy judging head.now line text.now)) }
+    ensures accepted { IfOk result (λ s. AreAcceptedBy judging head.now s) }
+    ensures placed { IfOk result IsPlaced }
+{
+    let spans = stil_tokens(alloc, text)?;
+    let shape = shape_of(alloc, head, false, &Stretch::of(text, &spans))?;
+    match shape_fault(alloc, judging, head, line, text, &shape)? {
+        Some(found) => Err(ReadFault::Fault(Fault::at_line(
+            found.kind,
+            FileKind::Stil,
+            found.line,
+        ))),
+        None => Ok(statement_of(alloc, head, pattern, line, text, &shape)?),
+    }
+}
+
 /// The statement of a Pattern that these bytes are, from the first byte of its first token to its end, beside the head; or
 /// its first fault: PatternSyntax where it matches no form or a scan call gives one name twice, PatternUnsupported for a form
 /// that isn't read, ScanCharacter for another character or escape in scan data, ForeignData for data given to a name that is
@@ -129,15 +158,7 @@ pub fn read_statement(
     ensures value { IfOk result (λ s. DenotesStatement head.now pattern line text.now s) }
     ensures first { IfFault result (IsFirstFault (HoldsInStatement head.now line text.now)) }
     ensures accepted { IfOk result (λ s. AreAccepted head.now s) }
+    ensures placed { IfOk result IsPlaced }
 {
-    let spans = stil_tokens(alloc, text)?;
-    let shape = shape_of(alloc, head, false, &Stretch::of(text, &spans))?;
-    match shape_fault(alloc, head, line, text, &shape)? {
-        Some(found) => Err(ReadFault::Fault(Fault::at_line(
-            found.kind,
-            FileKind::Stil,
-            found.line,
-        ))),
-        None => Ok(statement_of(alloc, head, pattern, line, text, &shape)?),
-    }
+    read_statement_by(alloc, Judging::Lengths, head, pattern, line, text)
 }

@@ -13,7 +13,7 @@ use stil_types::{ScanCall, ScanChainDecl};
 fn string_of(
     alloc: Global,
     side: Side,
-    items: &[Item<'_>],
+    items: &[Item],
     chain: &ScanChainDecl,
 ) -> Result<Option<Text>, NoMemory>
     ensures value { IfOk result (λ string. string ≡ written_in (given side items.now chain.now)) }
@@ -28,7 +28,7 @@ fn strings_of(
     alloc: Global,
     side: Side,
     chains: &[ScanChainDecl],
-    items: &[Item<'_>],
+    items: &[Item],
 ) -> Result<Rows<Option<Text>>, NoMemory>
     ensures value { IfOk result (λ strings. strings ≡ strings_of side chains.now items.now) }
 {
@@ -58,7 +58,7 @@ fn longest_string(strings: &[Option<Text>]) -> usize
 pub(crate) fn call_of(
     alloc: Global,
     chains: &[ScanChainDecl],
-    items: &[Item<'_>],
+    items: &[Item],
 ) -> Result<ScanCall, NoMemory>
     ensures value { IfOk result (λ call. call ≡ call_of chains.now items.now) }
 {

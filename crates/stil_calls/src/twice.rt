@@ -4,31 +4,19 @@ ghost use Rattle.stil_calls.specs.Scans.{gives_twice};
 ghost use Rattle.stil_calls.specs.Twice.{has_equal, rises};
 
 use crate::scan::has_name_twice;
-use base_types::{Name, NoMemory};
+use base_types::NoMemory;
 use std::alloc::Global;
 use stil_syntax::Item;
 
 /// The names of items.
-fn names_of(alloc: Global, items: &[Item<'_>]) -> Result<Vec<Name>, NoMemory>
-    ensures value { IfOk result (λ names. names.items ≡ map (λ i. i.name) items.now) }
+fn names_of<'i>(alloc: Global, items: &'i [Item]) -> Result<Vec<&'i [u8]>, NoMemory>
+    ensures value { IfOk result (λ names. map (λ t. t.now) names.items ≡ map (λ i. i.name) items.now) }
 {
     let mut names = Vec::with_capacity(alloc, items.len())?;
     for item in items {
-        let name = item.name.to_name(alloc)?;
-        names.push(name)?;
+        names.push(item.name.bytes())?;
     }
     Ok(names)
-}
-
-/// The bytes of names.
-fn texts_of<'n>(alloc: Global, names: &'n [Name]) -> Result<Vec<&'n [u8]>, NoMemory>
-    ensures value { IfOk result (λ texts. map (λ t. t.now) texts.items ≡ names.now) }
-{
-    let mut texts = Vec::with_capacity(alloc, names.len())?;
-    for name in names {
-        texts.push(name.bytes())?;
-    }
-    Ok(texts)
 }
 
 /// Whether two equal names stand beside one another.
@@ -71,16 +59,15 @@ fn rises(names: &[&[u8]]) -> bool
 
 /// Whether a name is given twice. Sorted names that don't rise have two equal ones beside one another, so the names are
 /// compared one with the other only where a sort would be none.
-pub(crate) fn gives_twice(alloc: Global, items: &[Item<'_>]) -> Result<bool, NoMemory>
+pub(crate) fn gives_twice(alloc: Global, items: &[Item]) -> Result<bool, NoMemory>
     ensures value { IfOk result (λ twice. twice ≡ gives_twice items.now) }
 {
-    let names = names_of(alloc, items)?;
-    let mut texts = texts_of(alloc, &names)?;
-    texts.sort()?;
-    if has_equal(&texts) {
+    let mut names = names_of(alloc, items)?;
+    names.sort()?;
+    if has_equal(&names) {
         return Ok(true);
     }
-    if rises(&texts) {
+    if rises(&names) {
         return Ok(false);
     }
     Ok(has_name_twice(items))

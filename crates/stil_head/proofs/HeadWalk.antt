@@ -1,5 +1,5 @@
 -- The walk to the head's end, turn by turn.
-use Rattle.std.proofs.Common.{◌≡◌, ℕ, zero, suc, ◌+◌, ◌-◌, ◌<◌, ◌≤◌, Bool, true, false, cond, List, [], ◌∷◌, length, take, drop, get_or, Option, Some, None, refl, sym, ap, ◌∙◌, subst, arith}
+use Rattle.std.proofs.Common.{◌≡◌, ℕ, zero, suc, ◌+◌, ◌-◌, ◌<◌, ◌≤◌, Bool, true, false, cond, List, [], ◌∷◌, length, take, drop, Option, Some, None, refl, sym, ap, ◌∙◌, subst, arith}
 use Rattle.std.specs.Prelude.{nat_lt, slice_index}
 use Rattle.std.proofs.lemmas.Bool.{lt-ltb, le-ltb}
 use Rattle.std.proofs.lemmas.Option.{same_Some}
@@ -9,17 +9,14 @@ use Rattle.stil_parts.specs.declared.gap.Comment.{Comment}
 use Rattle.stil_parts.specs.declared.gap.Comment.TheVariants.{Outside}
 use Rattle.stil_parts.specs.declared.scan.Found.{Found}
 use Rattle.stil_parts.specs.declared.scan.Scan.{Scan}
-use Rattle.stil_parts.specs.declared.scan.After.{After}
 use Rattle.stil_parts.specs.declared.scan.After.TheVariants.{Goes, Ends, Opens}
 use Rattle.stil_parts.specs.declared.part.Part.{Part}
 use Rattle.stil_parts.specs.declared.part.Part.TheVariants.{Whole}
 use Rattle.stil_parts.specs.declared.head.HeadTurn.{HeadTurn}
 use Rattle.stil_parts.specs.declared.head.HeadTurn.TheVariants.{Passed, Here}
-use Rattle.stil_parts.specs.declared.word.Word.{Word}
-use Rattle.stil_parts.specs.declared.word.Word.TheVariants.{Start, Letters, Text, Joined, After as after_word, Known}
-use Rattle.stil_parts.specs.declared.word.Word.TheVariants as words
+use Rattle.stil_parts.specs.declared.word.Word.TheVariants.{Start, Known}
 use Rattle.stil_parts.specs.Words.{word_shown, word_settled}
-use Rattle.stil_parts.specs.Scanner.{step, found, later, end_of, run, HasReached, HasFound}
+use Rattle.stil_parts.specs.Scanner.{step, later, end_of, run, HasReached, HasFound}
 use Rattle.stil_parts.specs.Parts.{begin, parted, part_at, part_len}
 use Rattle.stil_parts.specs.declared.gap.Gap.{Gap}
 use Rattle.stil_parts.specs.Gaps.{gap_at}

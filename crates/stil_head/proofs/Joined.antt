@@ -2,7 +2,7 @@
 use Rattle.std.proofs.Common.{◌≡◌, ℕ, Bool, true, cond, List, [], ◌++◌, Option, sym, ap, ◌∙◌}
 use Rattle.token_forms.specs.Tokens.{Token}
 use Rattle.stil_head.specs.Leasts.{lesser, least_of}
-use Rattle.stil_head.specs.Callees.{holds_shift}
+use Rattle.stil_blocks.specs.Callees.{holds_shift}
 use Rattle.stil_head.specs.Unsupported.{places_at, is_barred, scan_places, body_places}
 use Rattle.stil_head.proofs.Leasts.{least_append}
 

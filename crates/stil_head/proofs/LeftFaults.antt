@@ -1,8 +1,8 @@
 -- The least fault of a head that is left, by lists that are the same.
 use Rattle.std.proofs.Common.{◌≡◌, ℕ, List, Option, sym, ap, ◌∙◌}
 use Rattle.token_forms.specs.Tokens.{Token}
-use Rattle.stil_head.specs.declared.chain.ReadChain.{ReadChain}
-use Rattle.stil_head.specs.declared.callee.ReadCallee.{ReadCallee}
+use Rattle.stil_blocks.specs.declared.chain.ReadChain.{ReadChain}
+use Rattle.stil_blocks.specs.declared.callee.ReadCallee.{ReadCallee}
 use Rattle.stil_head.specs.Leasts.{least_of}
 use Rattle.stil_head.specs.Twice.{twice_among}
 use Rattle.stil_head.specs.Unsupported.{unsupported_in}

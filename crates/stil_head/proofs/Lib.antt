@@ -1,13 +1,12 @@
 pub mod Begins
 pub mod Calls
-pub mod Fronts
+pub mod Declared
 pub mod HeadFaults
 pub mod HeadWalk
 pub mod Joined
 pub mod Leasts
 pub mod LeftFaults
 pub mod Loops
-pub mod NameLists
 pub mod Rows
 pub mod Same
 pub mod Texts

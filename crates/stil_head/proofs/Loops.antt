@@ -1,20 +1,12 @@
 -- Walks over the tokens of a block, a token more.
-use Rattle.std.proofs.Common.{◌≡◌, ℕ, ◌+◌, ◌<◌, ◌≤◌, Bool, true, false, ◌||◌, ◌&&◌, List, [], ◌∷◌, ◌++◌, length, drop, Option, refl, sym, ap, ◌∙◌, arith}
+use Rattle.std.proofs.Common.{◌≡◌, ◌<◌, Bool, ◌||◌, ◌&&◌, List, [], ◌∷◌, ◌++◌, length, drop, refl, arith}
 use Rattle.token_forms.specs.Tokens.{Token}
 use Rattle.stil_syntax.specs.Shapes.{begins_behind}
 use Rattle.stil_head.specs.Leasts.{place_if}
-use Rattle.stil_head.specs.Statements.{start_of, first_text}
-use Rattle.stil_head.specs.Callees.{begins_shift, holds}
+use Rattle.stil_blocks.specs.Statements.{start_of, first_text}
+use Rattle.stil_blocks.specs.Callees.{begins_shift}
 use Rattle.stil_head.specs.declared.shift.InShift.{InShift}
-use Rattle.stil_head.specs.Unsupported.{places_at, later_shifts, has_outer_mark, is_outside, shift_at, shift_behind, assigns_behind, is_mark, shift_depth}
-
-pub no_tokens : (ts : List Token) → length ts ≡ 0 → ts ≡ []
-no_tokens [] e = refl
-no_tokens (t ∷ ts) e = absurd (omega arith)
-
-pub holds_next : (test : List Token → Bool) (b : Bool) (ts : List Token) → 0 < length ts → holds test b ts ≡ ((b && test ts) || holds test (begins_behind (first_text ts)) (drop 1 ts))
-holds_next test b [] some = absurd (omega arith)
-holds_next test b (t ∷ ts) some = refl
+use Rattle.stil_head.specs.Unsupported.{places_at, later_shifts, has_outer_mark, is_outside, shift_at, shift_behind, assigns_behind, is_mark}
 
 pub places_next : (test : List Token → Bool) (b : Bool) (ts : List Token) → 0 < length ts → places_at test b ts ≡ place_if (b && test ts) (start_of ts) ++ places_at test (begins_behind (first_text ts)) (drop 1 ts)
 places_next test b [] some = absurd (omega arith)

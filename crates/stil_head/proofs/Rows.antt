@@ -1,5 +1,5 @@
 -- Names that stand a second time, as they are gathered: known names as a test.
-use Rattle.std.proofs.Common.{◌≡◌, ℕ, ◌+◌, ◌<◌, ◌≤◌, Bool, true, false, ◌||◌, ◌&&◌, filter, List, [], ◌∷◌, ◌++◌, length, drop, get_or, Option, Some, None, refl, sym, ap, ◌∙◌, Bor, map, cond, not}
+use Rattle.std.proofs.Common.{◌≡◌, ℕ, ◌+◌, ◌<◌, ◌≤◌, Bool, true, false, ◌||◌, ◌&&◌, filter, List, [], ◌∷◌, ◌++◌, length, drop, get_or, Option, refl, sym, ap, ◌∙◌, Bor, map, cond, not}
 use Rattle.std.specs.List.{flat_map}
 use Rattle.std.proofs.lemmas.List.{drop_more, drop_all}
 use Rattle.std.specs.List.{list_any}
@@ -9,7 +9,7 @@ use Rattle.indexmap.specs.IndexSet.{insert_key}
 use Rattle.token_forms.proofs.Spelled.{same_bytes}
 use Rattle.stil_head.specs.Leasts.{place_if, lesser, least_of, found_if}
 use Rattle.stil_head.specs.Twice.{Row, again_in}
-use Rattle.stil_head.specs.declared.callee.ReadCallee.{ReadCallee}
+use Rattle.stil_blocks.specs.declared.callee.ReadCallee.{ReadCallee}
 use Rattle.stil_head.specs.Unsupported.{is_name_of, scan_names}
 use Rattle.stil_head.proofs.Leasts.{lesser_none, then_if}
 

@@ -1,17 +1,17 @@
 -- Equal tests of names find the same.
-use Rattle.std.proofs.Common.{◌≡◌, ℕ, Bool, true, false, ◌||◌, ◌&&◌, cond, List, [], ◌∷◌, ◌++◌, Option, Some, None, refl, sym, ap, ◌∙◌}
+use Rattle.std.proofs.Common.{◌≡◌, ℕ, Bool, true, ◌||◌, ◌&&◌, cond, List, [], ◌∷◌, ◌++◌, Option, Some, None, refl, sym, ap, ◌∙◌}
 use Rattle.std.specs.List.{flat_map}
 use Rattle.std.specs.Prelude.{codes}
 use Rattle.token_forms.specs.Tokens.{Token}
 use Rattle.stil_syntax.specs.Names.{name_at}
 use Rattle.stil_syntax.specs.Shapes.{begins_behind, in_block}
-use Rattle.stil_head.specs.declared.chain.ReadChain.{ReadChain}
-use Rattle.stil_head.specs.declared.callee.ReadCallee.{ReadCallee}
+use Rattle.stil_blocks.specs.declared.chain.ReadChain.{ReadChain}
+use Rattle.stil_blocks.specs.declared.callee.ReadCallee.{ReadCallee}
 use Rattle.stil_head.specs.Leasts.{place_if, lesser, least_of}
 use Rattle.stil_head.proofs.Leasts.{least_append}
-use Rattle.stil_head.specs.Statements.{has_word, behind_word, statements_in}
-use Rattle.stil_head.specs.Callees.{holds_shift}
-use Rattle.stil_head.specs.Unsupported.{name_passes, names_one, calls_scan, is_barred, places_at, scan_places, body_places, bodies_places, callee_places, unlisted_places, structures_again, places_in, is_name_of, scan_names, out_length_places, unsupported_in}
+use Rattle.stil_blocks.specs.Statements.{has_word, behind_word, statements_in}
+use Rattle.stil_blocks.specs.Callees.{holds_shift}
+use Rattle.stil_head.specs.Unsupported.{name_passes, names_one, calls_scan, is_barred, places_at, scan_places, body_places, callee_places, unlisted_places, structures_again, is_name_of, scan_names, out_length_places, unsupported_in}
 
 pub same_flat : {X : Type 0} (f g : X → List ℕ) → ((x : X) → f x ≡ g x) → (xs : List X) → flat_map f xs ≡ flat_map g xs
 same_flat f g same [] = refl

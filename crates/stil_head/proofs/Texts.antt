@@ -1,10 +1,10 @@
 -- What the reader finds in a head's text is what the definitions say of it.
-use Rattle.std.proofs.Common.{◌≡◌, ◌≤◌, ℕ, Bool, true, List, [], length, take, Option, Some, None, refl, sym, ap, subst, ◌∙◌, map, codes}
+use Rattle.std.proofs.Common.{◌≡◌, ◌≤◌, ℕ, Bool, true, List, length, take, Option, Some, None, refl, sym, ap, subst, ◌∙◌, map, codes}
 use Rattle.std.specs.Option.{unwrap_or}
 use Rattle.std.proofs.lemmas.List.{length-take-le}
 use Rattle.stil_parts.specs.declared.gap.Comment.TheVariants.{Outside}
 use Rattle.stil_parts.specs.Heads.{head_end}
-use Rattle.stil_head.specs.Statements.{head_text}
+use Rattle.stil_head.specs.Ends.{head_text}
 use Rattle.std.specs.List.{flat_map, list_any}
 use Rattle.token_forms.specs.Tokens.{Token}
 use Rattle.stil_tokens.specs.StilTokens.{tokens_in}
@@ -12,11 +12,11 @@ use Rattle.stil_types.specs.declared.head.StilHead.{StilHead}
 use Rattle.stil_types.specs.declared.head.ScanChainDecl.{ScanChainDecl}
 use Rattle.stil_types.specs.declared.head.Callee.{Callee}
 use Rattle.stil_syntax.specs.Shapes.{body_statements}
-use Rattle.stil_head.specs.declared.chain.ReadChain.{ReadChain}
-use Rattle.stil_head.specs.declared.callee.ReadCallee.{ReadCallee}
+use Rattle.stil_blocks.specs.declared.chain.ReadChain.{ReadChain}
+use Rattle.stil_blocks.specs.declared.callee.ReadCallee.{ReadCallee}
 use Rattle.stil_head.specs.Leasts.{least_of}
-use Rattle.stil_head.specs.Chains.{structure_chains, chains_of}
-use Rattle.stil_head.specs.Callees.{block_callees, callees_of, statement_keywords, keywords_of}
+use Rattle.stil_blocks.specs.Chains.{structure_chains, chains_of}
+use Rattle.stil_blocks.specs.Callees.{block_callees, callees_of, statement_keywords, keywords_of}
 use Rattle.stil_head.specs.Twice.{twice_among, twice_places}
 use Rattle.stil_head.specs.Unsupported.{unsupported_in, unsupported_places}
 use Rattle.std.specs.Prelude.{Result, Ok, Err, IfOk, OnOk}

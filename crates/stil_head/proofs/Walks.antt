@@ -4,14 +4,15 @@ use Rattle.std.proofs.Common.{◌≡◌, ℕ, ◌+◌, ◌-◌, ◌<◌, ◌≤�
 use Rattle.token_forms.specs.Tokens.{Token}
 use Rattle.stil_syntax.specs.Shapes.{begins_behind}
 use Rattle.stil_head.specs.Leasts.{place_if, lesser, least_of, found_if}
-use Rattle.stil_head.specs.Statements.{start_of, first_text}
-use Rattle.stil_head.specs.Callees.{begins_shift, holds}
+use Rattle.stil_blocks.specs.Statements.{start_of, first_text}
+use Rattle.stil_blocks.specs.Callees.{begins_shift}
+use Rattle.stil_blocks.proofs.Holds.{no_tokens}
 use Rattle.stil_head.specs.Unsupported.{places_at, later_shifts, later_places, has_outer_mark, is_outside, shift_at, shift_behind, shift_depth, assigns_behind, is_mark}
 use Rattle.stil_tokens.specs.StilStatements.{is_only}
 use Rattle.stil_head.specs.declared.shift.InShift.{InShift}
 use Rattle.stil_head.specs.declared.shift.InShift.TheVariants.{Outside, Before, Inside}
 use Rattle.stil_head.proofs.Leasts.{then_if, lesser_none}
-use Rattle.stil_head.proofs.Loops.{no_tokens, holds_next, places_next, later_next, outer_next}
+use Rattle.stil_head.proofs.Loops.{places_next, later_next, outer_next}
 
 pub walk_places : (test : List Token → Bool) (b next : Bool) (ts rest : List Token) (text : List ℕ) (least now o : Option ℕ) (here : Bool) (p : ℕ) → 0 < length ts → here ≡ (b && test ts) → p ≡ start_of ts → o ≡ found_if here p → now ≡ lesser least o
     → text ≡ first_text ts → rest ≡ drop 1 ts → next ≡ begins_behind text → lesser now (least_of (places_at test next rest)) ≡ lesser least (least_of (places_at test b ts))
@@ -43,18 +44,6 @@ more_later test seen then_seen least now o here both p s ss all cut passes again
 
 pub last_later : (test : List Token → Bool) (seen : Bool) (least total : Option ℕ) (ss : List (List Token)) → ss ≡ [] → lesser least (least_of (later_places test seen ss)) ≡ total → least ≡ total
 last_later test seen least total ss none e = sym (lesser_none least) ∙ (rw none at e)
-
-pub walk_holds : (test : List Token → Bool) (b next x : Bool) (ts rest : List Token) (text : List ℕ) (total : Bool) → 0 < length ts → x ≡ (b && test ts) → x ≡ false → text ≡ first_text ts → rest ≡ drop 1 ts → next ≡ begins_behind text → holds test b ts ≡ total
-    → holds test next rest ≡ total
-walk_holds test b next x ts rest text total some is other first left begins e =
-    rw (begins, left, first) (ap (λ (k : Bool). k || holds test (begins_behind (first_text ts)) (drop 1 ts)) (sym other ∙ is) ∙ sym (holds_next test b ts some) ∙ e)
-
-pub found_holds : (test : List Token → Bool) (b x : Bool) (ts : List Token) (total : Bool) → 0 < length ts → x ≡ (b && test ts) → x ≡ true → holds test b ts ≡ total → true ≡ total
-found_holds test b x ts total some is sure e =
-    ap (λ (k : Bool). k || holds test (begins_behind (first_text ts)) (drop 1 ts)) (sym sure ∙ is) ∙ sym (holds_next test b ts some) ∙ e
-
-pub none_holds : (test : List Token → Bool) (b : Bool) (ts : List Token) (total : Bool) → length ts ≡ 0 → holds test b ts ≡ total → false ≡ total
-none_holds test b ts total none e = ap (holds test b) (sym (no_tokens ts none)) ∙ e
 
 module _ (place : InShift) (b assigns : Bool) (ts : List Token) (total : Bool) (some : 0 < length ts) (at : InShift) (text : List ℕ) (x : Bool) (here : at ≡ shift_at place b ts) (first : text ≡ first_text ts)
     (is : x ≡ (is_outside at && (assigns && is_mark text))) (e : has_outer_mark place b assigns ts ≡ total) where

@@ -1,6 +1,6 @@
 -- What may be wrong with the head of a STIL text (IEEE 1450-1999, in this profile), and where it stands: at the first token of the
 -- statement concerned, what is wrong in a ScanChain at the ScanChain, and what is missing at the text's beginning.
-use Rattle.std.specs.Prelude.{ℕ, Bool, true, false, ◌&&◌, ◌||◌, not, if◌then◌else◌, List, [], ◌∷◌, ◌++◌, codes, Option, Some, None, is_some, Contains}
+use Rattle.std.specs.Prelude.{ℕ, Bool, false, ◌&&◌, ◌||◌, not, if◌then◌else◌, List, [], ◌∷◌, ◌++◌, codes, is_some, Contains}
 use Rattle.std.specs.List.{flat_map, list_any}
 use Rattle.std.specs.Str.{bytes_eq}
 use Rattle.base_types.specs.Faults.{at_line}
@@ -11,10 +11,11 @@ use Rattle.base_types.specs.declared.kind.Kind.TheVariants.{StilSyntax, StilTwic
 use Rattle.token_forms.specs.Tokens.{Token}
 use Rattle.stil_tokens.specs.StilStatements.{is_only}
 use Rattle.stil_syntax.specs.Shapes.{behind_labels}
+use Rattle.stil_head.specs.Ends.{head_text}
 use Rattle.stil_head.specs.Leasts.{place_if}
-use Rattle.stil_head.specs.Statements.{head_text, statements_of, start_of, is_whole, is_worded, has_word, behind_word, opens_maybe_named, statements_in}
-use Rattle.stil_head.specs.Chains.{chain_at}
-use Rattle.stil_head.specs.Callees.{callee_at}
+use Rattle.stil_blocks.specs.Statements.{statements_of, start_of, is_whole, is_worded, has_word, behind_word, opens_maybe_named, statements_in}
+use Rattle.stil_blocks.specs.Chains.{chain_at}
+use Rattle.stil_blocks.specs.Callees.{callee_at}
 use Rattle.stil_head.specs.Twice.{twice_places}
 use Rattle.stil_head.specs.Unsupported.{unsupported_places}
 

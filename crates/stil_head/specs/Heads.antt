@@ -7,17 +7,17 @@ use Rattle.base_types.specs.declared.fault.Fault.{Fault}
 use Rattle.base_types.specs.declared.fault.FileKind.TheVariants.{Stil}
 use Rattle.base_types.specs.declared.kind.Kind.TheVariants.{StilTwice, Unsupported}
 use Rattle.token_forms.specs.Tokens.{Token}
-use Rattle.stil_head.specs.declared.chain.ReadChain.{ReadChain}
-use Rattle.stil_head.specs.declared.callee.ReadCallee.{ReadCallee}
+use Rattle.stil_blocks.specs.declared.chain.ReadChain.{ReadChain}
+use Rattle.stil_blocks.specs.declared.callee.ReadCallee.{ReadCallee}
 use Rattle.stil_head.specs.Leasts.{least_of}
 use Rattle.stil_types.specs.declared.head.StilHead.{StilHead}
 use Rattle.stil_parts.specs.declared.gap.Comment.TheVariants.{Outside}
 use Rattle.stil_parts.specs.declared.head.HeadTurn.{HeadTurn}
 use Rattle.stil_parts.specs.declared.head.HeadTurn.TheVariants.{Here, Passed}
 use Rattle.stil_parts.specs.Heads.{head_end}
-use Rattle.stil_head.specs.Statements.{head_text}
-use Rattle.stil_head.specs.Chains.{chains_of}
-use Rattle.stil_head.specs.Callees.{callees_of, keywords_of, statement_keywords}
+use Rattle.stil_head.specs.Ends.{head_text}
+use Rattle.stil_blocks.specs.Chains.{chains_of}
+use Rattle.stil_blocks.specs.Callees.{callees_of, keywords_of, statement_keywords}
 use Rattle.stil_head.specs.Twice.{twice_places, twice_among}
 use Rattle.stil_head.specs.Unsupported.{unsupported_places, unsupported_in}
 use Rattle.stil_head.specs.Faults.{syntax_places}

@@ -1,9 +1,7 @@
-pub mod Callees
-pub mod Chains
+pub mod Ends
 pub mod Faults
 pub mod Heads
 pub mod Leasts
-pub mod Statements
 pub mod TopWords
 pub mod Twice
 pub mod Unsupported

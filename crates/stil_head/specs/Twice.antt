@@ -3,11 +3,11 @@
 use Rattle.std.specs.Prelude.{ℕ, List, [], ◌∷◌, ◌++◌, map, codes}
 use Rattle.std.specs.List.{flat_map, list_any}
 use Rattle.std.specs.Str.{bytes_eq}
-use Rattle.stil_head.specs.declared.chain.ReadChain.{ReadChain}
-use Rattle.stil_head.specs.declared.callee.ReadCallee.{ReadCallee}
+use Rattle.stil_blocks.specs.declared.chain.ReadChain.{ReadChain}
+use Rattle.stil_blocks.specs.declared.callee.ReadCallee.{ReadCallee}
 use Rattle.stil_head.specs.Leasts.{place_if}
-use Rattle.stil_head.specs.Chains.{chains_of}
-use Rattle.stil_head.specs.Callees.{callees_of}
+use Rattle.stil_blocks.specs.Chains.{chains_of}
+use Rattle.stil_blocks.specs.Callees.{callees_of}
 
 -- a name, and the place of the statement that gives it
 abbrev pub Row : Type 0

@@ -9,14 +9,14 @@ use Rattle.token_forms.specs.Classes.{is_among}
 use Rattle.stil_tokens.specs.StilStatements.{is_only}
 use Rattle.stil_syntax.specs.Names.{is_word, name_at}
 use Rattle.stil_syntax.specs.Shapes.{behind_labels, in_block, begins_behind, body_statements}
-use Rattle.stil_head.specs.declared.chain.ReadChain.{ReadChain}
-use Rattle.stil_head.specs.declared.callee.ReadCallee.{ReadCallee}
+use Rattle.stil_blocks.specs.declared.chain.ReadChain.{ReadChain}
+use Rattle.stil_blocks.specs.declared.callee.ReadCallee.{ReadCallee}
 use Rattle.stil_head.specs.declared.shift.InShift.{InShift}
 use Rattle.stil_head.specs.declared.shift.InShift.TheVariants.{Outside, Before, Inside}
 use Rattle.stil_head.specs.Leasts.{place_if}
-use Rattle.stil_head.specs.Statements.{statements_of, start_of, has_word, behind_word, statements_in}
-use Rattle.stil_head.specs.Chains.{chains_of}
-use Rattle.stil_head.specs.Callees.{begins_shift, holds_shift, callee_at, callees_of}
+use Rattle.stil_blocks.specs.Statements.{statements_of, start_of, has_word, behind_word, statements_in}
+use Rattle.stil_blocks.specs.Chains.{chains_of}
+use Rattle.stil_blocks.specs.Callees.{begins_shift, holds_shift, callees_of}
 
 -- the words at the top
 abbrev pub top_words : List (List ℕ)

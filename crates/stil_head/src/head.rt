@@ -12,15 +12,13 @@ ghost use Rattle.stil_syntax.specs.Shapes.{body_statements};
 ghost use Rattle.stil_head.specs.Heads.{DenotesHead, IsHead, SaysAll, IsLeftFault};
 ghost use Rattle.stil_head.specs.Faults.{HoldsInHead, HoldsInText};
 
-use crate::callee::{ReadCallee, read_callees};
-use crate::chain::{ReadChain, read_chains};
 use crate::ends::head_len;
-use crate::keywords::read_keywords;
 use crate::syntax::syntax_place;
 use crate::twice::twice_place;
 use crate::unsupported::unsupported_place;
 use base_types::{Fault, FileKind, Kind, Lines, NoMemory, ReadFault, Rows};
 use std::alloc::Global;
+use stil_blocks::{ReadCallee, ReadChain, read_callees, read_chains, read_keywords};
 use stil_syntax::Stretch;
 use stil_tokens::stil_tokens;
 use stil_types::{Callee, ScanChainDecl, StilHead};

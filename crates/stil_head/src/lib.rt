@@ -1,7 +1,8 @@
 //! The head of a STIL text, up to its first Pattern: the scan chains that it declares, the procedures and macros that patterns
 //! call, and the words that it adds (IEEE 1450-1999, in this profile).
 //!
-//! Floor: readers, on base_types, token_forms, stil_tokens, stil_parts, stil_types, stil_syntax and `indexmap`.
+//! Floor: readers, on base_types, token_forms, stil_tokens, stil_parts, stil_types, stil_syntax, stil_blocks and
+//! `indexmap`.
 //! Contract: `read_head` gives what `specs/Heads.antt` says that a text's head denotes, and refuses exactly as `specs/Faults.antt`
 //! says. Begin with `head.rt`.
 //!
@@ -10,14 +11,8 @@
 //! statements of the listed words pass unread.
 #![tactic(auto)]
 
-mod block;
-mod callee;
-mod cells;
-mod chain;
-mod clause;
 mod ends;
 mod head;
-mod keywords;
 mod least;
 mod marks;
 mod names;

@@ -4,8 +4,8 @@ ghost use Rattle.std.specs.List.{list_any};
 ghost use Rattle.stil_head.specs.declared.shift.InShift.TheVariants.{Outside};
 ghost use Rattle.stil_head.specs.Unsupported.{assigns_behind, is_mark, is_outside, has_mark, has_outer_mark};
 
-use crate::block::take_text;
 use crate::shift::{InShift, is_outside, shift_at, shift_behind};
+use stil_blocks::take_text;
 use stil_syntax::{Stretch, begins_behind, is_word};
 
 /// Whether a `=` stands behind the last `;` or brace, behind a token.

@@ -1,13 +1,12 @@
 //! Where the Shifts of a procedure stand.
 ghost use Rattle.std.specs.Prelude.{◌≡◌, ◌+◌, ◌<◌, ◌^◌, true, false, length};
 ghost use Rattle.stil_syntax.specs.Shapes.{body_statements};
-ghost use Rattle.stil_head.specs.Callees.{begins_shift};
+ghost use Rattle.stil_blocks.specs.Callees.{begins_shift};
 ghost use Rattle.stil_head.specs.Leasts.{least_of};
 ghost use Rattle.stil_head.specs.Unsupported.{shift_at, shift_behind, is_outside, later_shifts, places_at, inner_shifts, shift_depth};
 
-use crate::block::{start_of, take_text};
-use crate::callee::{begins_shift, shift_begins};
 use crate::least::{both, either, found_if, lesser};
+use stil_blocks::{shift_begins, start_of, take_text};
 use stil_syntax::{Stretch, begins_behind, body_statement};
 
 /// Where a token stands that may begin a Shift.

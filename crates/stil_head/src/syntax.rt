@@ -3,15 +3,15 @@ ghost use Rattle.std.specs.Prelude.{◌≡◌, IfOk, OnOk, codes};
 ghost use Rattle.std.specs.List.{flat_map, list_any};
 ghost use Rattle.stil_syntax.specs.Shapes.{body_statements};
 ghost use Rattle.stil_head.specs.Leasts.{least_of};
-ghost use Rattle.stil_head.specs.Statements.{has_word};
+ghost use Rattle.stil_blocks.specs.Statements.{has_word};
 ghost use Rattle.stil_head.specs.Faults.{ends_or_opens, is_stil, is_unread, first_places, is_bad_item, item_places, open_places, callee_faults, block_faults, is_read, is_bad, statement_faults, syntax_in};
 
-use crate::block::{behind_word, has_word, is_whole, is_worded, opens_maybe_named, start_of};
-use crate::callee::is_callee;
-use crate::chain::chain_at;
 use crate::least::{found_if, lesser};
 use base_types::{Lines, NoMemory};
 use std::alloc::Global;
+use stil_blocks::{
+    behind_word, chain_at, has_word, is_callee, is_whole, is_worded, opens_maybe_named, start_of,
+};
 use stil_syntax::{Stretch, behind_labels, body_statement, in_block};
 
 /// `;` or `{`.

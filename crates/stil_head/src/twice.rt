@@ -4,12 +4,11 @@ ghost use Rattle.std.specs.List.{flat_map};
 ghost use Rattle.stil_head.specs.Leasts.{least_of};
 ghost use Rattle.stil_head.specs.Twice.{again_in, chain_row, port_rows, callee_row, twice_among};
 
-use crate::callee::ReadCallee;
-use crate::chain::ReadChain;
 use crate::least::{found_if, lesser};
 use crate::names::Names;
 use base_types::NoMemory;
 use std::alloc::Global;
+use stil_blocks::{ReadCallee, ReadChain};
 
 /// The least place of a chain whose name stood before.
 fn chain_again(alloc: Global, chains: &[ReadChain]) -> Result<Option<u32>, NoMemory>

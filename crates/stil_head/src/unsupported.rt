@@ -6,18 +6,18 @@ ghost use Rattle.token_forms.specs.Classes.{is_among};
 ghost use Rattle.stil_syntax.specs.Shapes.{body_statements};
 ghost use Rattle.stil_head.specs.TopWords.{first_words, further_words};
 ghost use Rattle.stil_head.specs.Leasts.{least_of};
-ghost use Rattle.stil_head.specs.Statements.{has_word};
+ghost use Rattle.stil_blocks.specs.Statements.{has_word};
 ghost use Rattle.stil_head.specs.Unsupported.{top_words, is_unlisted, unlisted_places, later_places, structures_again, out_length_places, scan_names, is_name_of, names_one, calls_scan, is_barred, has_mark, outer_marks, is_odd_shift, odd_shifts, scan_places, places_at, body_places, callee_places, bodies_places, unlisted_in, unsupported_in};
 
-use crate::block::{behind_word, has_word, start_of, take_text};
-use crate::callee::{ReadCallee, begins_shift, holds_shift};
-use crate::chain::ReadChain;
 use crate::least::{both, either, found_if, lesser};
 use crate::marks::{has_mark, has_outer_mark};
 use crate::names::Names;
 use crate::shift::{inner_shifts, later_shift};
 use base_types::NoMemory;
 use std::alloc::Global;
+use stil_blocks::{
+    ReadCallee, ReadChain, begins_shift, behind_word, has_word, holds_shift, start_of, take_text,
+};
 use stil_syntax::{Stretch, begins_behind, behind_labels, body_statement, in_block, is_word};
 
 /// The names of scan procedures, and those of scan macros.

@@ -2,6 +2,7 @@
 use Rattle.std.proofs.Common.{◌≡◌, ℕ, ◌+◌, ◌<◌, ◌≤◌, Bool, true, false, List, [], ◌∷◌, ◌++◌, length, drop, take, map, Option, Some, None, refl, sym, ap, subst, ◌∙◌, arith}
 use Rattle.std.specs.Prelude.{nat_lt}
 use Rattle.std.proofs.lemmas.Bool.{lt-ltb, le-ltb, false≢true}
+use Rattle.std.proofs.lemmas.List.{length-take-le}
 use Rattle.base_types.specs.declared.kind.Kind.TheVariants.{PatternSyntax, StatementSize, PatternSize}
 use Rattle.stil_parts.specs.declared.choice.Decision.{Decision}
 use Rattle.stil_parts.specs.declared.gap.Place.{Place}
@@ -26,15 +27,6 @@ module _ (judge : Judge) where
     stops f some e = record {
       shown = turn-shown judge last p x (Refused f) e;
       comes = λ y follows. refused-comes judge last p x y f (gap-within p.place p.comment x) some follows e;
-    }
-
-    takes : (n : ℕ) (es : List Event) (q : Point) → 0 < n → n ≤ length x → IsEarly q → next_turn judge last p x ≡ Some (Taken n es q) → Takes judge last p x n es q
-    takes n es q some within early e = record {
-      some = some;
-      within = within;
-      early = early;
-      shown = turn-shown judge last p x (Taken n es q) e;
-      comes = λ y follows. taken-comes judge last p q x y n es (gap-within p.place p.comment x) some within follows e;
     }
 
     -- where no gap is shown
@@ -122,6 +114,7 @@ module _ (judge : Judge) where
           some = some;
           within = within;
           early = early;
+          given = ap (λ (m : ℕ). p.given + m) (length-take-le n x within);
           shown = gap-shown last e;
           comes = λ more follows. comes judge more;
         }

@@ -1,5 +1,5 @@
 -- What the bytes at a point come to: the contract that a whole text and a text in pieces share.
-use Rattle.std.specs.Prelude.{◌≡◌, ℕ, ◌<◌, ◌≤◌, Bool, true, false, List, [], ◌∷◌, ◌++◌, length, take, drop, map, Option, Some, None, is_some}
+use Rattle.std.specs.Prelude.{◌≡◌, ℕ, ◌+◌, ◌<◌, ◌≤◌, Bool, true, false, List, [], ◌∷◌, ◌++◌, length, take, drop, map, Option, Some, None, is_some}
 use Rattle.stil_parts.specs.declared.gap.Place.TheVariants.{Top}
 use Rattle.stil_parts.specs.declared.gap.Point.{Point}
 use Rattle.stil_parts.specs.declared.part.PartFault.{PartFault}
@@ -20,11 +20,12 @@ abbrev pub Shown : Judge → Bool → Point → List ℕ → Type 0
 Shown judge true p bytes = Unit {0}
 Shown judge false p bytes = is_some (next_turn judge false p bytes) ≡ true
 
--- the first n bytes come to these events and to a new point, whatever follows
+-- the first n bytes come to these events and to a new point behind them, whatever follows
 pub record Takes (judge : Judge) (last : Bool) (p : Point) (bytes : List ℕ) (n : ℕ) (es : List Event) (q : Point) : Type 0 where
   pub some : 0 < n
   pub within : n ≤ length bytes
   pub early : IsEarly q
+  pub given : q.given ≡ p.given + n
   pub shown : Shown judge last p bytes
   pub comes : (more : List ℕ) → Follows last more → to_come judge p 0 (bytes ++ more) ≡ before es (to_come judge q 0 (drop n bytes ++ more))
 

@@ -1,4 +1,4 @@
-mod Labelled
+pub mod Labelled
 mod Lawful
 mod NameTexts
-mod Stretches
+pub mod Stretches

@@ -1,5 +1,6 @@
 -- How the data of a scan call are spelled in tokens (IEEE 1450-1999, Call and Macro, in this profile).
 use Rattle.std.specs.Prelude.{ℕ, Bool, true, List, [], ◌∷◌, ◌++◌, codes, Option, Some}
+use Rattle.base_types.specs.Names.{plain_name}
 use Rattle.token_forms.specs.Classes.{But}
 use Rattle.token_forms.specs.Forms.{Form, text, key, made, ◌◂◌, ◌or◌, gathered}
 use Rattle.stil_syntax.specs.declared.item.Item.{Item}
@@ -19,9 +20,9 @@ ends_data = codes ";" ∷ codes "{" ∷ codes "}" ∷ []
 abbrev pub data_token : Form (List ℕ)
 data_token = text (But ends_data) any
 
--- no data yet
+-- a name without its backslashes, and no data yet
 abbrev pub fresh_item : List ℕ → Item
-fresh_item n = record { name = n; «data» = [] }
+fresh_item n = record { name = plain_name n; «data» = [] }
 
 -- the tokens of data in order, with a blank behind each
 abbrev pub put_token : Item → List ℕ → Option Item

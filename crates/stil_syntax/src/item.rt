@@ -2,11 +2,11 @@
 ghost use Rattle.std.specs.Prelude.{◌≡◌, ◌<◌, ◌++◌, ◌∷◌, [], length, OnOk, IfOk};
 ghost use Rattle.token_forms.specs.Parsing.{Gives};
 ghost use Rattle.token_forms.specs.Laws.{IsStatement};
-ghost use Rattle.stil_syntax.specs.Grammar.{data_token, put_token, item, entry, put_entry, block, call_end};
+ghost use Rattle.stil_syntax.specs.Grammar.{data_token, put_token, fresh_item, item, entry, put_entry, block, call_end};
 
 use crate::name::NameText;
 use crate::words::{InData, NoMark};
-use base_types::{NoMemory, Stop};
+use base_types::{Name, NoMemory, Stop, plain_name};
 use std::alloc::Global;
 use std::marker::Model;
 use token_forms::{Gather, Parser, Read, Statement, TokenText};
@@ -53,8 +53,9 @@ impl Data {
 
 /// `name = data ;`
 #[derive(Drop)]
-pub struct Item<'a> {
-    pub name: NameText<'a>,
+pub struct Item {
+    /// Without its backslashes.
+    pub name: Name,
     pub data: Data,
 }
 
@@ -74,18 +75,18 @@ impl<'a> Model for DataToken<'a> {
 
 /// An item, or an empty one.
 #[derive(Drop)]
-pub(crate) enum Entry<'a> {
+pub(crate) enum Entry {
     Empty,
-    Given(Item<'a>),
+    Given(Item),
 }
 
 /// The items of a scan call, which contracts see as their list.
 #[derive(Drop)]
-pub struct Items<'a> {
-    items: Vec<Item<'a>>,
+pub struct Items {
+    items: Vec<Item>,
 }
 
-impl<'a> Model for Items<'a> {
+impl Model for Items {
     ghost use Rattle.std.specs.Prelude.{List};
     ghost use Rattle.stil_syntax.specs.declared.item.Item.{Item};
 
@@ -94,8 +95,8 @@ impl<'a> Model for Items<'a> {
     ghost view = { λ i. i.items.items };
 }
 
-impl<'a> Items<'a> {
-    fn new(alloc: Global) -> Items<'a>
+impl Items {
+    fn new(alloc: Global) -> Items
         ensures value { result ≡ [] }
     {
         Items {
@@ -104,7 +105,7 @@ impl<'a> Items<'a> {
     }
 
     /// The items in order.
-    pub fn as_slice(&self) -> &[Item<'a>]
+    pub fn as_slice(&self) -> &[Item]
         ensures value { result.now ≡ self.now }
     {
         self.items.as_slice()
@@ -124,10 +125,10 @@ impl<'a> Read<'a> for DataToken<'a> {
     }
 }
 
-impl<'a> Gather<DataToken<'a>> for Item<'a> {
+impl<'a> Gather<DataToken<'a>> for Item {
     ghost put = { put_token };
 
-    fn add(self, piece: DataToken<'a>) -> Result<Item<'a>, Stop> {
+    fn add(self, piece: DataToken<'a>) -> Result<Item, Stop> {
         let data = self.data.with(piece.text.text())?;
         Ok(Item {
             name: self.name,
@@ -136,7 +137,18 @@ impl<'a> Gather<DataToken<'a>> for Item<'a> {
     }
 }
 
-impl<'a> Read<'a> for Item<'a> {
+/// An item without data yet.
+fn fresh_item(alloc: Global, name: &NameText<'_>) -> Result<Item, NoMemory>
+    ensures value { IfOk result (λ i. i ≡ fresh_item name.now) }
+{
+    let read = name.to_name(alloc)?;
+    Ok(Item {
+        name: plain_name(alloc, read.bytes())?,
+        data: Data::new(alloc),
+    })
+}
+
+impl<'a> Read<'a> for Item {
     ghost form = { item };
 
     #[tactic(auto, unfolding(crate::specs::Grammar::item))]
@@ -145,17 +157,17 @@ impl<'a> Read<'a> for Item<'a> {
     }
 
     #[tactic(auto, unfolding(crate::specs::Grammar::item))]
-    fn read(parser: &mut Parser<'a, '_>) -> Result<Item<'a>, Stop> {
+    fn read(parser: &mut Parser<'a, '_>) -> Result<Item, Stop> {
         let name = NameText::read(parser)?;
         parser.word(b"=")?;
-        let data = Data::new(parser.alloc);
-        let item = parser.gather(Item { name, data })?;
+        let fresh = fresh_item(parser.alloc, &name)?;
+        let item = parser.gather(fresh)?;
         parser.word(b";")?;
         Ok(item)
     }
 }
 
-impl<'a> Read<'a> for Entry<'a> {
+impl<'a> Read<'a> for Entry {
     ghost form = { entry };
 
     #[tactic(auto, unfolding(crate::specs::Grammar::entry, crate::specs::Grammar::item))]
@@ -164,7 +176,7 @@ impl<'a> Read<'a> for Entry<'a> {
     }
 
     #[tactic(auto, unfolding(crate::specs::Grammar::entry))]
-    fn read(parser: &mut Parser<'a, '_>) -> Result<Entry<'a>, Stop> {
+    fn read(parser: &mut Parser<'a, '_>) -> Result<Entry, Stop> {
         if parser.begins_word(b";") {
             parser.word(b";")?;
             return Ok(Entry::Empty);
@@ -174,10 +186,10 @@ impl<'a> Read<'a> for Entry<'a> {
     }
 }
 
-impl<'a> Gather<Entry<'a>> for Items<'a> {
+impl Gather<Entry> for Items {
     ghost put = { put_entry };
 
-    fn add(mut self, piece: Entry<'a>) -> Result<Items<'a>, Stop> {
+    fn add(mut self, piece: Entry) -> Result<Items, Stop> {
         match piece {
             Entry::Empty => Ok(self),
             Entry::Given(item) => {
@@ -189,17 +201,17 @@ impl<'a> Gather<Entry<'a>> for Items<'a> {
 }
 
 #[tactic(auto, unfolding(crate::specs::Grammar::block))]
-fn block<'a>(parser: &mut Parser<'a, '_>) -> Result<Items<'a>, Stop>
+fn block(parser: &mut Parser<'_, '_>) -> Result<Items, Stop>
     ensures value { Gives result parser.new.tokens (block.reads parser.old.tokens) }
     ensures shorter { OnOk result (length parser.new.tokens < length parser.old.tokens) }
 {
     parser.word(b"{")?;
-    let items = parser.gather::<Items<'a>, Entry<'a>>(Items::new(parser.alloc))?;
+    let items = parser.gather::<Items, Entry>(Items::new(parser.alloc))?;
     parser.word(b"}")?;
     Ok(items)
 }
 
-impl<'a> Read<'a> for Items<'a> {
+impl<'a> Read<'a> for Items {
     ghost form = { call_end };
 
     #[tactic(auto, unfolding(crate::specs::Grammar::call_end, crate::specs::Grammar::block))]
@@ -208,7 +220,7 @@ impl<'a> Read<'a> for Items<'a> {
     }
 
     #[tactic(auto, unfolding(crate::specs::Grammar::call_end))]
-    fn read(parser: &mut Parser<'a, '_>) -> Result<Items<'a>, Stop> {
+    fn read(parser: &mut Parser<'a, '_>) -> Result<Items, Stop> {
         if parser.begins_word(b";") {
             parser.word(b";")?;
             return Ok(Items::new(parser.alloc));
@@ -217,7 +229,7 @@ impl<'a> Read<'a> for Items<'a> {
     }
 }
 
-impl<'a> Statement<'a> for Items<'a> {
+impl<'a> Statement<'a> for Items {
     #[tactic(auto, using(crate::proofs::Lawful::call_statement))]
     fn is_statement()
         ensures law { IsStatement call_end }

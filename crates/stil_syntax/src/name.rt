@@ -37,15 +37,6 @@ fn is_joined(front: &[u8], back: &[u8], bytes: &[u8]) -> bool
     front == begin && back == end
 }
 
-/// Whether two pieces are two others, of which the first is no shorter.
-fn are_same(front: &[u8], back: &[u8], first: &[u8], second: &[u8]) -> bool
-    requires longer { length front.now ≤ length first.now }
-    ensures value { result ≡ bytes_eq (front.now ++ back.now) (first.now ++ second.now) }
-{
-    let (begin, end) = first.split_at(front.len());
-    front == begin && is_joined(end, second, back)
-}
-
 impl<'a> NameText<'a> {
     fn of(front: &'a [u8], back: &'a [u8]) -> NameText<'a>
         ensures value { result ≡ front.now ++ back.now }
@@ -58,17 +49,6 @@ impl<'a> NameText<'a> {
         ensures value { result ≡ bytes_eq self.now bytes.now }
     {
         is_joined(self.front, self.back, bytes)
-    }
-
-    /// Whether it is the same as another.
-    pub fn is_same(&self, other: &NameText<'_>) -> bool
-        ensures value { result ≡ bytes_eq self.now other.now }
-    {
-        if self.front.len() <= other.front.len() {
-            are_same(self.front, self.back, other.front, other.back)
-        } else {
-            are_same(other.front, other.back, self.front, self.back)
-        }
     }
 
     /// The name as a value of its own.

@@ -28,7 +28,7 @@ pub enum Shape<'a, 's> {
     /// It passes unread.
     Other,
     /// A scan call, with its items.
-    Scan(Items<'a>),
+    Scan(Items),
     /// A Loop with a scan call directly in its block: how often it runs, and the tokens in the block.
     Loop(u32, Stretch<'a, 's>),
 }

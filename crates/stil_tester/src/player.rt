@@ -1,6 +1,7 @@
 ghost use Rattle.std.specs.Prelude.{◌≡◌, [], ◌∷◌, ◌++◌, All, IfOk, IfSome, OnErr, OnOk, length};
 ghost use Rattle.stil_tester.specs.Playing.{HavePlayed, HavePlayedSome};
-ghost use Rattle.stil_tester.specs.Runs.{AreStatementsFor, HaveRunSome, IsEventFor, IsPlacedIn, bytes_in, events_in, play_of, round_of, run_of, runs_of, verdicts_of};
+ghost use Rattle.stil_types.specs.Statements.{IsPlacedIn};
+ghost use Rattle.stil_tester.specs.Runs.{AreStatementsFor, HaveRunSome, IsEventFor, bytes_in, events_in, play_of, round_of, run_of, runs_of, verdicts_of};
 ghost use Rattle.stil_tester.specs.Shifting.{AreChains, HasCells, IsCallFor, scan_call as scan_call_of};
 
 use crate::chains::Chains;

@@ -2,7 +2,8 @@ use Rattle.std.proofs.Common.{ℕ, List, [], ◌∷◌, sym, subst}
 use Rattle.std.proofs.lemmas.List.Elements.{All-append, All-cons, All-head, All-nil}
 use Rattle.stil_types.specs.declared.statement.PatternStatement.{PatternStatement}
 use Rattle.stil_types.specs.declared.statement.PatternStatement.TheVariants.{Other}
-use Rattle.stil_tester.specs.Runs.{AreStatementsFor, IsEventFor, IsPlaced, Reads, Tells, all_events, events_of}
+use Rattle.stil_types.specs.Statements.{IsPlaced}
+use Rattle.stil_tester.specs.Runs.{AreStatementsFor, IsEventFor, Reads, Tells, all_events, events_of}
 use Rattle.stil_tester.specs.declared.chains.Chains.{Chains}
 use Rattle.stil_tester.proofs.WellFormed.{All-left}
 use Rattle.retarget_bench.proofs.playing.patterns.Goals as goal

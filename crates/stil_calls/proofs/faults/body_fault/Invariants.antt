@@ -5,7 +5,7 @@ use Rattle.stil_calls.proofs.faults.body_fault.Given as goal
 
 abbrev pub invariant-loop-statement : goal.invariant-loop-statement
 invariant-loop-statement l = record {
-  same : body_fault l.head l.line l.text (body_statements l.rest) ≡ body_fault l.head l.line l.text (body_statements l.body);
+  same : body_fault l.judging l.head l.line l.text (body_statements l.rest) ≡ body_fault l.judging l.head l.line l.text (body_statements l.body);
   lines : l.lines ≡ l.text;
 }
 

@@ -1,4 +1,4 @@
-use Rattle.std.proofs.Common.{◌≡◌, ◌∙◌}
+use Rattle.std.proofs.Common.{◌∙◌}
 use Rattle.stil_head.proofs.HeadWalk.{step_reached, step_found}
 use Rattle.stil_head.proofs.ends.byte_step.Goals as goal
 

@@ -1,6 +1,5 @@
-use Rattle.std.proofs.Common.{◌≡◌, ◌∙◌, ◌≤◌, ◌<◌, arith, sym}
 use Rattle.std.proofs.lemmas.List.{take_rest}
-use Rattle.stil_head.proofs.HeadWalk.{turn_passed, turn_within, turn_more, turn_ends, turn_stops, ends_last}
+use Rattle.stil_head.proofs.HeadWalk.{turn_passed, turn_within, turn_ends, turn_stops, ends_last}
 use Rattle.stil_head.proofs.ends.head_len.Goals as goal
 
 pub loop-at-preserved : goal.loop-at-preserved

@@ -1,10 +1,6 @@
 use Rattle.stil_head.proofs.ends.head_len.Given as goal
-use Rattle.std.proofs.Common.{◌≡◌, ◌≤◌, ◌+◌, ◌-◌, ◌||◌, ◌++◌, length, drop, map, true, false, List, ℕ, [], codes, Option, Some, None}
-use Rattle.std.specs.List.{flat_map, list_any, count_by}
-use Rattle.std.specs.Str.{bytes_eq}
-use Rattle.stil_parts.specs.Heads.{word_of, head_end}
-use Rattle.stil_parts.specs.Parts.{begin}
-use Rattle.stil_parts.specs.declared.word.Word.TheVariants.{Start}
+use Rattle.std.proofs.Common.{◌≡◌, ◌≤◌, ◌-◌, length, drop, true}
+use Rattle.stil_parts.specs.Heads.{head_end}
 use Rattle.stil_parts.specs.declared.gap.Comment.TheVariants.{Outside}
 use Rattle.stil_head.proofs.HeadWalk.{behind}
 

@@ -1,5 +1,4 @@
-use Rattle.std.proofs.Common.{◌≡◌, ◌∙◌, ◌≤◌, ◌<◌, ap, arith, true, subst}
-use Rattle.stil_parts.specs.declared.part.Part.{Part}
+use Rattle.std.proofs.Common.{arith}
 use Rattle.stil_head.proofs.HeadWalk.{gap_turn, here_turn, part_turn, open_turn}
 use Rattle.stil_head.proofs.Begins.{resumes_begin}
 use Rattle.stil_parts.specs.declared.gap.Place.TheVariants.{Pattern}

@@ -1,7 +1,7 @@
-use Rattle.std.proofs.Common.{◌≡◌, ◌∙◌, ap, arith, List, Bool}
+use Rattle.std.proofs.Common.{◌∙◌, ap, arith, List}
 use Rattle.std.specs.List.{list_any}
 use Rattle.stil_syntax.specs.Shapes.{body_statements}
-use Rattle.stil_head.specs.declared.chain.ReadChain.{ReadChain}
+use Rattle.stil_blocks.specs.declared.chain.ReadChain.{ReadChain}
 use Rattle.stil_head.specs.Heads.{Again, Left}
 use Rattle.stil_head.proofs.LeftFaults.{twice_by, left_by}
 use Rattle.stil_head.proofs.head.head_of.Goals as goal

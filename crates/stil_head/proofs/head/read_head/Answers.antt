@@ -1,14 +1,11 @@
-use Rattle.std.proofs.Common.{◌≡◌, ◌≤◌, ◌∙◌, ap, ℕ, List, take, length, true, Some, Option, subst, arith}
-use Rattle.std.specs.Option.{unwrap_or}
+use Rattle.std.proofs.Common.{◌≡◌, ℕ, List, take, length, subst}
 use Rattle.std.specs.Prelude.{OnOk}
-use Rattle.stil_parts.specs.declared.gap.Comment.TheVariants.{Outside}
-use Rattle.stil_parts.specs.Heads.{head_end}
 use Rattle.base_types.specs.FirstFault.{IsFirstFault}
 use Rattle.base_types.specs.declared.fault.Fault.{Fault}
 use Rattle.stil_types.specs.declared.head.StilHead.{StilHead}
 use Rattle.stil_head.specs.Faults.{HoldsInText, HoldsInHead}
 use Rattle.stil_head.specs.Heads.{IsHead, DenotesHead}
-use Rattle.stil_head.proofs.Texts.{text_is, denoted_by, only_head, if_fault_weaker, if_ok_weaker, if_ok_both, on_ok_then}
+use Rattle.stil_head.proofs.Texts.{text_is, denoted_by, only_head, if_fault_weaker, if_ok_both}
 use Rattle.stil_head.proofs.head.read_head.Goals as goal
 
 pub returns-clause-value : goal.returns-clause-value

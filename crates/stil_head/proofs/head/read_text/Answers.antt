@@ -1,4 +1,4 @@
-use Rattle.std.proofs.Common.{◌≡◌, ◌∙◌, ap, List, None, codes, length}
+use Rattle.std.proofs.Common.{◌≡◌, ◌∙◌, ap, None, codes, length}
 use Rattle.token_forms.specs.Tokens.{tokens_of}
 use Rattle.stil_tokens.specs.StilTokens.{tokens_in}
 use Rattle.stil_syntax.specs.Shapes.{body_statements}
@@ -6,8 +6,8 @@ use Rattle.stil_types.specs.declared.head.StilHead.{StilHead}
 use Rattle.base_types.specs.FirstFault.{IsFirstFault}
 use Rattle.base_types.specs.declared.fault.Fault.{Fault}
 use Rattle.stil_head.specs.Leasts.{least_of}
-use Rattle.stil_head.specs.Chains.{chains_of}
-use Rattle.stil_head.specs.Callees.{callees_of}
+use Rattle.stil_blocks.specs.Chains.{chains_of}
+use Rattle.stil_blocks.specs.Callees.{callees_of}
 use Rattle.stil_head.specs.Faults.{syntax_places, HoldsInText}
 use Rattle.stil_head.specs.Heads.{IsHead, SaysAll, IsLeftFault}
 use Rattle.stil_head.proofs.HeadFaults.{syntax_first}

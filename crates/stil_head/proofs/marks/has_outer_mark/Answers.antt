@@ -1,4 +1,4 @@
-use Rattle.std.proofs.Common.{◌≡◌, ◌∙◌, ◌<◌, ◌≤◌, ◌+◌, sym, arith, length}
+use Rattle.std.proofs.Common.{◌≡◌, ◌<◌, ◌≤◌, ◌+◌, arith, length}
 use Rattle.stil_head.specs.Unsupported.{shift_depth}
 use Rattle.stil_head.proofs.Walks.{walk_outer, found_outer, none_outer, depth_at, depth_behind, one_less}
 use Rattle.stil_head.proofs.marks.has_outer_mark.Goals as goal

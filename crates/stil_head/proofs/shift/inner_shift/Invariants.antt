@@ -1,10 +1,8 @@
 use Rattle.stil_head.proofs.shift.inner_shift.Given as goal
-use Rattle.std.proofs.Common.{◌≡◌, ◌≤◌, ◌+◌, ◌-◌, ◌||◌, ◌++◌, length, drop, map, true, false, List, ℕ, [], codes, Option, Some, None}
-use Rattle.std.specs.List.{flat_map, list_any, count_by}
-use Rattle.std.specs.Str.{bytes_eq}
+use Rattle.std.proofs.Common.{◌≡◌, length, false}
 use Rattle.stil_head.specs.Leasts.{lesser, least_of}
 use Rattle.stil_head.specs.Unsupported.{places_at}
-use Rattle.stil_head.specs.Callees.{begins_shift}
+use Rattle.stil_blocks.specs.Callees.{begins_shift}
 
 abbrev pub invariant-loop-rest : goal.invariant-loop-rest
 invariant-loop-rest l = lesser l.least (least_of (places_at begins_shift l.begins l.rest)) ≡ least_of (places_at begins_shift false l.s)

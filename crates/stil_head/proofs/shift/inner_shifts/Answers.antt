@@ -1,10 +1,9 @@
 use Rattle.token_forms.specs.Tokens.{Token}
-use Rattle.std.proofs.Common.{◌≡◌, ◌∙◌, sym, ap, not, refl, arith, map, drop, length, List, ℕ, Bool, true, false, codes, cond, subst, ◌<◌, ◌≤◌}
+use Rattle.std.proofs.Common.{◌∙◌, List, false}
 use Rattle.stil_syntax.specs.Shapes.{body_statements}
-use Rattle.stil_head.specs.Statements.{start_of, is_whole, has_word}
-use Rattle.stil_head.proofs.Leasts.{more_places, more_if, no_more}
+use Rattle.stil_head.proofs.Leasts.{more_places, no_more}
 use Rattle.stil_head.specs.Unsupported.{places_at}
-use Rattle.stil_head.specs.Callees.{begins_shift}
+use Rattle.stil_blocks.specs.Callees.{begins_shift}
 use Rattle.stil_head.proofs.shift.inner_shifts.Goals as goal
 
 pub loop-s-preserved : goal.loop-s-preserved

@@ -1,8 +1,6 @@
-use Rattle.token_forms.specs.Tokens.{Token}
-use Rattle.std.proofs.Common.{◌≡◌, ◌∙◌, sym, ap, not, refl, arith, map, drop, length, List, ℕ, Bool, true, false, codes, cond, subst, ◌<◌, ◌≤◌}
+use Rattle.std.proofs.Common.{◌∙◌}
 use Rattle.stil_syntax.specs.Shapes.{body_statements}
-use Rattle.stil_head.specs.Statements.{start_of, is_whole, has_word}
-use Rattle.stil_head.proofs.Leasts.{more_places, more_if, no_more}
+use Rattle.stil_head.proofs.Leasts.{more_places, no_more}
 use Rattle.stil_head.specs.Faults.{callee_faults}
 use Rattle.stil_head.proofs.syntax.callees_fault.Goals as goal
 

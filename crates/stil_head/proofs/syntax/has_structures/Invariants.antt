@@ -1,9 +1,8 @@
 use Rattle.stil_head.proofs.syntax.has_structures.Given as goal
-use Rattle.std.proofs.Common.{◌≡◌, ◌≤◌, ◌+◌, ◌-◌, ◌||◌, ◌++◌, length, drop, map, true, false, List, ℕ, [], codes, Option, Some, None}
-use Rattle.std.specs.List.{flat_map, list_any, count_by}
-use Rattle.std.specs.Str.{bytes_eq}
+use Rattle.std.proofs.Common.{◌≡◌, length, codes}
+use Rattle.std.specs.List.{list_any}
 use Rattle.stil_syntax.specs.Shapes.{body_statements}
-use Rattle.stil_head.specs.Statements.{has_word}
+use Rattle.stil_blocks.specs.Statements.{has_word}
 
 abbrev pub invariant-loop-s : goal.invariant-loop-s
 invariant-loop-s l = list_any (has_word (codes "ScanStructures")) (body_statements l.rest) ≡ list_any (has_word (codes "ScanStructures")) (body_statements l.tokens)

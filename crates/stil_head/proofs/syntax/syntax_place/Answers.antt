@@ -1,8 +1,8 @@
-use Rattle.std.proofs.Common.{◌≡◌, ◌∙◌, sym, ap, not, Bool, codes, ◌++◌}
+use Rattle.std.proofs.Common.{◌∙◌, sym, ap, not, Bool, codes, ◌++◌}
 use Rattle.std.specs.List.{flat_map, list_any}
 use Rattle.stil_syntax.specs.Shapes.{body_statements}
 use Rattle.stil_head.specs.Leasts.{place_if, found_if}
-use Rattle.stil_head.specs.Statements.{has_word}
+use Rattle.stil_blocks.specs.Statements.{has_word}
 use Rattle.stil_head.specs.Faults.{first_places, statement_faults}
 use Rattle.stil_head.proofs.Leasts.{least_if}
 use Rattle.stil_head.proofs.Joined.{two_places}

@@ -1,10 +1,9 @@
-use Rattle.std.proofs.Common.{◌≡◌, ◌∙◌, ◌||◌, sym, ap, refl, arith, map, drop, List, ℕ}
+use Rattle.std.proofs.Common.{◌∙◌, ◌||◌, ap, map, List, ℕ}
 use Rattle.std.specs.Str.{bytes_eq}
-use Rattle.std.specs.List.{flat_map}
-use Rattle.stil_head.specs.Leasts.{lesser, least_of}
-use Rattle.stil_head.specs.Twice.{Row, chain_row, port_rows, callee_row}
+use Rattle.stil_head.specs.Leasts.{least_of}
+use Rattle.stil_head.specs.Twice.{chain_row}
 use Rattle.stil_head.specs.Unsupported.{is_name_of}
-use Rattle.stil_head.proofs.Rows.{again_by, first_names, map_more, map_last, both_more, both_last}
+use Rattle.stil_head.proofs.Rows.{first_names, map_more, map_last}
 use Rattle.stil_head.proofs.twice.chain_again.Goals as goal
 
 pub loop-chain-init : goal.loop-chain-init

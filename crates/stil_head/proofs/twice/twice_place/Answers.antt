@@ -1,4 +1,4 @@
-use Rattle.std.proofs.Common.{◌≡◌, ◌∙◌, [], map, ◌++◌}
+use Rattle.std.proofs.Common.{◌∙◌, [], map, ◌++◌}
 use Rattle.std.specs.List.{flat_map}
 use Rattle.stil_head.specs.Twice.{again_in, chain_row, port_rows, callee_row}
 use Rattle.stil_head.proofs.Joined.{two_places}

@@ -1,14 +1,6 @@
-use Rattle.token_forms.specs.Tokens.{Token}
-use Rattle.std.proofs.Common.{◌≡◌, ◌∙◌, sym, ap, not, refl, arith, map, drop, length, List, ℕ, Bool, true, false, codes, cond, subst, ◌<◌, ◌≤◌}
-use Rattle.stil_syntax.specs.Shapes.{body_statements}
-use Rattle.stil_head.specs.Statements.{start_of, is_whole, has_word}
-use Rattle.stil_head.proofs.Leasts.{more_places, more_if, no_more}
-use Rattle.stil_head.proofs.Loops.{no_tokens, holds_next, places_next, later_next, outer_next}
-use Rattle.stil_head.specs.Callees.{begins_shift}
-use Rattle.stil_head.proofs.Leasts.{then_if, lesser_none}
-use Rattle.stil_head.specs.Leasts.{lesser, least_of, place_if, found_if}
-use Rattle.stil_head.specs.Unsupported.{places_at, later_shifts, is_barred, is_name_of}
-use Rattle.stil_head.proofs.Walks.{walk_places, walk_later, walk_ends}
+use Rattle.std.proofs.Common.{◌∙◌, arith}
+use Rattle.stil_head.specs.Unsupported.{is_barred, is_name_of}
+use Rattle.stil_head.proofs.Walks.{walk_places, walk_ends}
 use Rattle.stil_head.proofs.unsupported.barred_place.Goals as goal
 
 pub loop-rest-preserved : goal.loop-rest-preserved

@@ -1,8 +1,7 @@
 use Rattle.token_forms.specs.Tokens.{Token}
-use Rattle.std.proofs.Common.{◌≡◌, ◌∙◌, sym, ap, not, refl, arith, map, drop, length, List, ℕ, Bool, true, false, codes, cond, subst, ◌<◌, ◌≤◌}
+use Rattle.std.proofs.Common.{◌∙◌, ap, List}
 use Rattle.stil_syntax.specs.Shapes.{body_statements}
-use Rattle.stil_head.specs.Statements.{start_of, is_whole, has_word}
-use Rattle.stil_head.proofs.Leasts.{more_places, more_if, no_more}
+use Rattle.stil_head.proofs.Leasts.{more_places, no_more}
 use Rattle.stil_head.specs.Unsupported.{body_places, is_name_of}
 use Rattle.stil_syntax.specs.Shapes.{in_block}
 use Rattle.stil_head.specs.Leasts.{least_of}

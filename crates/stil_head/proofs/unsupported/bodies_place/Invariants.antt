@@ -1,7 +1,5 @@
 use Rattle.stil_head.proofs.unsupported.bodies_place.Given as goal
-use Rattle.std.proofs.Common.{◌≡◌, ◌≤◌, ◌+◌, ◌-◌, ◌||◌, ◌++◌, length, drop, map, true, false, List, ℕ, [], codes, Option, Some, None}
-use Rattle.std.specs.List.{flat_map, list_any, count_by}
-use Rattle.std.specs.Str.{bytes_eq}
+use Rattle.std.proofs.Common.{◌≡◌, length}
 use Rattle.stil_syntax.specs.Shapes.{body_statements}
 use Rattle.stil_head.specs.Leasts.{lesser, least_of}
 use Rattle.stil_head.specs.Unsupported.{bodies_places, is_name_of}

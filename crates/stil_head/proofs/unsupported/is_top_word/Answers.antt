@@ -1,4 +1,4 @@
-use Rattle.std.proofs.Common.{◌≡◌, ◌∙◌, ◌||◌, sym, ap, Bool}
+use Rattle.std.proofs.Common.{sym}
 use Rattle.stil_head.proofs.TopSplit.{top_split}
 use Rattle.stil_head.proofs.unsupported.is_top_word.Goals as goal
 

@@ -1,6 +1,6 @@
-use Rattle.std.proofs.Common.{◌≡◌, ◌∙◌, ◌+◌, refl, drop}
+use Rattle.std.proofs.Common.{◌∙◌, ◌+◌, refl, drop}
 use Rattle.std.proofs.lemmas.List.{drop_all}
-use Rattle.stil_head.specs.declared.chain.ReadChain.{ReadChain}
+use Rattle.stil_blocks.specs.declared.chain.ReadChain.{ReadChain}
 use Rattle.stil_head.specs.Leasts.{place_if}
 use Rattle.stil_head.proofs.Leasts.{more_if, no_more}
 use Rattle.stil_head.proofs.Rows.{cut_at}

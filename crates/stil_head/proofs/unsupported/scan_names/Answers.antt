@@ -1,4 +1,4 @@
-use Rattle.std.proofs.Common.{◌≡◌, ◌∙◌, ◌||◌, ap, List, ℕ, Bool, drop}
+use Rattle.std.proofs.Common.{◌||◌, ap, List, ℕ}
 use Rattle.stil_head.specs.Unsupported.{is_name_of, scan_names}
 use Rattle.stil_head.proofs.Rows.{scan_more, scan_last}
 use Rattle.stil_head.proofs.unsupported.scan_names.Goals as goal

@@ -1,7 +1,5 @@
 use Rattle.stil_head.proofs.unsupported.scan_names.Given as goal
-use Rattle.std.proofs.Common.{◌≡◌, ◌≤◌, ◌+◌, ◌-◌, ◌||◌, ◌++◌, length, drop, map, true, false, List, ℕ, [], codes, Option, Some, None}
-use Rattle.std.specs.List.{flat_map, list_any, count_by}
-use Rattle.std.specs.Str.{bytes_eq}
+use Rattle.std.proofs.Common.{◌≡◌, ◌||◌, drop, List, ℕ}
 use Rattle.stil_head.specs.Unsupported.{scan_names, is_name_of}
 
 abbrev pub invariant-loop-callee : goal.invariant-loop-callee

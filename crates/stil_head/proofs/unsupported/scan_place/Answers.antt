@@ -1,4 +1,4 @@
-use Rattle.std.proofs.Common.{◌≡◌, ◌∙◌, true, false, ◌++◌}
+use Rattle.std.proofs.Common.{◌∙◌, true, false, ◌++◌}
 use Rattle.stil_syntax.specs.Shapes.{body_statements}
 use Rattle.stil_head.specs.Unsupported.{later_shifts, inner_shifts, outer_marks, odd_shifts}
 use Rattle.stil_head.proofs.Joined.{two_places}

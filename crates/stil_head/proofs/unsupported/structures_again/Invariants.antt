@@ -1,11 +1,9 @@
 use Rattle.stil_head.proofs.unsupported.structures_again.Given as goal
-use Rattle.std.proofs.Common.{◌≡◌, ◌≤◌, ◌+◌, ◌-◌, ◌||◌, ◌++◌, length, drop, map, true, false, List, ℕ, [], codes, Option, Some, None}
-use Rattle.std.specs.List.{flat_map, list_any, count_by}
-use Rattle.std.specs.Str.{bytes_eq}
+use Rattle.std.proofs.Common.{◌≡◌, length, false, codes}
 use Rattle.stil_syntax.specs.Shapes.{body_statements}
 use Rattle.stil_head.specs.Leasts.{lesser, least_of}
 use Rattle.stil_head.specs.Unsupported.{later_places}
-use Rattle.stil_head.specs.Statements.{has_word}
+use Rattle.stil_blocks.specs.Statements.{has_word}
 
 abbrev pub invariant-loop-s : goal.invariant-loop-s
 invariant-loop-s l = lesser l.least (least_of (later_places (has_word (codes "ScanStructures")) l.seen (body_statements l.rest))) ≡ least_of (later_places (has_word (codes "ScanStructures")) false (body_statements l.tokens))

@@ -1,8 +1,8 @@
 use Rattle.token_forms.specs.Tokens.{Token}
-use Rattle.std.proofs.Common.{◌≡◌, ◌∙◌, sym, ap, not, refl, arith, map, drop, length, List, ℕ, Bool, true, false, codes, cond, subst, ◌<◌, ◌≤◌}
+use Rattle.std.proofs.Common.{◌∙◌, List}
 use Rattle.stil_syntax.specs.Shapes.{body_statements}
-use Rattle.stil_head.specs.Statements.{start_of, is_whole, has_word}
-use Rattle.stil_head.proofs.Leasts.{more_places, more_if, no_more}
+use Rattle.stil_blocks.specs.Statements.{start_of}
+use Rattle.stil_head.proofs.Leasts.{more_if, no_more}
 use Rattle.stil_head.specs.Unsupported.{is_unlisted}
 use Rattle.stil_head.specs.Leasts.{place_if}
 use Rattle.stil_head.proofs.unsupported.unlisted_from.Goals as goal

@@ -1,6 +1,4 @@
-use Rattle.std.proofs.Common.{◌≡◌, ◌∙◌, ap}
 use Rattle.stil_syntax.specs.Shapes.{body_statements}
-use Rattle.stil_head.specs.Leasts.{lesser}
 use Rattle.stil_head.specs.Unsupported.{is_name_of}
 use Rattle.stil_head.proofs.Same.{all_places}
 use Rattle.stil_head.proofs.unsupported.unsupported_place.Goals as goal

@@ -1,4 +1,4 @@
-use Rattle.std.proofs.Common.{◌≡◌, ap, ◌∙◌, List, ℕ, Bool, ◌||◌, not, Bor}
+use Rattle.std.proofs.Common.{ap, ◌∙◌, List, ℕ, ◌||◌, not, Bor}
 use Rattle.std.specs.Str.{bytes_eq}
 use Rattle.stil_head.specs.Unsupported.{is_name_of}
 use Rattle.stil_head.proofs.Rows.{key_test, names_view, view_test, view_more, twice_not}

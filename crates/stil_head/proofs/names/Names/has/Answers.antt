@@ -1,4 +1,4 @@
-use Rattle.std.proofs.Common.{◌≡◌, ap, ◌∙◌, List, ℕ}
+use Rattle.std.proofs.Common.{ap, ◌∙◌, List, ℕ}
 use Rattle.stil_head.specs.Unsupported.{is_name_of}
 use Rattle.stil_head.proofs.Rows.{view_test}
 use Rattle.stil_head.proofs.names.Names.has.Goals as goal
