@@ -15,30 +15,43 @@ use Rattle.stil_parts.specs.declared.gap.Place.TheVariants.{Top}
 use Rattle.stil_parts.specs.declared.gap.Comment.TheVariants.{Outside}
 use Rattle.stil_parts.specs.declared.gap.Point.{Point}
 use Rattle.stil_parts.specs.declared.part.Part.{Part}
-use Rattle.stil_parts.specs.declared.part.Part.TheVariants.{Whole}
+use Rattle.stil_parts.specs.declared.part.Part.TheVariants.{Passes, Opens, Whole}
 use Rattle.stil_parts.specs.declared.part.PartFault.{PartFault}
 use Rattle.stil_parts.specs.Parts.{part_len}
-use Rattle.stil_parts.specs.Coming.{Event, Byte, Judge, before, stopped, fault_at, largest, moved, part_events, to_come}
+use Rattle.stil_parts.specs.Coming.{Event, Byte, Judge, before, stopped, fault_at, largest, moved, part_events, point_behind, to_come, IsEarly}
 use Rattle.stil_parts.specs.Heads.{head_end, head_len}
 use Rattle.stil_parts.specs.Deciding.{Follows, Shown, Takes, IsPart, IsStopped, IsWanting, verdict}
 use Rattle.stil_calls.specs.Faults.{fault_in}
 use Rattle.stil_calls.specs.Statements.{DenotesStatement, HoldsInStatement}
-use Rattle.stil_calls.specs.Parts.{judge_of}
-use Rattle.stil_stream.specs.Sayings.{Saying, Head, GapByte, Stated, after, named, statement_at, said, told, told_before, told_behind, told_from}
-use Rattle.stil_stream.specs.Streams.{Streaming, hungry_again, refused, handed_out, shows_head, shows_part, is_shown, told_of, name_in, text_of, fault_of, Wants, HandsOut, IsFirst, AreGaps, Answers, HeadAnswers}
-use Rattle.stil_stream.proofs.Stating.{text-is, fault-one}
-use Rattle.stil_stream.proofs.Telling.{told-on, said-bytes, said-part, said-statement, shown-behind, wants-behind, len-goes, len-ends, len-none, head-told}
+use Rattle.stil_calls.specs.Parts.{judge_by, judge_of}
+use Rattle.stil_reader.specs.Sayings.{Saying, Head, GapByte, Stated, after, name_in, named, statement_at, said, told, told_before, told_behind, told_from, text_of}
+use Rattle.stil_stream.specs.Streams.{Streaming, hungry_again, refused, handed_out, shows_head, shows_part, is_shown, told_of, fault_of, Wants, HandsOut, IsFirst, AreGaps, Answers, HeadAnswers}
+use Rattle.stil_reader.proofs.Said.{told-on, said-bytes, said-part, said-statement, text-is}
+use Rattle.stil_stream.proofs.Stating.{fault-one}
+use Rattle.stil_stream.proofs.Telling.{shown-behind, wants-behind, len-goes, len-ends, len-none, head-told}
 
 some-text : (kept : List ℕ) (n : ℕ) (text : List ℕ) → text ≡ take n kept → 0 < n → n ≤ length kept → 0 < length text
 some-text kept n text is some le = omega (arith, ap length is, length-take-le n kept le)
 
+-- the point behind the first bytes counts them
+counts : (p q : Point) (kept text : List ℕ) (n : ℕ) → q.given ≡ p.given + n → text ≡ take n kept → n ≤ length kept → q.given ≡ p.given + length text
+counts p q kept text n e is le = omega (arith, ap length is, length-take-le n kept le)
+
+counts-part : (p : Point) (part : Part) (bytes : List ℕ) → (point_behind p part bytes).given ≡ p.given + length bytes
+counts-part p (Passes n) bytes = refl
+counts-part p (Opens n) bytes = refl
+counts-part p (Whole n) bytes = refl
+
 -- bytes are handed out
 pub hands-out : (head : StilHead) (old new : Streaming) (n : ℕ) (q : Point) (text : List ℕ) (says : List Saying) → new ≡ handed_out n q old → text ≡ take n old.kept → old.fault ≡ None
-    → is_shown old ≡ true → ((more : List ℕ) → Follows old.ended more → told_of head old more ≡ after says (told_from head false q (drop n old.kept ++ more))) → HandsOut head old new text says
-hands-out head old new n q text says e is sound shown comes = record {
+    → is_shown old ≡ true → q.given ≡ old.point.given + length text → IsEarly q
+    → ((more : List ℕ) → Follows old.ended more → told_of head old more ≡ after says (told_from head false q (drop n old.kept ++ more))) → HandsOut head old new text says
+hands-out head old new n q text says e is sound shown given early comes = record {
   sound = sound;
   shown = shown;
   kept = sym (take-append-drop n old.kept) ∙ ap (λ (x : List ℕ). x ++ drop n old.kept) (sym is) ∙ ap (λ (s : Streaming). text ++ s.kept) (sym e);
+  given = ap (λ (s : Streaming). s.point.given) e ∙ given;
+  early = subst (λ (s : Streaming). IsEarly s.point) (sym e) early;
   comes = λ more follows. comes more follows ∙ ap (λ (s : Streaming). after says (told_of head s more)) (sym e);
   rest = subst (λ (s : Streaming). s ≡ record old { kept = s.kept; in_head = false; point = s.point }) (sym e) refl;
 }
@@ -62,7 +75,7 @@ module _ (head : StilHead) (old new : Streaming) (sound : old.fault ≡ None) (b
   gap-out n q text e is t =
       let says : flat_map (said head) (map Byte (take n old.kept)) ≡ map GapByte text ++ named None = said-bytes head (take n old.kept) ∙ ap (map GapByte) (sym is) ∙ sym (append-nil (map GapByte text)) in (
         some-text old.kept n text is t.some t.within,
-        hands-out head old new n q text _ e is sound (is-shown t.shown)
+        hands-out head old new n q text _ e is sound (is-shown t.shown) (counts old.point q old.kept text n t.given is t.within) t.early
             (λ more follows. told-as (map Byte (take n old.kept)) _ more q (drop n old.kept ++ more) says (t.comes more follows)),
       )
 
@@ -76,6 +89,10 @@ module _ (head : StilHead) (old new : Streaming) (sound : old.fault ≡ None) (b
       told-as es says more q (drop n old.kept ++ more) e
       (p.comes more follows ∙ ap (λ (o : Option PartFault). verdict o (before es (to_come (judge_of head) q 0 (drop n old.kept ++ more)))) fine)
 
+  counted : (part : Part) (q : Point) (text : List ℕ) → IsPart (judge_of head) old.ended old.point old.kept part q → text ≡ take (part_len part) old.kept → q.given ≡ old.point.given + length text
+  counted part q text p is =
+      ap (λ (r : Point). r.given) p.point ∙ counts-part old.point part (take (part_len part) old.kept) ∙ ap (λ (x : List ℕ). old.point.given + length x) (sym is)
+
   pub pass-out : (part : Part) (q : Point) (text : List ℕ) (name : Option (List ℕ)) → ((m : ℕ) → part ≡ Whole m → ⊥) → new ≡ handed_out (part_len part) q old → text ≡ take (part_len part) old.kept
       → name ≡ name_in part (take (part_len part) old.kept) → IsPart (judge_of head) old.ended old.point old.kept part q → judge_of head old.point part (take (part_len part) old.kept) ≡ None
       → (0 < length text) × HandsOut head old new text (map GapByte text ++ named name)
@@ -84,13 +101,13 @@ module _ (head : StilHead) (old new : Streaming) (sound : old.fault ≡ None) (b
       let says : flat_map (said head) (part_events old.point part (take n old.kept)) ≡ map GapByte text ++ named name =
       said-part head old.point part (take n old.kept) other ∙ ap (λ (x : List ℕ). map GapByte x ++ named (name_in part (take n old.kept))) (sym is)
       ∙ ap (λ (o : Option (List ℕ)). map GapByte text ++ named o) (sym same) in
-      (some-text old.kept n text is p.some p.within, hands-out head old new n q text _ e is sound (is-shown p.shown) (part-out part q _ p fine says))
+      (some-text old.kept n text is p.some p.within, hands-out head old new n q text _ e is sound (is-shown p.shown) (counted part q text p is) p.early (part-out part q _ p fine says))
 
   pub statement-out : (n : ℕ) (q : Point) (text : List ℕ) (s : PatternStatement) → new ≡ handed_out n q old → text ≡ take n old.kept → statement_at head old.point (take n old.kept) ≡ Some s
       → IsPart (judge_of head) old.ended old.point old.kept (Whole n) q → judge_of head old.point (Whole n) (take n old.kept) ≡ None → (0 < length text) × HandsOut head old new text (Stated s ∷ [])
   statement-out n q text s e is denotes p fine = (
     some-text old.kept n text is p.some p.within,
-    hands-out head old new n q text _ e is sound (is-shown p.shown) (part-out (Whole n) q _ p fine (said-statement head old.point (take n old.kept) s denotes)),
+    hands-out head old new n q text _ e is sound (is-shown p.shown) (counted (Whole n) q text p is) p.early (part-out (Whole n) q _ p fine (said-statement head old.point (take n old.kept) s denotes)),
   )
 
   -- a fault
@@ -115,7 +132,7 @@ module _ (head : StilHead) (old new : Streaming) (sound : old.fault ≡ None) (b
 
   -- a statement that the bytes denote
   judge-whole : (n : ℕ) (text : List ℕ) → judge_of head old.point (Whole n) text ≡ fault_in head old.point.line text
-  unfolding judge_of
+  unfolding judge_by
   judge-whole n text = refl
 
   pub denoted-out : (n : ℕ) (q : Point) (pattern line : ℕ) (text : List ℕ) (s : PatternStatement) → text ≡ take n old.kept → pattern ≡ old.point.opened - 1 → line ≡ old.point.line
@@ -179,10 +196,10 @@ module _ (old new : Streaming) (sound : old.fault ≡ None) (before_head : old.i
     stored = e;
   }
 
-  head-as : (head : StilHead) (n : ℕ) (q : Point) (text : List ℕ) → new ≡ handed_out n q old → text ≡ take n old.kept → q ≡ moved old.point text Top Outside → n ≤ length old.kept → is_shown old ≡ true
+  head-as : (head : StilHead) (n : ℕ) (q : Point) (text : List ℕ) → new ≡ handed_out n q old → text ≡ take n old.kept → q ≡ moved old.point text Top Outside → IsEarly q → n ≤ length old.kept → is_shown old ≡ true
       → ((more : List ℕ) → Follows old.ended more → head_len (old.kept ++ more) ≡ Some n) → HandsOut head old new text (Head text ∷ [])
-  head-as head n q text e is point within shown len =
-      hands-out head old new n q text (Head text ∷ []) e is sound shown
+  head-as head n q text e is point early within shown len =
+      hands-out head old new n q text (Head text ∷ []) e is sound shown (ap (λ (r : Point). r.given) point) early
       (λ more follows.
       ap (λ (b : Bool). told_from head b old.point (old.kept ++ more)) before_head ∙ head-told head old.point old.kept more n within (len more follows)
       ∙ ap (λ (t : List ℕ). after (Head t ∷ []) (told_from head false (moved old.point t Top Outside) (drop n old.kept ++ more))) (sym is)
@@ -198,16 +215,16 @@ module _ (old new : Streaming) (sound : old.fault ≡ None) (before_head : old.i
   ]
 
   -- the head's end is shown by the first bytes, or is there as the input ended
-  pub head-out : (head : StilHead) (last : Bool) (n limit : ℕ) (q : Point) (text : List ℕ) → new ≡ handed_out n q old → text ≡ take n old.kept → q ≡ moved old.point text Top Outside
+  pub head-out : (head : StilHead) (last : Bool) (n limit : ℕ) (q : Point) (text : List ℕ) → new ≡ handed_out n q old → text ≡ take n old.kept → q ≡ moved old.point text Top Outside → IsEarly q
       → limit ≤ length old.kept → limit ≤ largest → (length old.kept ≤ largest → limit ≡ length old.kept) → (last ≡ true → (old.ended ≡ true) × (length old.kept ≤ largest))
       → head_end last Outside 0 (take limit old.kept) ≡ Some n → n ≤ length (take limit old.kept) → HandsOut head old new text (Head text ∷ [])
-  head-out head true n limit q text e is point within small all closed h le =
+  head-out head true n limit q text e is point early within small all closed h le =
       let c = closed refl in
       let whole : take limit old.kept ≡ old.kept = take_all limit old.kept (omega (arith, all c.1)) in
-      head-as head n q text e is point (omega (arith, ap length whole)) (shown-head (ap (λ (b : Bool). b || shows_head old.kept) c.0))
+      head-as head n q text e is point early (omega (arith, ap length whole)) (shown-head (ap (λ (b : Bool). b || shows_head old.kept) c.0))
       (λ more follows. len-ends old.kept n more c.1 (subst (λ (b : Bool). Follows b more) c.0 follows) (sym (ap (head_end true Outside 0) whole) ∙ h))
-  head-out head false n limit q text e is point within small all closed h le =
-      head-as head n q text e is point (omega (arith, length-take-le limit old.kept within)) (shown-head (goes-shown limit n within all h))
+  head-out head false n limit q text e is point early within small all closed h le =
+      head-as head n q text e is point early (omega (arith, length-take-le limit old.kept within)) (shown-head (goes-shown limit n within all h))
       (λ more follows. len-goes old.kept limit within small n more h)
 
 -- a slice of the buffer

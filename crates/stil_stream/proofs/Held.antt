@@ -13,7 +13,8 @@ use Rattle.stil_parts.specs.Coming.{Judge, largest, next_turn, IsEarly}
 use Rattle.stil_parts.specs.Resuming.{Resumes}
 use Rattle.stil_parts.proofs.Resumed.{reaches-more}
 use Rattle.stil_stream.specs.declared.walk.Walk.{Walk}
-use Rattle.stil_stream.specs.Streams.{beginning, shows_part}
+use Rattle.stil_reader.specs.Sayings.{beginning}
+use Rattle.stil_stream.specs.Streams.{shows_part}
 use Rattle.stil_stream.specs.Walks.{IsWalked}
 use Rattle.stil_stream.specs.Holding.{IsHeld}
 use Rattle.stil_stream.proofs.Walking.{resumes-begin, walk-more, passed-none}

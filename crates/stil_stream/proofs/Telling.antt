@@ -1,44 +1,22 @@
--- What a text says, by what comes of it.
-use Rattle.std.proofs.Common.{◌≡◌, ℕ, ◌<◌, ◌≤◌, Bool, true, false, List, [], ◌∷◌, ◌++◌, length, take, drop, map, Option, Some, None, refl, sym, ap, ◌∙◌, arith, length-append, inl, inr}
+-- What the bytes kept show of a text, and what it says from its head on.
+use Rattle.std.proofs.Common.{◌≡◌, ℕ, ◌<◌, ◌≤◌, Bool, true, false, List, [], ◌∷◌, ◌++◌, length, take, drop, Option, Some, None, refl, sym, ap, ◌∙◌, arith, length-append, inl, inr}
 use Rattle.std.specs.Prelude.{nat_lt, is_some, ◌||◌, if◌then◌else◌}
-use Rattle.std.specs.List.{flat_map}
 use Rattle.std.proofs.lemmas.Bool.{cases_Bool, lt-ltb, le-ltb}
 use Rattle.std.proofs.lemmas.List.{append-nil, take-append-drop, take-append-le, drop-append-le, take-take}
-use Rattle.std.proofs.lemmas.Grind.{flat_map-append}
 use Rattle.stil_types.specs.declared.head.StilHead.{StilHead}
-use Rattle.stil_types.specs.declared.statement.PatternStatement.{PatternStatement}
 use Rattle.stil_parts.specs.declared.gap.Place.TheVariants.{Top}
 use Rattle.stil_parts.specs.declared.gap.Comment.TheVariants.{Outside}
 use Rattle.stil_parts.specs.declared.gap.Point.{Point}
 use Rattle.stil_parts.specs.declared.part.Part.{Part}
-use Rattle.stil_parts.specs.declared.part.Part.TheVariants.{Passes, Opens, Whole}
 use Rattle.stil_parts.specs.Gaps.{gap_at}
 use Rattle.stil_parts.specs.Parts.{part_at}
-use Rattle.stil_parts.specs.Coming.{Event, Byte, Opened, Statement, Judge, Coming, before, largest, moved, part_events, turn_in, next_turn}
+use Rattle.stil_parts.specs.Coming.{Judge, largest, moved, turn_in, next_turn}
 use Rattle.stil_parts.specs.Heads.{head_end, head_len}
 use Rattle.stil_parts.specs.Deciding.{Shown}
 use Rattle.stil_parts.proofs.Turns.{turn-gap, turn-none}
 use Rattle.stil_parts.proofs.HeadStable.{head-stays}
-use Rattle.stil_calls.specs.Parts.{opened_in}
-use Rattle.stil_stream.specs.Sayings.{Saying, Head, GapByte, Stated, after, named, stated, statement_at, said, told, told_before, told_from}
-use Rattle.stil_stream.specs.Streams.{name_in, shows_head, shows_part}
-
-pub told-on : (head : StilHead) (es : List Event) (c : Coming) → told head (before es c) ≡ after (flat_map (said head) es) (told head c)
-told-on head es c = ap (λ (xs : List Saying). record { says = xs; fault = c.fault }) (flat_map-append (said head) es c.events)
-
-pub said-bytes : (head : StilHead) (text : List ℕ) → flat_map (said head) (map Byte text) ≡ map GapByte text
-said-bytes head [] = refl
-said-bytes head (b ∷ bs) = ap (λ (xs : List Saying). GapByte b ∷ xs) (said-bytes head bs)
-
-pub said-part : (head : StilHead) (p : Point) (part : Part) (text : List ℕ) → ((n : ℕ) → part ≡ Whole n → ⊥) → flat_map (said head) (part_events p part text) ≡ map GapByte text ++ named (name_in part text)
-said-part head p (Passes n) text other = said-bytes head text ∙ sym (append-nil (map GapByte text))
-said-part head p (Opens n) text other =
-    flat_map-append (said head) (map Byte text) (Opened text p ∷ []) ∙ ap (λ (xs : List Saying). xs ++ (named (opened_in text) ++ [])) (said-bytes head text)
-    ∙ ap (λ (xs : List Saying). map GapByte text ++ xs) (append-nil (named (opened_in text)))
-said-part head p (Whole n) text other = absurd (other n refl)
-
-pub said-statement : (head : StilHead) (p : Point) (text : List ℕ) (s : PatternStatement) → statement_at head p text ≡ Some s → flat_map (said head) (Statement text p ∷ []) ≡ Stated s ∷ []
-said-statement head p text s e = ap (λ (o : Option PatternStatement). stated o ++ []) e
+use Rattle.stil_reader.specs.Sayings.{Head, after, told_before, told_from}
+use Rattle.stil_stream.specs.Streams.{shows_head, shows_part}
 
 -- what the bytes show doesn't hang on the judge
 in-shows : (judge : Judge) (p : Point) (kept : List ℕ) (o : Option Part) → is_some (turn_in judge false p kept o) ≡ (is_some o || nat_lt largest (length kept))

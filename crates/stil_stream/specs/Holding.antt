@@ -5,7 +5,8 @@ use Rattle.stil_parts.specs.declared.scan.Scan.{Scan}
 use Rattle.stil_parts.specs.Coming.{largest, IsEarly}
 use Rattle.stil_parts.specs.Resuming.{Resumes}
 use Rattle.stil_stream.specs.declared.walk.Walk.{Walk}
-use Rattle.stil_stream.specs.Streams.{beginning, largest_kept}
+use Rattle.stil_reader.specs.Sayings.{beginning}
+use Rattle.stil_stream.specs.Streams.{largest_kept}
 use Rattle.stil_stream.specs.Walks.{IsWalked}
 
 -- of these bytes a stream keeps those from a place on, which are few; scans of them have come as far as they say

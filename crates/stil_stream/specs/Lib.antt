@@ -1,4 +1,3 @@
 pub mod Holding
-pub mod Sayings
 pub mod Streams
 pub mod Walks

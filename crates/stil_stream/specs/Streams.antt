@@ -1,13 +1,12 @@
 -- A STIL text that comes in pieces, as its callers see it, and what each call answers.
-use Rattle.std.specs.Prelude.{◌≡◌, ℕ, ◌<◌, ◌≤◌, Bool, true, false, ◌||◌, nat_lt, if◌then◌else◌, ◌⊎◌, List, [], ◌∷◌, ◌++◌, length, take, drop, map, Option, Some, None, is_some, Result, Ok, Err}
+use Rattle.std.specs.Prelude.{◌≡◌, ℕ, ◌+◌, ◌<◌, ◌≤◌, Bool, true, false, ◌||◌, nat_lt, if◌then◌else◌, ◌⊎◌, List, [], ◌∷◌, ◌++◌, length, take, drop, map, Option, Some, None, is_some, Result, Ok, Err}
 use Rattle.base_types.specs.declared.fault.FileKind.TheVariants.{Stil}
 use Rattle.base_types.specs.declared.fault.Fault.{Fault}
 use Rattle.base_types.specs.declared.fault.ReadFault.{ReadFault}
 use Rattle.base_types.specs.declared.fault.ReadFault.TheVariants as faults
 use Rattle.base_types.specs.Faults.{at_line}
 use Rattle.stil_types.specs.declared.head.StilHead.{StilHead}
-use Rattle.stil_types.specs.declared.statement.PatternStatement.{PatternStatement}
-use Rattle.stil_types.specs.declared.statement.PatternStatement.TheVariants as statements
+use Rattle.stil_types.specs.Statements.{IsPlaced}
 use Rattle.stil_parts.specs.declared.gap.Place.TheVariants.{Top}
 use Rattle.stil_parts.specs.declared.gap.Comment.TheVariants.{Outside}
 use Rattle.stil_parts.specs.declared.gap.Point.{Point}
@@ -17,15 +16,12 @@ use Rattle.stil_parts.specs.Parts.{part_at}
 use Rattle.stil_parts.specs.Coming.{Byte, Judge, largest, IsEarly}
 use Rattle.stil_parts.specs.Heads.{head_end}
 use Rattle.stil_parts.specs.Deciding.{Follows, Takes}
-use Rattle.stil_parts.specs.declared.part.Part.{Part}
-use Rattle.stil_parts.specs.declared.part.Part.TheVariants.{Passes, Opens, Whole}
 use Rattle.stil_calls.specs.Statements.{AreAccepted}
-use Rattle.stil_calls.specs.Parts.{opened_in}
 use Rattle.stil_stream.specs.declared.next.HeadNext.{HeadNext}
 use Rattle.stil_stream.specs.declared.next.HeadNext.TheVariants as heads
 use Rattle.stil_stream.specs.declared.next.Next.{Next}
 use Rattle.stil_stream.specs.declared.next.Next.TheVariants as nexts
-use Rattle.stil_stream.specs.Sayings.{Saying, Head, GapByte, Stated, Told, after, refusal, named, told_from}
+use Rattle.stil_reader.specs.Sayings.{Saying, Head, GapByte, Stated, Told, after, refusal, named, beginning, told_from, text_of}
 
 -- the bytes fed and not handed out; whether the input is ended; whether a piece may be fed; whether the head is still to come;
 -- the point at which the first kept byte stands; the fault that was answered
@@ -36,10 +32,6 @@ pub record Streaming : Type 0 where
   pub in_head : Bool
   pub point : Point
   pub fault : Option PartFault
-
--- the beginning of a text
-abbrev pub beginning : Point
-beginning = record { given = 0; line = 1; opened = 0; place = Top; comment = Outside }
 
 -- no bytes, at the beginning of a text
 abbrev pub fresh : Streaming
@@ -95,11 +87,13 @@ pub record Wants (old new : Streaming) : Type 0 where
   pub nothing_shown : is_shown old ≡ false
   pub same : new ≡ hungry_again old
 
--- a text is handed out, which says this beside the head: what was to come is this, and then what is to come
+-- a text is handed out, which says this beside the head: what was to come is this, and then what is to come; the point counts its bytes
 pub record HandsOut (head : StilHead) (old new : Streaming) (text : List ℕ) (says : List Saying) : Type 0 where
   pub sound : old.fault ≡ None
   pub shown : is_shown old ≡ true
   pub kept : old.kept ≡ text ++ new.kept
+  pub given : new.point.given ≡ old.point.given + length text
+  pub early : IsEarly new.point
   pub comes : (more : List ℕ) → Follows old.ended more → told_of head old more ≡ after says (told_of head new more)
   pub rest : new ≡ record old { kept = new.kept; in_head = false; point = new.point }
 
@@ -131,12 +125,6 @@ fault_of f = at_line f.kind Stil f.line
 abbrev pub IsOfStil : Fault → Type 0
 IsOfStil fault = (f : PartFault) × (fault ≡ fault_of f)
 
--- the name of the Pattern that a part opens, if it opens one
-abbrev pub name_in : Part → List ℕ → Option (List ℕ)
-name_in (Passes n) text = None
-name_in (Opens n) text = opened_in text
-name_in (Whole n) text = None
-
 -- what a call for the head answers; beside any head that is read from it
 abbrev pub HeadAnswers : Streaming → Streaming → Result HeadNext ReadFault → Type 0
 HeadAnswers old new (Ok heads.Want) = Wants old new
@@ -144,11 +132,10 @@ HeadAnswers old new (Ok (heads.Head text)) = (head : StilHead) → HandsOut head
 HeadAnswers old new (Err (faults.Fault fault)) = (f : PartFault) × (fault ≡ fault_of f) × (IsAgain old new f ⊎ ((head : StilHead) → IsFirst head old new f))
 HeadAnswers old new (Err faults.NoMemory) = new ≡ old
 
--- the bytes of a statement
-abbrev pub text_of : PatternStatement → List ℕ
-text_of (statements.Scan pattern text call line) = text
-text_of (statements.Other pattern text) = text
-text_of (statements.Loop pattern text times body line) = text
+-- a head has no more bytes than its limit
+abbrev pub IsShort : HeadNext → Type 0
+IsShort heads.Want = Unit {0}
+IsShort (heads.Head text) = length text ≤ largest
 
 -- what a call behind the head answers
 abbrev pub Answers : StilHead → Streaming → Streaming → Result Next ReadFault → Type 0
@@ -159,11 +146,11 @@ Answers head old new (Ok nexts.End) = HasEnded old new
 Answers head old new (Err (faults.Fault fault)) = (f : PartFault) × (fault ≡ fault_of f) × (IsAgain old new f ⊎ IsFirst head old new f)
 Answers head old new (Err faults.NoMemory) = new ≡ old
 
--- each call of a statement that is answered neither shifts too seldom nor compares too much
+-- each call of a statement that is answered neither shifts too seldom nor compares too much, and the statements in the block of a Loop stand in its text
 abbrev pub IsAccepted : StilHead → Result Next ReadFault → Type 0
 IsAccepted head (Ok nexts.Want) = Unit {0}
 IsAccepted head (Ok (nexts.Gap text pattern)) = Unit {0}
-IsAccepted head (Ok (nexts.Statement statement)) = AreAccepted head statement
+IsAccepted head (Ok (nexts.Statement statement)) = AreAccepted head statement × IsPlaced statement
 IsAccepted head (Ok nexts.End) = Unit {0}
 IsAccepted head (Err fault) = Unit {0}
 

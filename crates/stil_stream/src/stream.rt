@@ -7,7 +7,8 @@ ghost use Rattle.std.specs.Prelude.{◌≡◌, ◌≤◌, ◌<◌, ◌^◌, true
 ghost use Rattle.stil_parts.specs.Coming.{IsEarly, largest, moved};
 ghost use Rattle.stil_parts.specs.Deciding.{IsPart};
 ghost use Rattle.stil_calls.specs.Parts.{judge_of};
-ghost use Rattle.stil_stream.specs.Streams.{HeadAnswers, Answers, AnswersAny, AreGaps, IsAccepted, fresh, fed, ended, refused, handed_out, fault_of, IsOfStil, name_in, largest_piece, largest_kept, beginning};
+ghost use Rattle.stil_reader.specs.Sayings.{beginning, name_in};
+ghost use Rattle.stil_stream.specs.Streams.{HeadAnswers, Answers, AnswersAny, AreGaps, IsAccepted, IsShort, fresh, fed, ended, refused, handed_out, fault_of, IsOfStil, largest_piece, largest_kept};
 
 use crate::next::{HeadNext, Next};
 use crate::walk::{Walk, Walked, walk_at, walk_on};
@@ -15,7 +16,7 @@ use base_types::{Fault, FileKind, Kind, Name, NoMemory, ReadFault, Spot, Text};
 use lane_kernels::count_byte;
 use std::alloc::Global;
 use std::marker::Model;
-use stil_calls::{judge_part, opened_name, read_statement};
+use stil_calls::{Judging, judge_part, opened_name, read_statement};
 use stil_parts::{
     Comment, Decision, LARGEST, Part, PartFault, Place, Point, Scan, begin_at, decide, part_len,
 };
@@ -126,6 +127,7 @@ impl StilStream {
     pub fn next_head(&mut self, alloc: Global) -> Result<HeadNext, ReadFault>
         requires in_head { self.old.in_head ≡ true }
         ensures answers { HeadAnswers self.old self.new result }
+        ensures small { IfOk result IsShort }
     {
         if let Some(fault) = self.fault {
             return Err(read_fault(fault));
@@ -216,7 +218,7 @@ impl StilStream {
         if let Part::Whole(_len) = part {
             return self.next_whole(alloc, head, len, point);
         }
-        if let Some(fault) = judge_part(alloc, head, self.point, part, text)? {
+        if let Some(fault) = judge_part(alloc, Judging::Lengths, head, self.point, part, text)? {
             return Err(self.refuse(fault));
         }
         let pattern = name_of(alloc, part, text)?;

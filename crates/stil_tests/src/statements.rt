@@ -5,7 +5,7 @@ use base_types::{FileKind, Name, NoMemory, ReadFault, Rows, Span, Spot, Text};
 use std::alloc::{Alloc, Global};
 use std::process::Abort;
 use std::test::Fail;
-use stil_calls::{judge_part, opened_name, read_statement};
+use stil_calls::{Judging, judge_part, opened_name, read_statement};
 use stil_parts::{Comment, Part, Place, Point};
 use stil_types::{Callee, PatternStatement, ScanCall, ScanChainDecl, StilHead};
 
@@ -13,7 +13,7 @@ use stil_types::{Callee, PatternStatement, ScanCall, ScanChainDecl, StilHead};
 type Row = (&'static str, &'static str);
 
 /// Scan calls beside one chain of three bits, from `si` to `so`.
-const CALLS: [Row; 14] = [
+const CALLS: [Row; 16] = [
     ("Call load_unload { si=011; }", "Scan 3 011 -"),
     ("Call load_unload;", "Scan 0 - -"),
     ("x: Macro load { so = L H X; ; }", "Scan 3 - LHX"),
@@ -34,6 +34,8 @@ const CALLS: [Row; 14] = [
         "LongCompare 14",
     ),
     ("Call load_unload { si=011; si=; }", "PatternSyntax 14"),
+    ("Call load_unload { \"s\\i\"=011; }", "Scan 3 011 -"),
+    ("Call load_unload { si=011; s\\i=011; }", "PatternSyntax 14"),
     ("Call load_unload { si 011; }", "PatternSyntax 14"),
     ("Call capture { si=P; }", "Other"),
     ("Call unknown;", "PatternUnsupported 14"),
@@ -126,7 +128,7 @@ fn call_text(alloc: Global, call: &ScanCall) -> Result<String, Fail> {
     Ok(format!(in alloc; "{shifts} {load} {compare}")?)
 }
 
-fn shown(alloc: Global, statement: &PatternStatement) -> Result<String, Fail> {
+pub(crate) fn shown(alloc: Global, statement: &PatternStatement) -> Result<String, Fail> {
     match statement {
         PatternStatement::Scan { call, .. } => {
             let call = call_text(alloc, call)?;
@@ -218,17 +220,45 @@ fn opened_patterns(rt: HostRuntime) -> Result<(), Fail> {
 fn statements_at_the_top(rt: HostRuntime) -> Result<(), Fail> {
     let alloc = rt.alloc();
     let head = head(alloc)?;
-    let passes = judge_part(alloc, &head, BEGINNING, Part::Passes(0), b"Ann {* a *}")?;
+    let passes = judge_part(
+        alloc,
+        Judging::Lengths,
+        &head,
+        BEGINNING,
+        Part::Passes(0),
+        b"Ann {* a *}",
+    )?;
     assert!(rt; passes.is_none());
-    let refused = judge_part(alloc, &head, BEGINNING, Part::Passes(0), b"Spec s { }")?;
+    let refused = judge_part(
+        alloc,
+        Judging::Lengths,
+        &head,
+        BEGINNING,
+        Part::Passes(0),
+        b"Spec s { }",
+    )?;
     let Some(fault) = refused else {
         return Err("no fault")?;
     };
     assert_eq!(rt; fault.kind.name(), "PatternUnsupported");
     assert_eq!(rt; fault.line, 9);
-    let opens = judge_part(alloc, &head, BEGINNING, Part::Opens(0), b"Pattern {")?;
+    let opens = judge_part(
+        alloc,
+        Judging::Lengths,
+        &head,
+        BEGINNING,
+        Part::Opens(0),
+        b"Pattern {",
+    )?;
     assert!(rt; opens.is_some());
-    let whole = judge_part(alloc, &head, BEGINNING, Part::Whole(0), b"Call;")?;
+    let whole = judge_part(
+        alloc,
+        Judging::Lengths,
+        &head,
+        BEGINNING,
+        Part::Whole(0),
+        b"Call;",
+    )?;
     assert!(rt; whole.is_some());
     Ok(())
 }

@@ -22,6 +22,60 @@ const SHORT: &str = "STIL 1.0; Pattern a {\n V w;\n\n Call load_unload { si=01; 
 /// A text without a Pattern.
 const HEAD_ALONE: &str = "STIL 1.0;\n// Pattern";
 
+/// A text of each form, and what is told of it.
+const FORMS: [(&str, &str); 14] = [
+    (WHOLE, WHOLE_TOLD),
+    (HEAD_ALONE, "<STIL 1.0;\n// Pattern>."),
+    (
+        "STIL 1.0; Pattern a { x : Call load_unload { \"si\" = \\r3 1 ; /* } */ so=LHX; } }",
+        "<STIL 1.0; >Pattern a {<a> [Scan 0 1] }.",
+    ),
+    (
+        "STIL 1.0; Pattern a { Ann {* } *} V { a = '{' ; } }",
+        "<STIL 1.0; >Pattern a {<a> [Other 0] [Other 0] }.",
+    ),
+    (
+        "STIL 1.0; \"Pattern\" x; Patterns y; Pattern \"a\"b { Goto x; }",
+        "<STIL 1.0; \"Pattern\" x; Patterns y; >Pattern \"a\"b {<ab> [Other 0] }.",
+    ),
+    (
+        "STIL 1.0; Pattern a { /* V w; }",
+        "<STIL 1.0; >Pattern a {<a> /* V w; }!PatternSyntax 1",
+    ),
+    (
+        "STIL 1.0; Pattern a {\n V w; Jump x; V w; }",
+        "<STIL 1.0; >Pattern a {<a>\n [Other 0] !PatternUnsupported 2",
+    ),
+    (
+        "STIL 1.0; Pattern a { Call load_unload { d0=1; } }",
+        "<STIL 1.0; >Pattern a {<a> !ForeignData 1",
+    ),
+    (
+        "STIL 1.0; Pattern a { Call load_unload { si=01P; } }",
+        "<STIL 1.0; >Pattern a {<a> !ScanCharacter 1",
+    ),
+    (
+        "STIL 1.0; Pattern a { Call load_unload { so=LHXH; } }",
+        "<STIL 1.0; >Pattern a {<a> !LongCompare 1",
+    ),
+    (
+        "STIL 1.0; Pattern a { Call load_unload { si=\\r600000 0; } }",
+        "<STIL 1.0; >Pattern a {<a> !TooManyShifts 1",
+    ),
+    (
+        "STIL 1.0; Pattern a { Loop 2 {\n V w;\n Call load_unload { si=01; } } }",
+        "<STIL 1.0; >Pattern a {<a> !ShortLoad 3",
+    ),
+    (
+        "STIL 1.0; Pattern a { } // {\nSpec { }",
+        "<STIL 1.0; >Pattern a {<a> } // {\n!PatternUnsupported 2",
+    ),
+    (
+        "STIL 1.0; Pattern a { } Pattern b;",
+        "<STIL 1.0; >Pattern a {<a> } !PatternSyntax 1",
+    ),
+];
+
 fn told_text(text: &Text) -> &str {
     str::from_utf8(text.bytes()).unwrap_or("no text")
 }
@@ -102,17 +156,24 @@ fn feed(stream: &mut StilStream, piece: &[u8]) -> Result<(), Fail> {
 
 /// All that is told of a text that comes in pieces of this size.
 fn told_in_pieces(alloc: Global, text: &str, size: usize) -> Result<String, Fail> {
+    told_behind(alloc, text, size, size)
+}
+
+/// The same where the first piece has another size.
+fn told_behind(alloc: Global, text: &str, first: usize, size: usize) -> Result<String, Fail> {
     let head = head(alloc)?;
     let mut stream = StilStream::new(alloc);
     let mut told = String::new(alloc);
     let mut rest = text.as_bytes();
+    let mut next = first;
     for _turn in 0..4096_u32 {
         match hear_next(alloc, &head, &mut stream)? {
             Heard::Told(more) => told.push_str(&more)?,
             Heard::Wanted => {
-                let (piece, after) = rest.split_at(size.min(rest.len()));
+                let (piece, after) = rest.split_at(next.min(rest.len()));
                 feed(&mut stream, piece)?;
                 rest = after;
+                next = size;
             }
             Heard::Ended(more) => {
                 told.push_str(&more)?;
@@ -151,6 +212,17 @@ fn head_without_patterns(rt: HostRuntime) -> Result<(), Fail> {
     for size in [1_usize, 2, 3, 4096] {
         let told = told_in_pieces(rt.alloc(), HEAD_ALONE, size)?;
         assert_eq!(rt; told.as_str(), "<STIL 1.0;\n// Pattern>.");
+    }
+    Ok(())
+}
+
+#[test]
+fn cut_at_every_byte(rt: HostRuntime) -> Result<(), Fail> {
+    for (text, wanted) in FORMS {
+        for at in 1..text.len() {
+            let told = told_behind(rt.alloc(), text, at, 4096)?;
+            assert_eq!(rt; told.as_str(), wanted, "cut at {at}");
+        }
     }
     Ok(())
 }

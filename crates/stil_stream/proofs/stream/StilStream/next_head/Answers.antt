@@ -1,5 +1,6 @@
-use Rattle.std.proofs.Common.{◌≡◌, ℕ, ◌-◌, List, length, take, drop, false, ap, sym, subst, ◌∙◌, arith}
+use Rattle.std.proofs.Common.{◌≡◌, ◌≤◌, ℕ, ◌-◌, List, length, take, drop, false, ap, sym, subst, ◌∙◌, arith}
 use Rattle.std.proofs.lemmas.Bool.{true≢false, leb-true}
+use Rattle.std.proofs.lemmas.List.{length-take-le}
 use Rattle.stil_parts.specs.declared.gap.Place.TheVariants.{Top}
 use Rattle.stil_parts.specs.declared.gap.Comment.TheVariants.{Outside}
 use Rattle.stil_parts.specs.Coming.{largest, moved}
@@ -40,6 +41,7 @@ returns-in_ok-text-in-End c =
     let len = ap length k in
     let n = c.in-End.len in
     let limit = c.min-limit.result in
+    let within : length (take limit rest) ≤ limit = omega (arith, length-take-le limit rest (omega (arith, c.min-limit.ensures))) in
     let text = c.in_ok-text-in-End.text in
     let h = c.in-End.ensures.value in
     let sound = sym (ap (λ (o : Streaming). o.fault) c.self.view_is) ∙ c.in_default.is in
@@ -47,13 +49,14 @@ returns-in_ok-text-in-End c =
     c.behind_head-point.ensures.value ∙ ap (λ (t : List ℕ). moved s.point t Top Outside) c.bytes.ensures.value ∙ ap (λ (o : Streaming). moved o.point text Top Outside) c.self.view_is in
     record {
       answers = λ head. head-out old c.hand_out.new.self sound c.requires.in_head head c.if-self.walk_on n limit c.behind_head-point.result text c.hand_out.ensures.value
-          (c.in_ok-text-in-End.ensures.value ∙ ap (take n) k) point (omega (arith, c.min-limit.ensures, len)) (omega (arith, c.min-limit.ensures))
+          (c.in_ok-text-in-End.ensures.value ∙ ap (take n) k) point c.behind_head-point.ensures.early (omega (arith, c.min-limit.ensures, len)) (omega (arith, c.min-limit.ensures))
           (λ few. omega (arith, c.min-limit.ensures, len))
           (λ e. elim c.if-self.branch [
             | then-self w ↦ let a = w.walk_on-is in let b = w.if-self.true in (sym (ap (λ (o : Streaming). o.ended) c.self.view_is) ∙ b, omega (arith, len, leb-true (length rest) largest (sym a ∙ e)))
             | else-self w ↦ let a = w.walk_on-is in absurd (true≢false (sym e ∙ a ∙ w.if-self.false))
           ])
           (sym (ap (λ (x : List ℕ). head_end c.if-self.walk_on Outside 0 (take limit x)) k) ∙ h.0) (omega (arith, h.1, ap (λ (x : List ℕ). length (take limit x)) k));
+      small = omega (arith, ap length c.in_ok-text-in-End.ensures.value, length-take-le n rest (omega (arith, within, h.1)), within, h.1, c.min-limit.ensures);
     }
 
 pub returns-in-Open-2 : goal.returns-in-Open-2
@@ -69,4 +72,5 @@ returns-in-Open-2 c =
     record {
       answers = answers-large old c.refuse.new.self c.refuse.result c.refuse.ensures.answer
           (λ head. head-large old c.refuse.new.self sound c.requires.in_head head c.refuse.ensures.value (omega (arith, ap length k, c.if-kept-le-LARGEST.false)) none);
+      small = tt;
     }

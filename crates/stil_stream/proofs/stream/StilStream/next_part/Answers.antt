@@ -1,6 +1,7 @@
 use Rattle.std.proofs.Common.{ℕ, ◌+◌, ◌-◌, List, take, drop, refl, ap, sym, ◌∙◌}
 use Rattle.stil_calls.specs.Parts.{judge_of}
-use Rattle.stil_stream.specs.Streams.{Streaming, name_in, handed_out}
+use Rattle.stil_reader.specs.Sayings.{name_in}
+use Rattle.stil_stream.specs.Streams.{Streaming, handed_out}
 use Rattle.stil_stream.proofs.Answering.{pass-out, part-first, answers-first, slice-is}
 use Rattle.stil_stream.proofs.stream.StilStream.next_part.Goals as goal
 
