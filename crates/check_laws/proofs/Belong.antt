@@ -33,9 +33,9 @@ use Rattle.traced_paths.specs.Numbers.{path_specs, path_spec}
 use Rattle.design_elements.specs.Elements.{chain_specs}
 use Rattle.design_elements.specs.Laws.{AreOfInstances, ElementsLaw, OnceLaw, FewElementsLaw, FewChainsLaw}
 use Rattle.design_places.specs.Ends.{source_on, sink_on, point_or_origin}
-use Rattle.design_checks.specs.Laws.{AreChecked, ChainsLaw, MeasuredLaw}
-use Rattle.design_checks.proofs.Measured.{units_few}
-use Rattle.design_checks.proofs.Placed.{steps_once, bits_are, step_is, here, no_path, no_step}
+use Rattle.check_laws.specs.Laws.{AreChecked, ChainsLaw, MeasuredLaw}
+use Rattle.check_laws.proofs.Measured.{units_few}
+use Rattle.check_laws.proofs.Placed.{steps_once, bits_are, step_is, here, no_path, no_step}
 
 -- a step that names an entry is one of an instance
 entry_within : (n : Netlist) (cells : Cells) (step : Step) → NamesEntry n cells step → step.instance < length n.instances

@@ -16,7 +16,7 @@ use Rattle.chain_rules.proofs.Members.{length_from_permutation}
 use Rattle.chain_rules.proofs.Stretched.{stretch_within}
 use Rattle.wire_cost.specs.declared.ends.Ends.{Ends}
 use Rattle.wire_cost.specs.Lengths.{AreWithin, IsPlanAt}
-use Rattle.design_checks.proofs.FewUnits.{few}
+use Rattle.check_laws.proofs.FewUnits.{few}
 
 -- lists side by side, each no longer than the elements of the chain beside it
 concat_few : (xss : List (List ℕ)) (chains : List ChainSpec) → length xss ≡ length chains

@@ -1,5 +1,5 @@
 //! Laws of the checks together, each carried by a contract.
-ghost use Rattle.design_checks.specs.Laws.{ChainsLaw, MeasuredLaw};
+ghost use Rattle.check_laws.specs.Laws.{ChainsLaw, MeasuredLaw};
 
 use design_elements::elements_law;
 

@@ -1,7 +1,7 @@
 //! The files of a placed design (cell table, LEF, Verilog, DEF), read and checked beside each other.
 //!
 //! Floor: paths, on netlist_core, cell_table, lef_pins, verilog_checks, verilog_reader, def_syntax, def_reader,
-//! chain_trace, chain_rules, wire_cost, design_elements, traced_paths, design_places, design_checks and base_types.
+//! chain_trace, chain_rules, wire_cost, design_elements, traced_paths, design_places, check_laws and base_types.
 //! Contract: `read_design_files` gives what `specs/Stages.antt` says of the files, or the first fault of `specs/Faults.antt`.
 #![tactic(auto)]
 

@@ -17,10 +17,10 @@ use crate::files::Files;
 use crate::traced::Traced;
 use base_types::{Fault, Kind, ReadFault};
 use chain_rules::{PathSpec, Rules, units_of};
-use design_checks::{
-    chains_law, check_bits, check_nets, check_places, ends_of, measured_law, path_specs,
-};
+use check_laws::{chains_law, measured_law};
+use design_places::{check_nets, check_places, ends_of};
 use std::alloc::Global;
+use traced_paths::{check_bits, path_specs};
 use wire_cost::Ends;
 
 /// Whether the cells of the paths are placed.

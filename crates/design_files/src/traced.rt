@@ -11,9 +11,10 @@ use base_types::ReadFault;
 use chain_rules::ChainSpec;
 use chain_trace::Path;
 use def_reader::agree;
-use design_checks::{elements_of, paths_of};
+use design_elements::elements_of;
 use netlist_core::classes_of;
 use std::alloc::Global;
+use traced_paths::paths_of;
 
 /// The chains as numbers, and the paths that they lie on.
 #[derive(Drop)]

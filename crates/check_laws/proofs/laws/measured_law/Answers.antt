@@ -1,5 +1,5 @@
-use Rattle.design_checks.proofs.Belong.{measured}
-use Rattle.design_checks.proofs.laws.measured_law.Goals as goal
+use Rattle.check_laws.proofs.Belong.{measured}
+use Rattle.check_laws.proofs.laws.measured_law.Goals as goal
 
 pub returns : goal.returns
 returns c = record { law = measured c.elements_law.ensures.few c.elements_law.ensures.few_chains }
