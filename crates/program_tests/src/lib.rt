@@ -10,6 +10,8 @@ mod designs;
 #[cfg(test)]
 mod desks;
 #[cfg(test)]
+mod played;
+#[cfg(test)]
 mod reordered;
 #[cfg(test)]
 mod rewired;

@@ -6,6 +6,8 @@ use Rattle.std.proofs.lemmas.Option.{same_Some}
 use Rattle.std.proofs.lemmas.Slice.Eq.{bytes_eq-Decides}
 use Rattle.order_search.specs.declared.effort.Effort.{Effort}
 use Rattle.order_search.specs.declared.effort.Effort.TheVariants as efforts
+use Rattle.play_report.specs.declared.device.DeviceKind.{DeviceKind}
+use Rattle.play_report.specs.declared.device.DeviceKind.TheVariants as devices
 use Rattle.scan_words.specs.declared.order.Order.{Order}
 use Rattle.scan_words.specs.declared.verb.Verb.{Verb}
 use Rattle.scan_words.specs.declared.verb.Verb.TheVariants as verbs
@@ -18,7 +20,7 @@ use Rattle.scan_words.specs.Orders.{needed, options_of, takes_further, is_count,
 use Rattle.scan_words.specs.Written.{Says}
 use Rattle.scan_job.specs.declared.request.Request.{Request}
 use Rattle.scan_job.specs.declared.request.Request.TheVariants as requests
-use Rattle.scan_job.specs.Requests.{effort_word, order_of, ArePinsApart, IsAsked}
+use Rattle.scan_job.specs.Requests.{effort_word, device_word, order_of, ArePinsApart, IsAsked}
 
 -- the request of a verb, its values and the further words
 request_by : Verb → List Text → List Text → Request
@@ -32,10 +34,17 @@ request_by verbs.Check values further = requests.Trace (record { table = []; ver
 request_by verbs.Reorder (a ∷ b ∷ c ∷ d ∷ e ∷ f ∷ g ∷ []) further =
     requests.Reorder (record { table = a; lef = b; verilog = c; def = d; out_verilog = e; out_def = f; effort = if bytes_eq g (codes "order") then efforts.Order else efforts.Full })
 request_by verbs.Reorder values further = requests.Trace (record { table = []; verilog = []; scan_out = [] })
+request_by verbs.Play (a ∷ b ∷ c ∷ d ∷ []) further =
+    requests.Play (record { table = a; verilog = b; stil = c; device = if bytes_eq d (codes "hold") then devices.Hold else devices.Mix })
+request_by verbs.Play values further = requests.Trace (record { table = []; verilog = []; scan_out = [] })
 
 effort_back : (effort : Effort) → (if bytes_eq (effort_word effort) (codes "order") then efforts.Order else efforts.Full) ≡ effort
 effort_back efforts.Order = refl
 effort_back efforts.Full = refl
+
+device_back : (device : DeviceKind) → (if bytes_eq (device_word device) (codes "hold") then devices.Hold else devices.Mix) ≡ device
+device_back devices.Hold = refl
+device_back devices.Mix = refl
 
 request_back : (request : Request) → request_by (order_of request).verb (order_of request).values (order_of request).further ≡ request
 unfolding request_by
@@ -43,6 +52,7 @@ request_back (requests.Rewire r) = refl
 request_back (requests.Trace r) = refl
 request_back (requests.Check r) = refl
 request_back (requests.Reorder r) = ap (λ (effort : Effort). requests.Reorder (record r { effort = effort })) (effort_back r.effort)
+request_back (requests.Play r) = ap (λ (device : DeviceKind). requests.Play (record r { device = device })) (device_back r.device)
 
 -- an order is that of one request at most
 pub order_once : (one other : Request) → order_of one ≡ order_of other → one ≡ other
@@ -185,12 +195,47 @@ made_reorder values given [] h count =
     }
 made_reorder values given (w ∷ ws) h count = let none = zero_is (length (w ∷ ws)) count in absurd (omega (arith, none))
 
+-- a device's word is that of a device
+record IsDevice (word : Text) : Type 0 where
+  device : DeviceKind
+  is : device_word device ≡ word
+
+device_by : (d : Text) (a b : Bool) → bytes_eq d (codes "hold") ≡ a → bytes_eq d (codes "mix") ≡ b → (a || b) ≡ true → IsDevice d
+device_by d true b hold mix h = record { device = devices.Hold; is = sym ((bytes_eq-Decides d (codes "hold")).0 hold) }
+device_by d false true hold mix h = record { device = devices.Mix; is = sym ((bytes_eq-Decides d (codes "mix")).0 mix) }
+device_by d false false hold mix h = absurd cc
+
+device_is : (d : Text) → has_form (value_form options.Device) d ≡ true → IsDevice d
+device_is d h = device_by d (bytes_eq d (codes "hold")) (bytes_eq d (codes "mix")) refl refl h
+
+made_play : (values : Values) (given further : List Text) → each_value values (options_of verbs.Play) ≡ Some given → is_count false (length further) ≡ true → IsMade verbs.Play given further
+made_play values given [] h count =
+    let a = first values options.Table _ given h in
+    let b = first values options.Verilog _ a.rest a.others in
+    let c = first values options.Stil _ b.rest b.others in
+    let d = first values options.Device _ c.rest c.others in
+    let last = none_left values d.rest d.others in
+    let device = device_is d.value d.formed in
+    let same : a.value ∷ b.value ∷ c.value ∷ d.value ∷ [] ≡ given
+    = sym
+    (a.same
+    ∙ ap (λ (xs : List Text). a.value ∷ xs)
+    (b.same ∙ ap (λ (xs : List Text). b.value ∷ xs) (c.same ∙ ap (λ (xs : List Text). c.value ∷ xs) (d.same ∙ ap (λ (xs : List Text). d.value ∷ xs) last)))) in
+    record {
+      request = requests.Play (record { table = a.value; verilog = b.value; stil = c.value; device = device.device });
+      order_is = ap (λ (w : Text). record { verb = verbs.Play; values = a.value ∷ b.value ∷ c.value ∷ w ∷ []; further = [] }) device.is
+          ∙ ap (λ (vs : List Text). record { verb = verbs.Play; values = vs; further = [] }) same;
+      pins = tt;
+    }
+made_play values given (w ∷ ws) h count = let none = zero_is (length (w ∷ ws)) count in absurd (omega (arith, none))
+
 made : (verb : Verb) (values : Values) (given further : List Text) → each_value values (options_of verb) ≡ Some given → are_apart values (options_of verb) ≡ true
     → is_count (takes_further verb) (length further) ≡ true → IsMade verb given further
 made verbs.Rewire values given further each apart count = made_rewire values given further each apart
 made verbs.Trace values given further each apart count = made_trace values given further each count
 made verbs.Check values given further each apart count = made_check values given further each count
 made verbs.Reorder values given further each apart count = made_reorder values given further each count
+made verbs.Play values given further each apart count = made_play values given further each count
 
 abbrev further_in : Values → List Text
 further_in values = values (codes "further")

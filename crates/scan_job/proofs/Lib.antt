@@ -2,5 +2,8 @@ pub mod Values
 pub mod Asked
 pub mod Sizes
 pub mod Phases
+pub mod PlayKinds
+pub mod Played
+pub mod PlayPhases
 pub mod TopClauses
 pub mod OneFault

@@ -2,6 +2,7 @@
 use Rattle.std.proofs.Common.{◌≡◌, ◌≢◌, ◌<◌, ◌≤◌, ◌⊎◌, ℕ, zero, suc, Bool, true, false, List, [], ◌++◌, length, Option, Some, None, option_map, IfSome, IsSome, Result, Ok, Err, nat_lt, refl, sym, ◌∙◌, ap, subst, append-nil, length-append, arith, inl, inr}
 use Rattle.std.proofs.lemmas.Bool.Decides.{nat_tests}
 use Rattle.base_types.specs.declared.fault.Fault.{Fault}
+use Rattle.base_types.specs.FirstFault.{IsFirstFault}
 use Rattle.desk_io.specs.declared.slot.Slot.{Slot}
 use Rattle.desk_io.specs.declared.slot.Slot.TheVariants.{Table, Lef, Verilog, Def, Stil, OutVerilog, OutDef, OutStil, Console}
 use Rattle.desk_io.specs.declared.outputs.Outputs.{Outputs}
@@ -21,16 +22,18 @@ use Rattle.path_report.specs.Reports.{IsPathText, IsPathFault}
 use Rattle.design_files.specs.Files.{Texts, texts_of}
 use Rattle.design_files.specs.Faults.{IsFilesFault}
 use Rattle.check_report.specs.Checks.{IsCheckText}
+use Rattle.play_report.specs.Faults.{HoldsInPlay}
+use Rattle.play_report.specs.Files.{IsPlayText}
 use Rattle.scan_job.specs.Requests.{names_of, rewire_of}
-use Rattle.scan_job.specs.Faults.{size_fault, IsCommandFault, HasNoCommandFault, IsRunFault, HasNoFault, IsFoundWriting}
+use Rattle.scan_job.specs.Faults.{size_fault, IsOver, AreSmall, IsCommandFault, HasNoCommandFault, IsRunFault, HasNoFault, IsFoundWriting}
 use Rattle.scan_job.specs.Texts.{AreTexts, AreRewired, AreReordered, AreOutputsOf, AreOutputsBefore}
 use Rattle.scan_job.specs.TopCall.{Slots, IsUsed, Reads, SameEverywhere, SameUnused, SameOutputs, SameDesign, AreFilesRefused}
 use Rattle.scan_job.specs.Ended.{IsDone, IsRefused, IsInputFailed, IsOutputFailed, IsOutOfMemory, HasEnded}
 use Rattle.scan_job.specs.Phases.{HasPutLine, HasFailedAtLine, HasSaid, AreJudged, HasPutAll, HasPutSome, HasFinished}
-use Rattle.scan_job.proofs.Sizes.{size_first, size_none}
+use Rattle.scan_job.proofs.Sizes.{over_of, small_of, size_first, size_none}
 
 -- what was taken to the end is the whole file
-text_is : (u v : Option (List ℕ)) (text file : List ℕ) → u ≡ Some file → u ≡ option_map (λ rest. text ++ rest) v → IfSome v (λ rest. rest ≡ []) → text ≡ file
+pub text_is : (u v : Option (List ℕ)) (text file : List ℕ) → u ≡ Some file → u ≡ option_map (λ rest. text ++ rest) v → IfSome v (λ rest. rest ≡ []) → text ≡ file
 text_is u None text file holds front at_end = cc
 text_is u (Some rest) text file holds front at_end =
     let whole : text ++ rest ≡ file = cc in
@@ -131,14 +134,14 @@ number_cases one other =
     between_same m n low high = grind arith
 
 -- a slot is used or not
-used_or_not : (request : Request) (slot : Slot) → IsUsed request slot ⊎ (IsUsed request slot → ⊥)
+pub used_or_not : (request : Request) (slot : Slot) → IsUsed request slot ⊎ (IsUsed request slot → ⊥)
 used_or_not request slot = cases (name_at (names_of request) slot)
   where
     cases : (o : Option (List ℕ)) → IsSome o ⊎ (IsSome o → ⊥)
     cases None = inr (λ h. absurd cc)
     cases (Some name) = inl refl
 
-console_or_not : (slot : Slot) → (slot ≡ Console) ⊎ (slot ≢ Console)
+pub console_or_not : (slot : Slot) → (slot ≡ Console) ⊎ (slot ≢ Console)
 console_or_not Console = inl refl
 console_or_not Table = inr (λ e. cc)
 console_or_not Lef = inr (λ e. cc)
@@ -149,37 +152,37 @@ console_or_not OutVerilog = inr (λ e. cc)
 console_or_not OutDef = inr (λ e. cc)
 console_or_not OutStil = inr (λ e. cc)
 
-at_slot : (P : Slot → Type 0) (one other : Slot) → one ≡ other → P one → P other
+pub at_slot : (P : Slot → Type 0) (one other : Slot) → one ≡ other → P one → P other
 at_slot P one other e held = subst P e held
 
 -- an input is no output
-apart : (input output : Slot) → IsInput input → IsOutput output → input ≢ output
+pub apart : (input output : Slot) → IsInput input → IsOutput output → input ≢ output
 apart input output reads writes e = not_both output (at_slot IsInput input output e reads) writes
 
 -- a slot that isn't used is another than one that is
-unused_apart : (request : Request) (slot here : Slot) → (IsUsed request slot → ⊥) → IsUsed request here → slot ≢ here
+pub unused_apart : (request : Request) (slot here : Slot) → (IsUsed request slot → ⊥) → IsUsed request here → slot ≢ here
 unused_apart request slot here unused used e = unused (at_slot (IsUsed request) here slot (sym e) used)
 
-state_same : (P : SlotState → Type 0) (one other : SlotState) → one ≡ other → P other → P one
+pub state_same : (P : SlotState → Type 0) (one other : SlotState) → one ≡ other → P other → P one
 state_same P one other e held = subst P (sym e) held
 
 appended_none : (o : Option (List ℕ)) → o ≡ option_map (λ w. w ++ []) o
 appended_none None = refl
 appended_none (Some w) = ap Some (sym (append-nil w))
 
-nothing_held : (bytes : List ℕ) (old new : SlotState) → new ≡ old → HoldsPrefix bytes old new
+pub nothing_held : (bytes : List ℕ) (old new : SlotState) → new ≡ old → HoldsPrefix bytes old new
 nothing_held bytes old new same = record { front = []; rest = bytes; prefix = refl; appended = ap (λ (s : SlotState). s.written) same ∙ appended_none old.written }
 
 all_held : (bytes : List ℕ) (old new : SlotState) → IsAppended bytes old new → HoldsPrefix bytes old new
 all_held bytes old new appended = record { front = bytes; rest = []; prefix = sym (append-nil bytes); appended = appended }
 
-prefix_since : (bytes : List ℕ) (a b c : SlotState) → b ≡ a → HoldsPrefix bytes b c → HoldsPrefix bytes a c
+pub prefix_since : (bytes : List ℕ) (a b c : SlotState) → b ≡ a → HoldsPrefix bytes b c → HoldsPrefix bytes a c
 prefix_since bytes a b c e held = subst (λ (s : SlotState). HoldsPrefix bytes s c) e held
 
-appended_since : (bytes : List ℕ) (a b c : SlotState) → b ≡ a → IsAppended bytes b c → IsAppended bytes a c
+pub appended_since : (bytes : List ℕ) (a b c : SlotState) → b ≡ a → IsAppended bytes b c → IsAppended bytes a c
 appended_since bytes a b c e held = subst (λ (s : SlotState). IsAppended bytes s c) e held
 
-risen_since : (now : ℕ) (a b : SlotState) → b ≡ a → HasRisen b.faults now → HasRisen a.faults now
+pub risen_since : (now : ℕ) (a b : SlotState) → b ≡ a → HasRisen b.faults now → HasRisen a.faults now
 risen_since now a b e risen = subst (λ (s : SlotState). HasRisen s.faults now) e risen
 
 -- a command looks at its inputs alone
@@ -194,23 +197,43 @@ design_same one other table lef verilog def =
     ap (λ (text : List ℕ). texts_of text (one Lef) (one Verilog) (one Def)) table ∙ ap (λ (text : List ℕ). texts_of (other Table) text (one Verilog) (one Def)) lef
     ∙ ap (λ (text : List ℕ). texts_of (other Table) (other Lef) text (one Def)) verilog ∙ ap (texts_of (other Table) (other Lef) (other Verilog)) def
 
-command_same : (request : Request) (one other : Slot → List ℕ) (fault : Fault) → AgreeAt request one other → IsCommandFault request one fault → IsCommandFault request other fault
+pub command_same : (request : Request) (one other : Slot → List ℕ) (fault : Fault) → AgreeAt request one other → IsCommandFault request one fault → IsCommandFault request other fault
 command_same (requests.Rewire r) one other fault agree is = subst (λ (text : List ℕ). IsRewireFault text (rewire_of r) fault) (agree Verilog tt refl) is
 command_same (requests.Trace r) one other fault agree is =
     subst (λ (table : List ℕ). IsPathFault table (other Verilog) r.scan_out fault) (agree Table tt refl)
     (subst (λ (text : List ℕ). IsPathFault (one Table) text r.scan_out fault) (agree Verilog tt refl) is)
 command_same (requests.Check r) one other fault agree is = subst (λ (t : Texts). IsFilesFault t fault) (design_same one other (agree Table tt refl) (agree Lef tt refl) (agree Verilog tt refl) (agree Def tt refl)) is
 command_same (requests.Reorder r) one other fault agree is = subst (λ (t : Texts). IsFilesFault t fault) (design_same one other (agree Table tt refl) (agree Lef tt refl) (agree Verilog tt refl) (agree Def tt refl)) is
+command_same (requests.Play r) one other fault agree is =
+    subst (λ (table : List ℕ). IsFirstFault (HoldsInPlay table (other Verilog) (other Stil)) fault) (agree Table tt refl)
+    (subst (λ (text : List ℕ). IsFirstFault (HoldsInPlay (one Table) text (other Stil)) fault) (agree Verilog tt refl)
+    (subst (λ (text : List ℕ). IsFirstFault (HoldsInPlay (one Table) (one Verilog) text) fault) (agree Stil tt refl) is))
 
-texts_same : (request : Request) (one other : Slot → List ℕ) (outputs : Outputs) → AgreeAt request one other → AreTexts request one outputs → AreTexts request other outputs
+pub texts_same : (request : Request) (one other : Slot → List ℕ) (outputs : Outputs) → AgreeAt request one other → AreTexts request one outputs → AreTexts request other outputs
 texts_same (requests.Rewire r) one other outputs agree are = subst (λ (text : List ℕ). AreRewired r text outputs) (agree Verilog tt refl) are
 texts_same (requests.Trace r) one other outputs agree are =
     subst (λ (table : List ℕ). IsPathText table (other Verilog) r.scan_out outputs.console) (agree Table tt refl)
     (subst (λ (text : List ℕ). IsPathText (one Table) text r.scan_out outputs.console) (agree Verilog tt refl) are)
 texts_same (requests.Check r) one other outputs agree are = subst (λ (t : Texts). IsCheckText t outputs.console) (design_same one other (agree Table tt refl) (agree Lef tt refl) (agree Verilog tt refl) (agree Def tt refl)) are
 texts_same (requests.Reorder r) one other outputs agree are = subst (λ (t : Texts). AreReordered r t outputs) (design_same one other (agree Table tt refl) (agree Lef tt refl) (agree Verilog tt refl) (agree Def tt refl)) are
+texts_same (requests.Play r) one other outputs agree are =
+    subst (λ (table : List ℕ). IsPlayText table (other Verilog) (other Stil) r.device outputs.console) (agree Table tt refl)
+    (subst (λ (text : List ℕ). IsPlayText (one Table) text (other Stil) r.device outputs.console) (agree Verilog tt refl)
+    (subst (λ (text : List ℕ). IsPlayText (one Table) (one Verilog) text r.device outputs.console) (agree Stil tt refl) are))
 
 -- the inputs of a request were taken
+
+-- a request that names no STIL file takes its inputs whole
+pub whole_number : (request : Request) → (IsUsed request Stil → ⊥) → (slot : Slot) → IsInput slot → IsUsed request slot → number slot < 4
+whole_number request whole Table input used = omega arith
+whole_number request whole Lef input used = omega arith
+whole_number request whole Verilog input used = omega arith
+whole_number request whole Def input used = omega arith
+whole_number request whole Stil input used = absurd (whole used)
+whole_number request whole OutVerilog input used = absurd input
+whole_number request whole OutDef input used = absurd input
+whole_number request whole OutStil input used = absurd input
+whole_number request whole Console input used = absurd input
 
 module _ (request : Request) (texts : List (Option (List ℕ))) (a b : Slots) (taken : HasTakenInputs (names_of request) 5 texts a b) where
   taken_here : (slot : Slot) → IsInput slot → IsUsed request slot → HasTakenFile (input_at texts slot) (a slot) (b slot)
@@ -231,17 +254,17 @@ module _ (request : Request) (texts : List (Option (List ℕ))) (a b : Slots) (t
     | inr output ↦ ap (λ (s : SlotState). s.faults) (output_kept slot output)
   ]
 
-  module _ (files : Slot → List ℕ) (holds : Reads request files a) where
+  module _ (whole : IsUsed request Stil → ⊥) (files : Slot → List ℕ) (holds : Reads request files a) where
     file_is : (slot : Slot) → IsInput slot → IsUsed request slot → input_at texts slot ≡ files slot
     file_is slot input used =
         let t = taken_here slot input used in
         text_is _ _ (input_at texts slot) (files slot) (holds slot input used) t.front t.at_end
 
-    is_small : (slot : Slot) → IsInput slot → IsUsed request slot → length (files slot) ≤ limit_of slot
+    is_small : AreSmall request files
     is_small slot input used =
         let small = taken.small slot input used (low_number slot input) in
         let same = ap length (file_is slot input used) in
-        omega (arith, small, same)
+        small_of slot (files slot) input (whole_number request whole slot input used) (omega (arith, small, same))
 
     found_first : (fault : Fault) → IsCommandFault request (input_at texts) fault → IsRunFault request files fault
     found_first fault found = inr (is_small, command_same request (input_at texts) files fault file_is found)
@@ -262,6 +285,7 @@ none_late (requests.Rewire r) fault late = late
 none_late (requests.Trace r) fault late = late
 none_late (requests.Check r) fault late = late
 none_late (requests.Reorder r) fault late = late
+none_late (requests.Play r) fault late = late
 
 pub before_of : (request : Request) (files : Slot → List ℕ) (outputs : Outputs) → AreOutputsOf request files outputs → AreOutputsBefore request files outputs
 before_of request files outputs are = record { no_fault = λ fault is. absurd (are.no_fault fault is); texts = are.texts }
@@ -275,10 +299,10 @@ pub record Found (request : Request) (fault : Fault) (a b : Slots) : Type 0 wher
   pub none_open : (slot : Slot) → IsOpen (b slot) → ⊥
   pub first : (files : Slot → List ℕ) → Reads request files a → IsRunFault request files fault
 
-not_open_closed : (s : SlotState) → IsClosed s → IsOpen s → ⊥
+pub not_open_closed : (s : SlotState) → IsClosed s → IsOpen s → ⊥
 not_open_closed s shut open_now = cc
 
-not_open_unopened : (s : SlotState) → IsUnopened s → IsOpen s → ⊥
+pub not_open_unopened : (s : SlotState) → IsUnopened s → IsOpen s → ⊥
 not_open_unopened s never open_now = cc
 
 module _ (request : Request) (fault : Fault) (a b c : Slots) (f : Found request fault a b) where
@@ -299,15 +323,15 @@ module _ (request : Request) (fault : Fault) (a b c : Slots) (f : Found request 
       stil_begun = λ late. absurd (none_late request fault late);
     }
 
-  put_line : HasPutLine request fault b c → IsRefused request a c
+  pub put_line : HasPutLine request fault b c → IsRefused request a c
   put_line put = record {
     unused = unused_since put.elsewhere;
     none_open = λ slot open_now. elim (console_or_not slot) [
-      | inl e ↦ not_open_closed (c Console) put.line.closed (at_slot (λ s. IsOpen (c s)) slot Console e open_now)
+      | inl e ↦ not_open_closed (c Console) put.put.closed (at_slot (λ s. IsOpen (c s)) slot Console e open_now)
       | inr ne ↦ f.none_open slot (state_same IsOpen (b slot) (c slot) (sym (put.elsewhere slot ne)) open_now)
     ];
     counts = λ slot. elim (console_or_not slot) [
-      | inl e ↦ at_slot (λ s. (c s).faults ≡ (a s).faults) Console slot (sym e) (put.line.faults ∙ f.counts Console)
+      | inl e ↦ at_slot (λ s. (c s).faults ≡ (a s).faults) Console slot (sym e) (put.put.faults ∙ f.counts Console)
       | inr ne ↦ ap (λ (s : SlotState). s.faults) (put.elsewhere slot ne) ∙ f.counts slot
     ];
     design = design_since put.elsewhere;
@@ -315,11 +339,11 @@ module _ (request : Request) (fault : Fault) (a b c : Slots) (f : Found request 
       fault = fault;
       first = f.first files holds;
       outputs = files_since put.elsewhere files;
-      line = appended_since _ (a Console) (b Console) (c Console) (f.outputs Console tt) put.line.appended;
+      line = appended_since _ (a Console) (b Console) (c Console) (f.outputs Console tt) put.put.appended;
     };
   }
 
-  failed_at_line : HasFailedAtLine request fault b c → IsOutputFailed request a c
+  pub failed_at_line : HasFailedAtLine request fault b c → IsOutputFailed request a c
   failed_at_line failed = record {
     unused = unused_since failed.elsewhere;
     rose = record { slot = Console; is = tt; risen = risen_since _ (a Console) (b Console) (f.outputs Console tt) failed.risen };
@@ -332,7 +356,7 @@ module _ (request : Request) (fault : Fault) (a b c : Slots) (f : Found request 
     }));
   }
 
-  ran_out : SameEverywhere b c → IsOutOfMemory request a c
+  pub ran_out : SameEverywhere b c → IsOutOfMemory request a c
   ran_out same = record {
     unused = λ slot unused. same slot ∙ f.unused slot unused;
     counts = λ slot. ap (λ (s : SlotState). s.faults) (same slot) ∙ f.counts slot;
@@ -350,7 +374,7 @@ module _ (request : Request) (fault : Fault) (a b c : Slots) (f : Found request 
 -- the taking of the inputs stopped at one of them
 
 module _ (request : Request) (slot : Slot) (a b : Slots) (did : SlotState → SlotState → Type 0) (stopped : HasStoppedAt (names_of request) slot a b did) where
-  here_kept : stopped.between slot ≡ a slot
+  pub here_kept : stopped.between slot ≡ a slot
   here_kept = stopped.before.others slot (λ input used lt. absurd (omega (arith, lt)))
 
   slot_or_not : (other : Slot) → (other ≡ slot) ⊎ (other ≢ slot)
@@ -359,13 +383,13 @@ module _ (request : Request) (slot : Slot) (a b : Slots) (did : SlotState → Sl
   other_kept : (other : Slot) → other ≢ slot → ((IsInput other → IsUsed request other → number other < number slot → ⊥) → b other ≡ a other)
   other_kept other ne none = stopped.elsewhere other ne ∙ stopped.before.others other none
 
-  output_as_was : (other : Slot) → IsOutput other → b other ≡ a other
+  pub output_as_was : (other : Slot) → IsOutput other → b other ≡ a other
   output_as_was other output = other_kept other (λ e. apart slot other stopped.input output (sym e)) (λ input used lt. not_both other input output)
 
-  unused_as_was : (other : Slot) → (IsUsed request other → ⊥) → b other ≡ a other
+  pub unused_as_was : (other : Slot) → (IsUsed request other → ⊥) → b other ≡ a other
   unused_as_was other unused = other_kept other (unused_apart request other slot unused stopped.named) (λ input used lt. unused used)
 
-  early : (other : Slot) → ((IsInput other × IsUsed request other × (number other < number slot))) ⊎ (IsInput other → IsUsed request other → number other < number slot → ⊥)
+  pub early : (other : Slot) → ((IsInput other × IsUsed request other × (number other < number slot))) ⊎ (IsInput other → IsUsed request other → number other < number slot → ⊥)
   early other = elim (input_or_output other) [
     | inr output ↦ inr (λ input used lt. not_both other input output)
     | inl input ↦ elim (used_or_not request other) [
@@ -381,47 +405,58 @@ module _ (request : Request) (slot : Slot) (a b : Slots) (did : SlotState → Sl
     | inr none ↦ ap (λ (s : SlotState). s.faults) (stopped.before.others other none)
   ]
 
-  count_as_was : (b slot).faults ≡ (stopped.between slot).faults → (other : Slot) → (b other).faults ≡ (a other).faults
+  pub count_as_was : (b slot).faults ≡ (stopped.between slot).faults → (other : Slot) → (b other).faults ≡ (a other).faults
   count_as_was here other = elim (slot_or_not other) [
     | inl e ↦ at_slot (λ s. (b s).faults ≡ (a s).faults) slot other (sym e) (here ∙ ap (λ (s : SlotState). s.faults) here_kept)
     | inr ne ↦ ap (λ (s : SlotState). s.faults) (stopped.elsewhere other ne) ∙ count_before other
   ]
 
--- an input was too large
-
-module _ (request : Request) (slot : Slot) (a b : Slots) (unopened : AllUnopened a) (stopped : HasStoppedAt (names_of request) slot a b (IsTooLarge (limit_of slot))) where
-  abbrev large : SlotState → SlotState → Type 0
-  large = IsTooLarge (limit_of slot)
-
-  other_small : (files : Slot → List ℕ) → Reads request files a → (other : Slot) → IsInput other → number other < number slot → IsUsed request other → length (files other) ≤ limit_of other
-  other_small files holds other input lt used =
-      let t = stopped.before.taken other input used lt in
-      let same = ap length (text_is _ _ (input_at stopped.texts other) (files other) (holds other input used) t.front t.at_end) in
-      let small = stopped.before.small other input used lt in
-      omega (arith, small, same)
-
-  over : (files : Slot → List ℕ) → Reads request files a → limit_of slot < length (files slot)
-  over files holds =
-      over_limit _ _ stopped.here.taken (files slot) (limit_of slot)
-      (ap (λ (s : SlotState). s.unread) (here_kept request slot a b large stopped) ∙ holds slot stopped.input stopped.named) stopped.here.front stopped.here.over
-
-  pub found_large : Found request (size_fault slot) a b
-  found_large = record {
-    unused = unused_as_was request slot a b large stopped;
-    outputs = output_as_was request slot a b large stopped;
-    counts = count_as_was request slot a b large stopped stopped.here.faults;
-    none_open = λ other open_now. elim (slot_or_not request slot a b large stopped other) [
-      | inl e ↦ not_open_closed (b slot) stopped.here.closed (at_slot (λ s. IsOpen (b s)) other slot e open_now)
+  -- the slots that were opened are closed, so a fault that was found is found
+  pub found_closed : (fault : Fault) → AllUnopened a → IsClosed (b slot) → (b slot).faults ≡ (stopped.between slot).faults
+      → ((files : Slot → List ℕ) → Reads request files a → IsRunFault request files fault) → Found request fault a b
+  found_closed fault unopened shut faults first = record {
+    unused = unused_as_was;
+    outputs = output_as_was;
+    counts = count_as_was faults;
+    none_open = λ other open_now. elim (slot_or_not other) [
+      | inl e ↦ not_open_closed (b slot) shut (at_slot (λ s. IsOpen (b s)) other slot e open_now)
       | inr ne ↦ not_open_before other (state_same IsOpen (stopped.between other) (b other) (sym (stopped.elsewhere other ne)) open_now)
     ];
-    first = λ files holds. inl (size_first request files slot stopped.input stopped.named (over files holds) (λ other input lt used. other_small files holds other input lt used));
+    first = first;
   }
     where
       not_open_before : (other : Slot) → IsOpen (stopped.between other) → ⊥
-      not_open_before other open_now = elim (early request slot a b large stopped other) [
+      not_open_before other open_now = elim (early other) [
         | inl t ↦ not_open_closed (stopped.between other) (stopped.before.taken other t.0 t.1 t.2).closed open_now
         | inr none ↦ not_open_unopened (a other) (unopened other) (state_same IsOpen (a other) (stopped.between other) (sym (stopped.before.others other none)) open_now)
       ]
+
+  -- the inputs that were taken before are small
+  pub small_before : number slot ≤ 4 → (files : Slot → List ℕ) → Reads request files a
+      → (other : Slot) → IsInput other → number other < number slot → IsUsed request other → IsOver other (files other) → ⊥
+  small_before whole files holds other input lt used =
+      let t = stopped.before.taken other input used lt in
+      let same = ap length (text_is _ _ (input_at stopped.texts other) (files other) (holds other input used) t.front t.at_end) in
+      let small = stopped.before.small other input used lt in
+      small_of other (files other) input (omega (arith, lt, whole)) (omega (arith, same, small))
+
+-- an input was too large
+
+module _ (request : Request) (slot : Slot) (a b : Slots) (unopened : AllUnopened a) (whole : number slot < 4)
+    (stopped : HasStoppedAt (names_of request) slot a b (IsTooLarge (limit_of slot))) where
+  abbrev large : SlotState → SlotState → Type 0
+  large = IsTooLarge (limit_of slot)
+
+  over : (files : Slot → List ℕ) → Reads request files a → IsOver slot (files slot)
+  over files holds =
+      over_of slot (files slot) stopped.input whole
+      (over_limit _ _ stopped.here.taken (files slot) (limit_of slot)
+      (ap (λ (s : SlotState). s.unread) (here_kept request slot a b large stopped) ∙ holds slot stopped.input stopped.named) stopped.here.front stopped.here.over)
+
+  pub found_large : Found request (size_fault slot) a b
+  found_large = found_closed request slot a b large stopped (size_fault slot) unopened stopped.here.closed stopped.here.faults
+      (λ files holds. inl (size_first request files slot stopped.input stopped.named (over files holds)
+      (small_before request slot a b large stopped (omega (arith, whole)) files holds)))
 
 -- an input failed, or memory ran out
 
@@ -441,7 +476,8 @@ inputs_ran_out request slot a b stopped = record {
 
 -- all inputs were taken, and then the command finished
 
-module _ (request : Request) (texts : List (Option (List ℕ))) (a b c : Slots) (unopened : AllUnopened a) (taken : HasTakenInputs (names_of request) 5 texts a b) where
+module _ (request : Request) (texts : List (Option (List ℕ))) (a b c : Slots) (unopened : AllUnopened a) (whole : IsUsed request Stil → ⊥)
+    (taken : HasTakenInputs (names_of request) 5 texts a b) where
   abbrev kept : (slot : Slot) → IsOutput slot → b slot ≡ a slot
   kept slot output = output_kept request texts a b taken slot output
 
@@ -460,7 +496,7 @@ module _ (request : Request) (texts : List (Option (List ℕ))) (a b c : Slots) 
     outputs = kept;
     counts = counts_kept request texts a b taken;
     none_open = not_open;
-    first = λ files holds. found_first request texts a b taken files holds fault found;
+    first = λ files holds. found_first request texts a b taken whole files holds fault found;
   }
 
   put_all : HasPutAll request texts b c → IsDone request a c
@@ -481,7 +517,7 @@ module _ (request : Request) (texts : List (Option (List ℕ))) (a b c : Slots) 
     ];
     done = λ files holds. record {
       outputs = p.outputs;
-      are = judged_outputs request texts a b taken files holds p.outputs p.judged;
+      are = judged_outputs request texts a b taken whole files holds p.outputs p.judged;
       texts = λ slot output used. appended_since _ (a slot) (b slot) (c slot) (kept slot output) (p.put.put slot output used (early_turn slot output)).appended;
     };
   }
@@ -510,7 +546,7 @@ module _ (request : Request) (texts : List (Option (List ℕ))) (a b c : Slots) 
             ∙ counts_kept request texts a b taken slot;
         prefixes = λ files holds. inr (inl (record {
           outputs = p.outputs;
-          are = before_of request files p.outputs (judged_outputs request texts a b taken files holds p.outputs p.judged);
+          are = before_of request files p.outputs (judged_outputs request texts a b taken whole files holds p.outputs p.judged);
           prefixes = λ slot output used. elim (number_cases slot at) [
             | inl e ↦ at_slot (λ t. HoldsPrefix (output_at p.outputs t) (a t) (c t)) at slot (sym e)
                 (prefix_since _ (a at) (s.between at) (c at) (here ∙ kept at s.output) s.prefix)

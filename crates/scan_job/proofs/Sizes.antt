@@ -10,7 +10,7 @@ use Rattle.desk_io.specs.Names.{IsNamed}
 use Rattle.desk_io.specs.Inputs.{limit_of}
 use Rattle.scan_job.specs.declared.request.Request.{Request}
 use Rattle.scan_job.specs.Requests.{names_of}
-use Rattle.scan_job.specs.Faults.{size_fault, IsSizeFault, AreSmall}
+use Rattle.scan_job.specs.Faults.{size_fault, IsOver, IsSizeFault, AreSmall}
 
 -- of two files that are too large the one that is taken first comes first
 before : (one other : Slot) → IsInput one → IsInput other → ComesBefore (size_fault one) (size_fault other) → number one < number other
@@ -64,17 +64,39 @@ before OutDef other reads_one reads_other h = absurd reads_one
 before OutStil other reads_one reads_other h = absurd reads_one
 before Console other reads_one reads_other h = absurd reads_one
 
-pub size_none : (request : Request) (files : Slot → List ℕ) → AreSmall request files → (fault : Fault) → IsSizeFault request files fault → ⊥
-size_none request files small fault large = let within = small large.slot large.input large.named in let over = large.over in absurd (omega (arith, within, over))
+-- a file that is taken whole is too large where it has more bytes than its limit
+pub over_of : (slot : Slot) (text : List ℕ) → IsInput slot → number slot < 4 → limit_of slot < length text → IsOver slot text
+over_of Table text input whole over = over
+over_of Lef text input whole over = over
+over_of Verilog text input whole over = over
+over_of Def text input whole over = over
+over_of Stil text input whole over = absurd (omega (arith, whole))
+over_of OutVerilog text input whole over = absurd input
+over_of OutDef text input whole over = absurd input
+over_of OutStil text input whole over = absurd input
+over_of Console text input whole over = absurd input
 
-pub size_first : (request : Request) (files : Slot → List ℕ) (slot : Slot) → IsInput slot → IsNamed (names_of request) slot → limit_of slot < length (files slot)
-    → ((other : Slot) → IsInput other → number other < number slot → IsNamed (names_of request) other → length (files other) ≤ limit_of other)
+-- and nowhere else
+pub small_of : (slot : Slot) (text : List ℕ) → IsInput slot → number slot < 4 → length text ≤ limit_of slot → IsOver slot text → ⊥
+small_of Table text input whole small over = absurd (omega (arith, small, over))
+small_of Lef text input whole small over = absurd (omega (arith, small, over))
+small_of Verilog text input whole small over = absurd (omega (arith, small, over))
+small_of Def text input whole small over = absurd (omega (arith, small, over))
+small_of Stil text input whole small over = absurd (omega (arith, whole))
+small_of OutVerilog text input whole small over = input
+small_of OutDef text input whole small over = input
+small_of OutStil text input whole small over = input
+small_of Console text input whole small over = input
+
+pub size_none : (request : Request) (files : Slot → List ℕ) → AreSmall request files → (fault : Fault) → IsSizeFault request files fault → ⊥
+size_none request files small fault large = small large.slot large.input large.named large.over
+
+pub size_first : (request : Request) (files : Slot → List ℕ) (slot : Slot) → IsInput slot → IsNamed (names_of request) slot → IsOver slot (files slot)
+    → ((other : Slot) → IsInput other → number other < number slot → IsNamed (names_of request) other → IsOver other (files other) → ⊥)
     → IsFirstFault (IsSizeFault request files) (size_fault slot)
 size_first request files slot input named over small = record {
   holds = record { slot = slot; input = input; named = named; over = over; is = refl };
   least = λ fault large first.
       let sooner = before large.slot slot large.input input (subst (λ (f : Fault). ComesBefore f (size_fault slot)) large.is first) in
-      let within = small large.slot large.input sooner large.named in
-      let above = large.over in
-      absurd (omega (arith, within, above));
+      small large.slot large.input sooner large.named large.over;
 }

@@ -1,5 +1,5 @@
 -- The fault that a run answers, and the line that says it.
-use Rattle.std.specs.Prelude.{◌≡◌, ◌⊎◌, ◌<◌, ◌≤◌, ℕ, List, [], ◌∷◌, ◌++◌, length, codes}
+use Rattle.std.specs.Prelude.{◌≡◌, ◌⊎◌, ◌<◌, ◌≤◌, ℕ, List, [], ◌∷◌, ◌++◌, length, None, codes}
 use Rattle.std.specs.Fmt.{decimal}
 use Rattle.base_types.specs.declared.fault.Fault.{Fault}
 use Rattle.base_types.specs.declared.fault.FileKind.{FileKind}
@@ -17,6 +17,8 @@ use Rattle.desk_io.specs.Inputs.{limit_of}
 use Rattle.desk_io.specs.Names.{IsNamed}
 use Rattle.chain_rewire.specs.Faults.{HoldsInRewire}
 use Rattle.path_report.specs.Reports.{HoldsInTrace}
+use Rattle.play_report.specs.Faults.{HoldsInPlay}
+use Rattle.stil_parts.specs.Heads.{head_len}
 use Rattle.design_files.specs.Files.{texts_of}
 use Rattle.design_files.specs.Faults.{HoldsInFiles}
 use Rattle.scan_job.specs.declared.request.Request.{Request}
@@ -24,6 +26,7 @@ use Rattle.scan_job.specs.declared.request.RewireRequest.{RewireRequest}
 use Rattle.scan_job.specs.declared.request.TraceRequest.{TraceRequest}
 use Rattle.scan_job.specs.declared.request.CheckRequest.{CheckRequest}
 use Rattle.scan_job.specs.declared.request.ReorderRequest.{ReorderRequest}
+use Rattle.scan_job.specs.declared.request.PlayRequest.{PlayRequest}
 use Rattle.scan_job.specs.declared.request.Request.TheVariants as requests
 use Rattle.scan_job.specs.Requests.{names_of, rewire_of}
 
@@ -43,17 +46,30 @@ file_of Console = kinds.Words
 abbrev pub size_fault : Slot → Fault
 size_fault slot = at_line FileSize (file_of slot) 0
 
--- a file that the request names has more bytes than its limit, and this is the fault of it
+-- The file of an input is too large: it has more bytes than its limit. The patterns of a STIL text are read as they come, so of that
+-- the head alone has a limit, within which its end is to show.
+abbrev pub IsOver : Slot → List ℕ → Type 0
+IsOver Table text = limit_of Table < length text
+IsOver Lef text = limit_of Lef < length text
+IsOver Verilog text = limit_of Verilog < length text
+IsOver Def text = limit_of Def < length text
+IsOver Stil text = head_len text ≡ None
+IsOver OutVerilog text = ⊥
+IsOver OutDef text = ⊥
+IsOver OutStil text = ⊥
+IsOver Console text = ⊥
+
+-- a file that the request names is too large, and this is the fault of it
 pub record IsSizeFault (request : Request) (files : Slot → List ℕ) (fault : Fault) : Type 0 where
   pub slot : Slot
   pub input : IsInput slot
   pub named : IsNamed (names_of request) slot
-  pub over : limit_of slot < length (files slot)
+  pub over : IsOver slot (files slot)
   pub is : fault ≡ size_fault slot
 
--- each file that the request names is within its limit
+-- no file that the request names is too large
 abbrev pub AreSmall : Request → (Slot → List ℕ) → Type 0
-AreSmall request files = (slot : Slot) → IsInput slot → IsNamed (names_of request) slot → length (files slot) ≤ limit_of slot
+AreSmall request files = (slot : Slot) → IsInput slot → IsNamed (names_of request) slot → IsOver slot (files slot) → ⊥
 
 -- a fault of the command's own in its files
 abbrev pub HoldsInCommand : Request → (Slot → List ℕ) → Fault → Type 0
@@ -61,6 +77,7 @@ HoldsInCommand (requests.Rewire r) files = HoldsInRewire (files Verilog) (rewire
 HoldsInCommand (requests.Trace r) files = HoldsInTrace (files Table) (files Verilog) r.scan_out
 HoldsInCommand (requests.Check r) files = HoldsInFiles (texts_of (files Table) (files Lef) (files Verilog) (files Def))
 HoldsInCommand (requests.Reorder r) files = HoldsInFiles (texts_of (files Table) (files Lef) (files Verilog) (files Def))
+HoldsInCommand (requests.Play r) files = HoldsInPlay (files Table) (files Verilog) (files Stil)
 
 -- the first of them
 abbrev pub IsCommandFault : Request → (Slot → List ℕ) → Fault → Type 0
@@ -89,6 +106,7 @@ IsFoundWriting (requests.Rewire r) kind = ⊥
 IsFoundWriting (requests.Trace r) kind = ⊥
 IsFoundWriting (requests.Check r) kind = ⊥
 IsFoundWriting (requests.Reorder r) kind = ⊥
+IsFoundWriting (requests.Play r) kind = ⊥
 
 -- no fault but those that are found while the STIL output is written
 abbrev pub HasNoFaultBefore : Request → (Slot → List ℕ) → Type 0
@@ -130,12 +148,22 @@ reorder_word r kinds.Def = r.def
 reorder_word r kinds.Stil = codes "words"
 reorder_word r kinds.Words = codes "words"
 
+-- the file words of `play`
+abbrev pub play_word : PlayRequest → FileKind → List ℕ
+play_word r kinds.Table = r.table
+play_word r kinds.Verilog = r.verilog
+play_word r kinds.Stil = r.stil
+play_word r kinds.Lef = codes "words"
+play_word r kinds.Def = codes "words"
+play_word r kinds.Words = codes "words"
+
 -- the word by which a fault of the command names its file
 abbrev pub file_word : Request → FileKind → List ℕ
 file_word (requests.Rewire r) file = rewire_word r file
 file_word (requests.Trace r) file = trace_word r file
 file_word (requests.Check r) file = check_word r file
 file_word (requests.Reorder r) file = reorder_word r file
+file_word (requests.Play r) file = play_word r file
 
 -- the place in the file: a line, a cell's name, or a hyphen
 abbrev pub spot_text : Spot → List ℕ

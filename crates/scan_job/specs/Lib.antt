@@ -4,3 +4,5 @@ pub mod Texts
 pub mod TopCall
 pub mod Ended
 pub mod Phases
+pub mod Playing
+pub mod PlayPhases

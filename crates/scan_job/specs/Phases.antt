@@ -16,16 +16,33 @@ use Rattle.scan_job.specs.Faults.{IsCommandFault, HasNoCommandFault, fault_text}
 use Rattle.scan_job.specs.Texts.{AreTexts}
 use Rattle.scan_job.specs.TopCall.{Slots, SameEverywhere}
 
--- the line of a fault was put on the console
-pub record HasPutLine (request : Request) (fault : Fault) (old new : Slots) : Type 0 where
+-- a text was put on the console
+pub record HasPutText (text : List ℕ) (old new : Slots) : Type 0 where
   pub elsewhere : SameElsewhere Console old new
-  pub line : HasPutFile (fault_text request fault) (old Console) (new Console)
+  pub put : HasPutFile text (old Console) (new Console)
+
+-- the console failed at a text
+pub record HasFailedAtText (text : List ℕ) (old new : Slots) : Type 0 where
+  pub elsewhere : SameElsewhere Console old new
+  pub prefix : HoldsPrefix text (old Console) (new Console)
+  pub risen : HasRisen (old Console).faults (new Console).faults
+
+-- the line of a fault was put on the console
+abbrev pub HasPutLine : Request → Fault → Slots → Slots → Type 0
+HasPutLine request fault old new = HasPutText (fault_text request fault) old new
 
 -- the console failed at the line of a fault
-pub record HasFailedAtLine (request : Request) (fault : Fault) (old new : Slots) : Type 0 where
-  pub elsewhere : SameElsewhere Console old new
-  pub prefix : HoldsPrefix (fault_text request fault) (old Console) (new Console)
-  pub risen : HasRisen (old Console).faults (new Console).faults
+abbrev pub HasFailedAtLine : Request → Fault → Slots → Slots → Type 0
+HasFailedAtLine request fault old new = HasFailedAtText (fault_text request fault) old new
+
+-- a text was put on the console, or putting it failed
+abbrev pub HasTold : List ℕ → Slots → Slots → Result (Unit {0}) Stop → Type 0
+HasTold text old new (Ok done) = HasPutText text old new
+HasTold text old new (Err NoForm) = ⊥
+HasTold text old new (Err Refused) = ⊥
+HasTold text old new (Err InputFailed) = ⊥
+HasTold text old new (Err OutputFailed) = HasFailedAtText text old new
+HasTold text old new (Err NoMemory) = ⊥
 
 -- the fault was said on the console, or saying it failed
 abbrev pub HasSaid : Request → Fault → Slots → Slots → Result (Unit {0}) Stop → Type 0

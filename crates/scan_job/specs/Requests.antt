@@ -3,18 +3,26 @@ use Rattle.std.specs.Prelude.{◌≡◌, ◌≢◌, ℕ, List, [], ◌∷◌, So
 use Rattle.desk_io.specs.declared.names.Names.{Names}
 use Rattle.order_search.specs.declared.effort.Effort.{Effort}
 use Rattle.order_search.specs.declared.effort.Effort.TheVariants as efforts
+use Rattle.play_report.specs.declared.device.DeviceKind.{DeviceKind}
+use Rattle.play_report.specs.declared.device.DeviceKind.TheVariants as devices
 use Rattle.scan_words.specs.declared.order.Order.{Order}
 use Rattle.scan_words.specs.declared.verb.Verb.TheVariants as verbs
 use Rattle.scan_words.specs.Written.{Says}
 use Rattle.chain_rewire.specs.declared.rewire.Rewire.{Rewire}
 use Rattle.scan_job.specs.declared.request.Request.{Request}
 use Rattle.scan_job.specs.declared.request.RewireRequest.{RewireRequest}
+use Rattle.scan_job.specs.declared.request.PlayRequest.{PlayRequest}
 use Rattle.scan_job.specs.declared.request.Request.TheVariants as requests
 
 -- the word of an effort
 abbrev pub effort_word : Effort → List ℕ
 effort_word efforts.Order = codes "order"
 effort_word efforts.Full = codes "full"
+
+-- the word of a device
+abbrev pub device_word : DeviceKind → List ℕ
+device_word devices.Hold = codes "hold"
+device_word devices.Mix = codes "mix"
 
 -- the order whose values a request gives names: those of the options in the order in which the command lists them
 abbrev pub order_of : Request → Order
@@ -30,6 +38,7 @@ order_of (requests.Reorder r) = record {
   values = r.table ∷ r.lef ∷ r.verilog ∷ r.def ∷ r.out_verilog ∷ r.out_def ∷ effort_word r.effort ∷ [];
   further = [];
 }
+order_of (requests.Play r) = record { verb = verbs.Play; values = r.table ∷ r.verilog ∷ r.stil ∷ device_word r.device ∷ []; further = [] }
 
 -- the words say this request
 abbrev pub Asks : List (List ℕ) → Request → Type 0
@@ -41,6 +50,7 @@ ArePinsApart (requests.Rewire r) = r.in_pin ≢ r.out_pin
 ArePinsApart (requests.Trace r) = Unit {0}
 ArePinsApart (requests.Check r) = Unit {0}
 ArePinsApart (requests.Reorder r) = Unit {0}
+ArePinsApart (requests.Play r) = Unit {0}
 
 -- the order is that of a request whose pins are apart
 pub record IsAsked (order : Order) : Type 0 where
@@ -88,6 +98,29 @@ names_of (requests.Reorder r) = record {
   stil = None;
   out_verilog = Some r.out_verilog;
   out_def = Some r.out_def;
+  out_stil = None;
+}
+names_of (requests.Play r) = record {
+  table = Some r.table;
+  lef = None;
+  verilog = Some r.verilog;
+  def = None;
+  stil = Some r.stil;
+  out_verilog = None;
+  out_def = None;
+  out_stil = None;
+}
+
+-- the files of `play` that are taken whole, before the patterns are read
+abbrev pub first_names : PlayRequest → Names
+first_names r = record {
+  table = Some r.table;
+  lef = None;
+  verilog = Some r.verilog;
+  def = None;
+  stil = None;
+  out_verilog = None;
+  out_def = None;
   out_stil = None;
 }
 

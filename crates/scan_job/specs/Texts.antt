@@ -2,7 +2,7 @@
 use Rattle.std.specs.Prelude.{◌≡◌, ℕ, List, [], ◌∷◌, ◌++◌, codes}
 use Rattle.std.specs.Fmt.{decimal}
 use Rattle.desk_io.specs.declared.slot.Slot.{Slot}
-use Rattle.desk_io.specs.declared.slot.Slot.TheVariants.{Table, Lef, Verilog, Def}
+use Rattle.desk_io.specs.declared.slot.Slot.TheVariants.{Table, Lef, Verilog, Def, Stil}
 use Rattle.desk_io.specs.declared.outputs.Outputs.{Outputs}
 use Rattle.scan_job.specs.declared.request.Request.{Request}
 use Rattle.scan_job.specs.declared.request.RewireRequest.{RewireRequest}
@@ -12,6 +12,7 @@ use Rattle.scan_job.specs.Requests.{rewire_of}
 use Rattle.scan_job.specs.Faults.{HasNoFault, HasNoFaultBefore}
 use Rattle.chain_rewire.specs.Rewiring.{IsRewired, AreErasedAlike, HasPath}
 use Rattle.path_report.specs.Reports.{IsPathText}
+use Rattle.play_report.specs.Files.{IsPlayText}
 use Rattle.check_report.specs.Checks.{IsCheckText}
 use Rattle.design_files.specs.Files.{Texts, texts_of}
 use Rattle.chain_reorder.specs.declared.reorder.Figures.{Figures}
@@ -53,6 +54,7 @@ AreTexts (requests.Rewire r) files outputs = AreRewired r (files Verilog) output
 AreTexts (requests.Trace r) files outputs = IsPathText (files Table) (files Verilog) r.scan_out outputs.console
 AreTexts (requests.Check r) files outputs = IsCheckText (texts_of (files Table) (files Lef) (files Verilog) (files Def)) outputs.console
 AreTexts (requests.Reorder r) files outputs = AreReordered r (texts_of (files Table) (files Lef) (files Verilog) (files Def)) outputs
+AreTexts (requests.Play r) files outputs = IsPlayText (files Table) (files Verilog) (files Stil) r.device outputs.console
 
 -- the files have no fault, and the outputs are those of the command
 pub record AreOutputsOf (request : Request) (files : Slot → List ℕ) (outputs : Outputs) : Type 0 where

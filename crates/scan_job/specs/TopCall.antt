@@ -73,6 +73,7 @@ IsTextBefore (requests.Rewire r) files fault text = ⊥
 IsTextBefore (requests.Trace r) files fault text = ⊥
 IsTextBefore (requests.Check r) files fault text = ⊥
 IsTextBefore (requests.Reorder r) files fault text = ⊥
+IsTextBefore (requests.Play r) files fault text = ⊥
 
 -- the STIL output holds a prefix of what stands before the refused statement
 pub record HoldsTextBefore (request : Request) (files : Slot → List ℕ) (fault : Fault) (old new : Slots) : Type 0 where

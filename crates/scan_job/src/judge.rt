@@ -1,8 +1,9 @@
 ghost use Rattle.std.specs.Prelude.{◌≡◌, ◌≢◌, ◌<◌, ◌^◌, length, IfOk};
 ghost use Rattle.base_types.specs.FirstFault.{IfFault};
-ghost use Rattle.desk_io.specs.declared.slot.Slot.TheVariants.{Lef, Verilog, Def};
+ghost use Rattle.desk_io.specs.declared.slot.Slot.TheVariants.{Lef, Verilog, Def, Stil};
+ghost use Rattle.desk_io.specs.Names.{IsNamed};
 ghost use Rattle.desk_io.specs.Inputs.{input_at};
-ghost use Rattle.scan_job.specs.Requests.{ArePinsApart};
+ghost use Rattle.scan_job.specs.Requests.{names_of, ArePinsApart};
 ghost use Rattle.scan_job.specs.Faults.{IsCommandFault, HasNoCommandFault};
 ghost use Rattle.scan_job.specs.Texts.{AreTexts};
 
@@ -107,12 +108,13 @@ fn judge_reorder(
     })
 }
 
-/// The texts of the command, or the first fault that it finds in its files.
+/// The texts of a command that takes its inputs whole, or the first fault that it finds in its files.
 pub(crate) fn judge(alloc: Global, request: &Request, inputs: &Inputs) -> Result<Outputs, ReadFault>
     requires small_lef { length (input_at inputs.now Lef) < 2 ^ 32 }
     requires small { length (input_at inputs.now Verilog) < 2 ^ 32 }
     requires small_def { length (input_at inputs.now Def) < 2 ^ 32 }
     requires pins { ArePinsApart request.now }
+    requires whole { IsNamed (names_of request.now) Stil → ⊥ }
     ensures no_fault { IfOk result (λ outputs. HasNoCommandFault request.now (input_at inputs.now)) }
     ensures texts { IfOk result (AreTexts request.now (input_at inputs.now)) }
     ensures fault { IfFault result (IsCommandFault request.now (input_at inputs.now)) }
@@ -122,5 +124,6 @@ pub(crate) fn judge(alloc: Global, request: &Request, inputs: &Inputs) -> Result
         Request::Trace(request) => judge_trace(alloc, request, inputs),
         Request::Check(request) => judge_check(alloc, request, inputs),
         Request::Reorder(request) => judge_reorder(alloc, request, inputs),
+        Request::Play(_) => unreachable!(),
     }
 }

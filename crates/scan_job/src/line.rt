@@ -1,8 +1,10 @@
 ghost use Rattle.std.specs.Prelude.{◌≡◌, ◌++◌, IfOk, OnOk};
-ghost use Rattle.scan_job.specs.Faults.{rewire_word, trace_word, check_word, reorder_word, file_word, spot_text, fault_text};
+ghost use Rattle.scan_job.specs.Faults.{rewire_word, trace_word, check_word, reorder_word, play_word, file_word, spot_text, fault_text};
 ghost use Rattle.scan_job.specs.Texts.{moved_text, figure_line, figures_text};
 
-use crate::request::{CheckRequest, ReorderRequest, Request, RewireRequest, TraceRequest};
+use crate::request::{
+    CheckRequest, PlayRequest, ReorderRequest, Request, RewireRequest, TraceRequest,
+};
 use base_types::{Fault, FileKind, NoMemory, Spot, Text};
 use chain_reorder::Figures;
 use std::alloc::Global;
@@ -50,6 +52,17 @@ fn reorder_word(request: &ReorderRequest, file: FileKind) -> &str
     }
 }
 
+fn play_word(request: &PlayRequest, file: FileKind) -> &str
+    ensures value { result.now ≡ play_word request.now file }
+{
+    match file {
+        FileKind::Table => request.table.as_str(),
+        FileKind::Verilog => request.verilog.as_str(),
+        FileKind::Stil => request.stil.as_str(),
+        _ => "words",
+    }
+}
+
 /// The word by which a fault of the command names its file.
 fn file_word(request: &Request, file: FileKind) -> &str
     ensures value { result.now ≡ file_word request.now file }
@@ -59,6 +72,7 @@ fn file_word(request: &Request, file: FileKind) -> &str
         Request::Trace(request) => trace_word(request, file),
         Request::Check(request) => check_word(request, file),
         Request::Reorder(request) => reorder_word(request, file),
+        Request::Play(request) => play_word(request, file),
     }
 }
 

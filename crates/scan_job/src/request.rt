@@ -2,12 +2,13 @@ ghost use Rattle.std.specs.Prelude.{◌≡◌, ◌≢◌, IfOk, length, true, fa
 ghost use Rattle.std.specs.Str.{bytes_eq};
 ghost use Rattle.desk_io.specs.declared.names.Names.{Names};
 ghost use Rattle.scan_words.specs.declared.verb.Verb.TheVariants as verbs;
-ghost use Rattle.scan_job.specs.Requests.{effort_word, order_of, names_of, rewire_of, IsAsked};
+ghost use Rattle.scan_job.specs.Requests.{effort_word, device_word, order_of, names_of, first_names, rewire_of, IsAsked};
 
 use base_types::{Name, NoMemory, Rows, Word};
 use chain_rewire::Rewire;
 use desk_io::Names;
 use order_search::Effort;
+use play_report::DeviceKind;
 use scan_words::{Order, Verb};
 use std::alloc::Global;
 
@@ -75,6 +76,19 @@ pub struct ReorderRequest {
     pub effort: Effort,
 }
 
+/// What the words of `play` ask for, by the names of its options.
+#[derive(Debug, Drop)]
+pub struct PlayRequest {
+    /// The name of the cell table that is read.
+    pub table: Word,
+    /// The name of the Verilog file that is read.
+    pub verilog: Word,
+    /// The name of the STIL file that is read.
+    pub stil: Word,
+    /// What the patterns are played on.
+    pub device: DeviceKind,
+}
+
 /// What the words ask for.
 #[derive(Debug, Drop)]
 pub enum Request {
@@ -86,6 +100,8 @@ pub enum Request {
     Check(CheckRequest),
     /// To put the units of a placed design's scan chains into another order, by which they are shorter.
     Reorder(ReorderRequest),
+    /// To play patterns on the scan chains of a netlist, cell by cell.
+    Play(PlayRequest),
 }
 
 fn name_of(alloc: Global, word: &Word) -> Result<Name, NoMemory>
@@ -202,6 +218,34 @@ fn reorder_request(alloc: Global, values: &[Word]) -> Result<ReorderRequest, NoM
     }
 }
 
+/// The device of a word; a word that is no device's counts as `mix`.
+fn device_of(word: &Word) -> DeviceKind
+    ensures hold { bytes_eq word.now (codes "hold") ≡ true → result ≡ DeviceKind.Hold }
+    ensures mix { bytes_eq word.now (codes "hold") ≡ false → result ≡ DeviceKind.Mix }
+{
+    if word.as_str() == "hold" {
+        DeviceKind::Hold
+    } else {
+        DeviceKind::Mix
+    }
+}
+
+fn play_request(alloc: Global, values: &[Word]) -> Result<PlayRequest, NoMemory>
+    requires count { length values.now ≡ 4 }
+    requires device { (r : PlayRequest) × ((order_of (Request.Play r)).values ≡ values.now) }
+    ensures values { IfOk result (λ r. (order_of (Request.Play r)).values ≡ values.now) }
+{
+    match values {
+        [table, verilog, stil, device] => Ok(PlayRequest {
+            table: word_of(alloc, table)?,
+            verilog: word_of(alloc, verilog)?,
+            stil: word_of(alloc, stil)?,
+            device: device_of(device),
+        }),
+        _ => unreachable!(),
+    }
+}
+
 /// The request that an order's values make. This is the one place at which a value is known by its place.
 pub(crate) fn request_of(alloc: Global, order: &Order) -> Result<Request, NoMemory>
     requires asked { IsAsked order.now }
@@ -216,6 +260,7 @@ pub(crate) fn request_of(alloc: Global, order: &Order) -> Result<Request, NoMemo
         Verb::Trace => Ok(Request::Trace(trace_request(alloc, values)?)),
         Verb::Check => Ok(Request::Check(check_request(alloc, values)?)),
         Verb::Reorder => Ok(Request::Reorder(reorder_request(alloc, values)?)),
+        Verb::Play => Ok(Request::Play(play_request(alloc, values)?)),
     }
 }
 
@@ -264,7 +309,33 @@ pub(crate) fn names_of(alloc: Global, request: &Request) -> Result<Names, NoMemo
             out_def: Some(word_of(alloc, &request.out_def)?),
             out_stil: None,
         }),
+        Request::Play(request) => Ok(Names {
+            table: Some(word_of(alloc, &request.table)?),
+            lef: None,
+            verilog: Some(word_of(alloc, &request.verilog)?),
+            def: None,
+            stil: Some(word_of(alloc, &request.stil)?),
+            out_verilog: None,
+            out_def: None,
+            out_stil: None,
+        }),
     }
+}
+
+/// The names of the files of `play` that are taken whole, before the patterns are read.
+pub(crate) fn first_names(alloc: Global, request: &PlayRequest) -> Result<Names, NoMemory>
+    ensures value { IfOk result (λ names. names ≡ first_names request.now) }
+{
+    Ok(Names {
+        table: Some(word_of(alloc, &request.table)?),
+        lef: None,
+        verilog: Some(word_of(alloc, &request.verilog)?),
+        def: None,
+        stil: None,
+        out_verilog: None,
+        out_def: None,
+        out_stil: None,
+    })
 }
 
 fn copy_of(alloc: Global, name: &Name) -> Result<Name, NoMemory>

@@ -9,7 +9,7 @@ use Rattle.clap.specs.Takes.{takes}
 use Rattle.clap.specs.Walk.{rows_of}
 use Rattle.clap.specs.declared.parser.matches.ArgMatches.{ArgMatches}
 use Rattle.scan_words.specs.declared.verb.Verb.{Verb}
-use Rattle.scan_words.specs.declared.verb.Verb.TheVariants.{Rewire, Trace, Check, Reorder}
+use Rattle.scan_words.specs.declared.verb.Verb.TheVariants.{Rewire, Trace, Check, Reorder, Play}
 use Rattle.std.specs.Str.{bytes_eq}
 use Rattle.std.proofs.lemmas.Slice.Eq.{bytes_eq-Decides}
 use Rattle.scan_words.specs.Command.{program, raw_of}
@@ -127,10 +127,12 @@ named_or word first verb others more is =
 pub verb_word : (word : Text) (verb : Verb) → verb_of word ≡ Some verb → word ≡ verb_name verb
 unfolding verb_of
 verb_word word verb is =
-    let last : Option Verb = cond (bytes_eq word (codes "reorder")) (Some Reorder) None in
-    let third : Option Verb = cond (bytes_eq word (codes "check")) (Some Check) last in
+    let last : Option Verb = cond (bytes_eq word (codes "play")) (Some Play) None in
+    let fourth : Option Verb = cond (bytes_eq word (codes "reorder")) (Some Reorder) last in
+    let third : Option Verb = cond (bytes_eq word (codes "check")) (Some Check) fourth in
     let second : Option Verb = cond (bytes_eq word (codes "trace")) (Some Trace) third in
-    named_or word Rewire verb second (named_or word Trace verb third (named_or word Check verb last (named_or word Reorder verb None (λ none. absurd cc)))) is
+    named_or word Rewire verb second
+    (named_or word Trace verb third (named_or word Check verb fourth (named_or word Reorder verb last (named_or word Play verb None (λ none. absurd cc))))) is
 
 pub no_order : (words : List Text) (command : Text) (behind : List Text) (verb : Verb) → words ≡ command ∷ behind → verb_of command ≡ Some verb → have_parts (option_names verb) (takes_further verb) false behind ≡ false → order_in words ≡ None
 unfolding order_in

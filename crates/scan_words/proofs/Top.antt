@@ -10,7 +10,7 @@ use Rattle.clap.specs.Walk.{Names, Row, Rule, Walk, idle, has_row, nothing_held,
 use Rattle.std.proofs.lemmas.List.{append-nil}
 use Rattle.scan_words.specs.declared.form.WordKind.TheVariants as kinds
 use Rattle.scan_words.specs.declared.verb.Verb.{Verb}
-use Rattle.scan_words.specs.declared.verb.Verb.TheVariants.{Rewire, Trace, Check, Reorder}
+use Rattle.scan_words.specs.declared.verb.Verb.TheVariants.{Rewire, Trace, Check, Reorder, Play}
 use Rattle.scan_words.specs.Command.{program}
 use Rattle.scan_words.specs.Form.{Text, Part, is_name, is_value, word_kind, long_kind, kind_turn, turn, have_parts, with_part, word_parts, parts_from}
 use Rattle.scan_words.specs.Orders.{verb_name, option_names, takes_further}
@@ -97,17 +97,23 @@ abbrev fourth_shape : List Shape → Shape
 fourth_shape [] = new_shape []
 fourth_shape (s ∷ ss) = third_shape ss
 
+abbrev fifth_shape : List Shape → Shape
+fifth_shape [] = new_shape []
+fifth_shape (s ∷ ss) = fourth_shape ss
+
 abbrev shape : Verb → Shape
 shape Rewire = first_shape (built program).subs
 shape Trace = second_shape (built program).subs
 shape Check = third_shape (built program).subs
 shape Reorder = fourth_shape (built program).subs
+shape Play = fifth_shape (built program).subs
 
 finds_for : (verb : Verb) → Finds (option_names verb) (takes_further verb) (shape verb).rules
 finds_for Rewire = finds (option_names Rewire) true refl
 finds_for Trace = finds (option_names Trace) false refl
 finds_for Check = finds (option_names Check) false refl
 finds_for Reorder = finds (option_names Reorder) false refl
+finds_for Play = finds (option_names Play) false refl
 
 goes : (verb : Verb) (words : List Text) (parts : List Part) → parts_from (option_names verb) (takes_further verb) None words ≡ Some parts → Goes (shape verb) (walk_at nothing_held idle) words (add_parts [] parts)
 goes verb words parts read = follows (shape verb) (option_names verb) (takes_further verb) (finds_for verb) words None nothing_held idle [] parts (record { passes = refl; rows = refl; idle = tt }) read
@@ -135,6 +141,7 @@ at_word Rewire = refl
 at_word Trace = refl
 at_word Check = refl
 at_word Reorder = refl
+at_word Play = refl
 
 ends_at : (verb : Verb) (words : List Text) → walk (built program).top.rules program_names nothing_held (verb_name verb ∷ words) ≡ stopped_at (verb_name verb) words
 ends_at verb words = ap (λ (w : Walk). fold (walked (built program).top.rules program_names) w words) (at_word verb) ∙ goes_down (built program).top.rules program_names (verb_name verb) [] words
@@ -145,6 +152,7 @@ top_passes Rewire words = rw (at_word Rewire) (passes_down (built program).top p
 top_passes Trace words = rw (at_word Trace) (passes_down (built program).top program_names (verb_name Trace) [] words)
 top_passes Check words = rw (at_word Check) (passes_down (built program).top program_names (verb_name Check) [] words)
 top_passes Reorder words = rw (at_word Reorder) (passes_down (built program).top program_names (verb_name Reorder) [] words)
+top_passes Play words = rw (at_word Play) (passes_down (built program).top program_names (verb_name Play) [] words)
 
 pub simple : is_simple program ≡ true
 simple = refl
@@ -155,24 +163,28 @@ passes_sub Rewire words parts read = let g = goes Rewire words parts read in rw 
 passes_sub Trace words parts read = let g = goes Trace words parts read in rw (g.turns, g.settles) refl
 passes_sub Check words parts read = let g = goes Check words parts read in rw (g.turns, g.settles) refl
 passes_sub Reorder words parts read = let g = goes Reorder words parts read in rw (g.turns, g.settles) refl
+passes_sub Play words parts read = let g = goes Play words parts read in rw (g.turns, g.settles) refl
 
 pub taken : (verb : Verb) (words : List Text) (parts : List Part) → parts_from (option_names verb) (takes_further verb) None words ≡ Some parts → takes program (verb_name verb ∷ words) ≡ true
 taken Rewire words parts read = rw (ends_at Rewire words, top_passes Rewire words, passes_sub Rewire words parts read) refl
 taken Trace words parts read = rw (ends_at Trace words, top_passes Trace words, passes_sub Trace words parts read) refl
 taken Check words parts read = rw (ends_at Check words, top_passes Check words, passes_sub Check words parts read) refl
 taken Reorder words parts read = rw (ends_at Reorder words, top_passes Reorder words, passes_sub Reorder words parts read) refl
+taken Play words parts read = rw (ends_at Play words, top_passes Play words, passes_sub Play words parts read) refl
 
 found_sub : (verb : Verb) (words : List Text) (parts : List Part) → parts_from (option_names verb) (takes_further verb) None words ≡ Some parts → rows_after (shape verb).rules [] words ≡ add_parts [] parts
 found_sub Rewire words parts read = no_defaults (shape Rewire).rules _ (refl, (refl, (refl, (refl, (refl, (refl, (refl, (refl, tt)))))))) ∙ (goes Rewire words parts read).rows
 found_sub Trace words parts read = no_defaults (shape Trace).rules _ (refl, (refl, (refl, tt))) ∙ (goes Trace words parts read).rows
 found_sub Check words parts read = no_defaults (shape Check).rules _ (refl, (refl, (refl, (refl, tt)))) ∙ (goes Check words parts read).rows
 found_sub Reorder words parts read = no_defaults (shape Reorder).rules _ (refl, (refl, (refl, (refl, (refl, (refl, (refl, tt))))))) ∙ (goes Reorder words parts read).rows
+found_sub Play words parts read = no_defaults (shape Play).rules _ (refl, (refl, (refl, (refl, tt)))) ∙ (goes Play words parts read).rows
 
 named : (verb : Verb) (words : List Text) → entered (built program) (Some (verb_name verb, words)) ≡ Some (verb_name verb, rows_after (shape verb).rules [] words)
 named Rewire words = refl
 named Trace words = refl
 named Check words = refl
 named Reorder words = refl
+named Play words = refl
 
 pub matched : (verb : Verb) (words : List Text) (parts : List Part) → parts_from (option_names verb) (takes_further verb) None words ≡ Some parts → subcommand_of program (verb_name verb ∷ words) ≡ Some (verb_name verb, add_parts [] parts)
 matched verb words parts read =

@@ -7,7 +7,7 @@ use Rattle.clap.specs.declared.parser.matches.ArgMatches.{ArgMatches}
 use Rattle.clap.specs.Simple.{App, Shape, new_app, new_rule, on_top, with_subcommand}
 use Rattle.clap.specs.Walk.{Rule, Text}
 use Rattle.scan_words.specs.declared.verb.Verb.{Verb}
-use Rattle.scan_words.specs.declared.verb.Verb.TheVariants.{Rewire, Trace, Check, Reorder}
+use Rattle.scan_words.specs.declared.verb.Verb.TheVariants.{Rewire, Trace, Check, Reorder, Play}
 use Rattle.scan_words.specs.Orders.{verb_name, option_names, takes_further}
 use Rattle.clap.specs.declared.builder.action.ArgAction.TheVariants.{Append}
 
@@ -46,7 +46,9 @@ program_top = on_top (λ s. record s { no_binary_name = true; disable_help_flag 
 
 -- the program with a subcommand for each command
 abbrev pub program : App
-program = with_subcommand (with_subcommand (with_subcommand (with_subcommand program_top (app_of_verb Rewire).top) (app_of_verb Trace).top) (app_of_verb Check).top) (app_of_verb Reorder).top
+program =
+    with_subcommand (with_subcommand (with_subcommand (with_subcommand (with_subcommand program_top (app_of_verb Rewire).top) (app_of_verb Trace).top)
+    (app_of_verb Check).top) (app_of_verb Reorder).top) (app_of_verb Play).top
 
 -- no argument is global
 abbrev pub IsLocal : Command → Type 0

@@ -7,7 +7,7 @@ use Rattle.scan_words.specs.declared.table.OptionName.TheVariants as options
 use Rattle.scan_words.specs.declared.table.Need.TheVariants.{Needed}
 use Rattle.scan_words.specs.declared.table.OptionForm.{OptionForm}
 use Rattle.scan_words.specs.declared.verb.Verb.{Verb}
-use Rattle.scan_words.specs.declared.verb.Verb.TheVariants.{Rewire, Trace, Check, Reorder}
+use Rattle.scan_words.specs.declared.verb.Verb.TheVariants.{Rewire, Trace, Check, Reorder, Play}
 use Rattle.scan_words.specs.Form.{◌>>=◌, Text, only_if, parts_from, values_of}
 use Rattle.scan_words.specs.Table.{Values, texts, each_value, are_apart}
 
@@ -23,6 +23,7 @@ options_of Trace = needed options.Table ∷ needed options.Verilog ∷ needed op
 options_of Check = needed options.Table ∷ needed options.Lef ∷ needed options.Verilog ∷ needed options.Def ∷ []
 options_of Reorder =
     needed options.Table ∷ needed options.Lef ∷ needed options.Verilog ∷ needed options.Def ∷ needed options.OutVerilog ∷ needed options.OutDef ∷ needed options.Effort ∷ []
+options_of Play = needed options.Table ∷ needed options.Verilog ∷ needed options.Stil ∷ needed options.Device ∷ []
 
 -- the names of a command's options
 abbrev pub option_names : Verb → List Text
@@ -34,6 +35,7 @@ takes_further Rewire = true
 takes_further Trace = false
 takes_further Check = false
 takes_further Reorder = false
+takes_further Play = false
 
 -- as many further words as the command takes: none, or one or more
 abbrev pub is_count : Bool → ℕ → Bool
@@ -60,6 +62,7 @@ verb_name Rewire = codes "rewire"
 verb_name Trace = codes "trace"
 verb_name Check = codes "check"
 verb_name Reorder = codes "reorder"
+verb_name Play = codes "play"
 
 -- the command of a word
 unfoldable pub verb_of : Text → Option Verb
@@ -67,7 +70,8 @@ verb_of word =
     if bytes_eq word (codes "rewire") then Some Rewire
     else (if bytes_eq word (codes "trace") then Some Trace
     else (if bytes_eq word (codes "check") then Some Check
-    else (if bytes_eq word (codes "reorder") then Some Reorder else None)))
+    else (if bytes_eq word (codes "reorder") then Some Reorder
+    else (if bytes_eq word (codes "play") then Some Play else None))))
 
 -- the order that the words behind a command say
 unfoldable pub verb_order : Verb → List Text → Option Order

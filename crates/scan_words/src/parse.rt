@@ -68,6 +68,7 @@ fn program<'a>(alloc: Global) -> Result<Command<'a>, AllocError>
     let trace = verb_command(alloc, Verb::Trace)?;
     let check = verb_command(alloc, Verb::Check)?;
     let reorder = verb_command(alloc, Verb::Reorder)?;
+    let play = verb_command(alloc, Verb::Play)?;
     let command = Command::new(alloc, "wrenpewter")
         .no_binary_name(true)
         .disable_help_flag(true)
@@ -75,7 +76,8 @@ fn program<'a>(alloc: Global) -> Result<Command<'a>, AllocError>
         .subcommand(rewire)?
         .subcommand(trace)?
         .subcommand(check)?
-        .subcommand(reorder)?;
+        .subcommand(reorder)?
+        .subcommand(play)?;
     Ok(command)
 }
 

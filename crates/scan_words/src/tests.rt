@@ -111,6 +111,13 @@ fn takes_both_spellings_and_further_words_anywhere(rt: HostRuntime) -> Result<()
     assert_eq!(rt; values[0].as_str(), "t");
     assert_eq!(rt; values[2].as_str(), "so");
     assert_eq!(rt; order.further.as_slice().len(), 0);
+    let order = read(alloc, "play --device mix --stil=s --verilog v --table t")?.ok_or("no form")?;
+    let values = order.values.as_slice();
+    let wanted = ["t", "v", "s", "mix"];
+    assert_eq!(rt; values.len(), 4);
+    for (value, want) in values.iter().zip(wanted.as_slice()) {
+        assert_eq!(rt; value.as_str(), *want);
+    }
     Ok(())
 }
 
@@ -143,6 +150,12 @@ fn refuses_words_of_no_written_form(rt: HostRuntime) -> Result<(), Fail> {
         "trace --table t --verilog v --scan-out so a",
         "trace --table t --verilog v --scan-out so --cell C",
         "trace --table=t --verilog=v --scan-out=",
+        "play --table t --verilog v --stil s",
+        "play --table t --verilog v --device hold",
+        "play --table t --verilog v --stil v --device hold",
+        "play --table t --verilog v --stil s --device keep",
+        "play --table t --verilog v --stil s --device hold a",
+        "play --table t --verilog v --stil s --device hold --out-stil w",
     ] {
         assert!(rt; read(alloc, line)?.is_none(), "{line}");
     }

@@ -14,6 +14,8 @@ pub enum Verb {
     Check,
     /// Puts the units of the scan chains of a placed design into another order, by which they are shorter.
     Reorder,
+    /// Plays patterns on the scan chains of a netlist, cell by cell.
+    Play,
 }
 
 static REWIRE: [OptionForm; 7] = [
@@ -112,6 +114,25 @@ static REORDER: [OptionForm; 7] = [
     },
 ];
 
+static PLAY: [OptionForm; 4] = [
+    OptionForm {
+        name: OptionName::Table,
+        need: Need::Needed,
+    },
+    OptionForm {
+        name: OptionName::Verilog,
+        need: Need::Needed,
+    },
+    OptionForm {
+        name: OptionName::Stil,
+        need: Need::Needed,
+    },
+    OptionForm {
+        name: OptionName::Device,
+        need: Need::Needed,
+    },
+];
+
 impl Verb {
     #[tactic(auto, unfolding(crate::specs::Orders::verb_of))]
     pub(crate) fn of(word: &str) -> Option<Verb>
@@ -125,6 +146,8 @@ impl Verb {
             Some(Verb::Check)
         } else if word == "reorder" {
             Some(Verb::Reorder)
+        } else if word == "play" {
+            Some(Verb::Play)
         } else {
             None
         }
@@ -139,6 +162,7 @@ impl Verb {
             Verb::Trace => "trace",
             Verb::Check => "check",
             Verb::Reorder => "reorder",
+            Verb::Play => "play",
         }
     }
 
@@ -151,6 +175,7 @@ impl Verb {
             Verb::Trace => TRACE.as_slice(),
             Verb::Check => CHECK.as_slice(),
             Verb::Reorder => REORDER.as_slice(),
+            Verb::Play => PLAY.as_slice(),
         }
     }
 

@@ -10,4 +10,5 @@ returns c =
     let first = c.in_ok-subcommand.ensures.shape c.in_ok-rewire.ensures.local ∙ ap₂ with_subcommand top (ap (λ (a : App). a.top) c.in_ok-rewire.ensures.app) in
     let second = c.in_ok-subcommand-2.ensures.shape c.in_ok-trace.ensures.local ∙ ap₂ with_subcommand first (ap (λ (a : App). a.top) c.in_ok-trace.ensures.app) in
     let third = c.in_ok-subcommand-3.ensures.shape c.in_ok-check.ensures.local ∙ ap₂ with_subcommand second (ap (λ (a : App). a.top) c.in_ok-check.ensures.app) in
-    c.in_ok-command.ensures.shape c.in_ok-reorder.ensures.local ∙ ap₂ with_subcommand third (ap (λ (a : App). a.top) c.in_ok-reorder.ensures.app)
+    let fourth = c.in_ok-subcommand-4.ensures.shape c.in_ok-reorder.ensures.local ∙ ap₂ with_subcommand third (ap (λ (a : App). a.top) c.in_ok-reorder.ensures.app) in
+    c.in_ok-command.ensures.shape c.in_ok-play.ensures.local ∙ ap₂ with_subcommand fourth (ap (λ (a : App). a.top) c.in_ok-play.ensures.app)

@@ -1,0 +1,5 @@
+pub mod Faults
+pub mod Files
+pub mod Plays
+pub mod Progress
+pub mod Stages

@@ -1,0 +1,26 @@
+-- What the private calls know of the files on their way.
+use Rattle.std.specs.Prelude.{◌≡◌, ℕ, List}
+use Rattle.base_types.specs.declared.fault.Fault.{Fault}
+use Rattle.netlist_core.specs.declared.netlist.Netlist.{Netlist}
+use Rattle.cell_table.specs.Cells.{Cells}
+use Rattle.chain_trace.specs.declared.path.Path.{Path}
+use Rattle.traced_paths.specs.Numbers.{HaveTooManyBits}
+use Rattle.head_checks.specs.Heads.{HoldsInHeads}
+use Rattle.stil_types.specs.declared.head.StilHead.{StilHead}
+use Rattle.stil_tester.specs.declared.chains.Chains.{Chains}
+use Rattle.play_report.specs.Files.{AreTraced, chains_along}
+use Rattle.play_report.specs.Progress.{Fits}
+
+-- what may be wrong with the declarations of a head beside the paths of their ScanOuts, or with how many bits these have
+pub data HoldsInDeclared (n : Netlist) (cells : Cells) (paths : List Path) (head : StilHead) (fault : Fault) : Type 0 where
+  OfHeads : HoldsInHeads n cells paths head fault → HoldsInDeclared n cells paths head fault
+  OfCount : HaveTooManyBits n cells paths fault → HoldsInDeclared n cells paths head fault
+
+-- what a head denotes, and the chains that it declares, which the calls of its patterns fit
+pub record AreDeclared (table verilog text : List ℕ) (head : StilHead) (chains : Chains) : Type 0 where
+  pub cells : Cells
+  pub netlist : Netlist
+  pub paths : List Path
+  pub traced : AreTraced table verilog text cells netlist head paths
+  pub is : chains ≡ chains_along netlist cells paths
+  pub fits : Fits head chains

@@ -1,0 +1,84 @@
+ghost use Rattle.std.specs.Prelude.{◌≡◌, ◌<◌, ◌^◌, length, OnOk, OnErr, IsErrOf};
+ghost use Rattle.desk_io.specs.declared.slot.Slot.TheVariants.{Verilog, Stil, Console};
+ghost use Rattle.desk_io.specs.Desk.{AllUnopened, IsUnopened, IsOpen, closed, SameElsewhere, SameNames};
+ghost use Rattle.desk_io.specs.Causes.{HasFailed};
+ghost use Rattle.desk_io.specs.Names.{AllowsNames};
+ghost use Rattle.desk_io.specs.Inputs.{input_at};
+ghost use Rattle.scan_job.specs.Requests.{names_of, first_names};
+ghost use Rattle.scan_job.specs.PlayPhases.{HasFinishedPlay};
+ghost use Rattle.scan_job.specs.declared.stop.Stop.{Stop};
+ghost use Rattle.scan_job.specs.Ended.{HasEnded};
+
+use crate::playing::play_stil;
+use crate::request::{PlayRequest, Request, first_names};
+use crate::say::{refuse, size_fault, tell};
+use crate::stop::Stop;
+use desk_io::{Desk, Inputs, InputsFault, Slot, take_inputs};
+use std::alloc::Global;
+use stil_input::StilStop;
+
+/// Closes the STIL slot.
+fn close_stil<D: Desk>(desk: &mut D) -> Result<(), Stop>
+    requires open { IsOpen (D.state desk.old Stil) }
+    ensures closed { OnOk result (D.state desk.new Stil ≡ closed (D.state desk.old Stil)) }
+    ensures failed { OnErr result (HasFailed (D.state desk.old Stil) (D.state desk.new Stil)) }
+    ensures is { (stop : Stop) → IsErrOf result stop → stop ≡ Stop.InputFailed }
+    ensures elsewhere { SameElsewhere Stil (D.state desk.old) (D.state desk.new) }
+    ensures names { SameNames (D.allows desk.old) (D.allows desk.new) }
+{
+    desk.close(Slot::Stil).map_err(|_| Stop::InputFailed)
+}
+
+/// Plays the patterns as they come from the STIL slot, which is opened for it and closed again, and says what was played or the fault.
+fn play_taken<D: Desk>(
+    alloc: Global,
+    request: &Request,
+    play: &PlayRequest,
+    inputs: &Inputs,
+    desk: &mut D,
+) -> Result<(), Stop>
+    requires is { request.now ≡ Request.Play play.now }
+    requires small { length (input_at inputs.now Verilog) < 2 ^ 32 }
+    requires unopened { IsUnopened (D.state desk.old Stil) }
+    requires silent { IsUnopened (D.state desk.old Console) }
+    requires allowed { AllowsNames (names_of request.now) (D.allows desk.old) }
+    ensures ended { HasFinishedPlay play.now inputs.now (D.state desk.old) (D.state desk.new) result }
+{
+    desk.open(Slot::Stil, play.stil.as_str())
+        .map_err(|_| Stop::InputFailed)?;
+    let table = inputs.text(Slot::Table);
+    let verilog = inputs.text(Slot::Verilog);
+    match play_stil(alloc, table, verilog, play.device, desk) {
+        Ok(text) => {
+            close_stil(desk)?;
+            tell(text.bytes(), desk)
+        }
+        Err(StilStop::Fault(fault)) => {
+            close_stil(desk)?;
+            refuse(alloc, request, &fault, desk)
+        }
+        Err(StilStop::Read) => Err(Stop::InputFailed),
+        Err(StilStop::NoMemory) => Err(Stop::NoMemory),
+    }
+}
+
+/// Takes the table and the Verilog text, and plays the patterns as they come.
+pub(crate) fn run_play<D: Desk>(
+    alloc: Global,
+    request: &Request,
+    play: &PlayRequest,
+    desk: &mut D,
+) -> Result<(), Stop>
+    requires is { request.now ≡ Request.Play play.now }
+    requires unopened { AllUnopened (D.state desk.old) }
+    requires allowed { AllowsNames (names_of request.now) (D.allows desk.old) }
+    ensures ended { HasEnded request.now (D.state desk.old) (D.state desk.new) result }
+{
+    let names = first_names(alloc, play).map_err(|_| Stop::NoMemory)?;
+    match take_inputs(alloc, &names, desk) {
+        Ok(inputs) => play_taken(alloc, request, play, &inputs, desk),
+        Err(InputsFault::TooLarge(slot)) => refuse(alloc, request, &size_fault(slot), desk),
+        Err(InputsFault::Read) => Err(Stop::InputFailed),
+        Err(InputsFault::NoMemory) => Err(Stop::NoMemory),
+    }
+}
