@@ -1,5 +1,5 @@
 -- The kinds of the faults of `play`: those before the patterns come before those of the patterns.
-use Rattle.std.proofs.Common.{◌≡◌, ◌≢◌, ◌<◌, ◌≤◌, ℕ, zero, suc, ◌+◌, ◌-◌, ◌||◌, not, nat_lt, Bool, true, false, List, [], ◌∷◌, ◌++◌, length, take, drop, Option, Some, None, cond, codes, refl, sym, ◌∙◌, ap, subst, arith}
+use Rattle.std.proofs.Common.{◌≡◌, ◌<◌, ◌≤◌, ℕ, zero, suc, ◌+◌, ◌-◌, ◌||◌, not, nat_lt, Bool, true, false, List, [], ◌∷◌, length, take, drop, Option, Some, None, cond, codes, refl, sym, ◌∙◌, ap, subst, arith}
 use Rattle.std.specs.Str.{bytes_eq}
 use Rattle.token_forms.specs.Tokens.{Token}
 use Rattle.base_types.specs.declared.fault.Fault.{Fault}
@@ -33,12 +33,12 @@ use Rattle.stil_parts.specs.declared.part.Part.TheVariants.{Passes, Opens, Whole
 use Rattle.stil_parts.specs.declared.part.PartFault.{PartFault}
 use Rattle.stil_parts.specs.Gaps.{gap_at}
 use Rattle.stil_parts.specs.Parts.{part_at, part_len}
-use Rattle.stil_parts.specs.Coming.{largest, most, Event, Coming, Judge, Turn, Refused, Taken, fault_at, ending, stopped, before, moved, judged, sized, gap_turn, open_turn, part_turn, turn_in, next_turn, to_come}
+use Rattle.stil_parts.specs.Coming.{largest, most, Event, Coming, Judge, Turn, Refused, Taken, fault_at, ending, stopped, before, moved, judged, sized, gap_turn, turn_in, next_turn, to_come}
 use Rattle.stil_parts.specs.Heads.{head_len}
 use Rattle.stil_calls.specs.declared.judging.Judging.TheVariants.{Lengths}
-use Rattle.stil_calls.specs.Faults.{kind_of, is_pattern_syntax, is_pattern_unsupported, is_scan_character, is_foreign_data, is_short_load, is_long_compare, is_too_many_shifts, fault_or, body_fault, inner_fault, shape_fault, fault_by, fault_in}
-use Rattle.stil_calls.specs.Parts.{opening_kind, passing_kind, top_kind, passing_in, opened_in, judge_by, judge_of}
-use Rattle.stil_reader.specs.Sayings.{told_before, told_behind, told_whole, beginning}
+use Rattle.stil_calls.specs.Faults.{kind_of, is_pattern_syntax, is_pattern_unsupported, is_scan_character, is_foreign_data, is_short_load, is_long_compare, is_too_many_shifts, fault_or, body_fault, inner_fault, fault_by, fault_in}
+use Rattle.stil_calls.specs.Parts.{opening_kind, passing_kind, passing_in, opened_in, judge_by, judge_of}
+use Rattle.stil_reader.specs.Sayings.{told_before, told_whole, beginning}
 use Rattle.play_report.specs.Faults.{HoldsBeforePatterns, OfTable, OfVerilog, OfHead, OfPaths, OfDeclarations, OfBits}
 
 -- the kind's number is below that of the first kind of patterns
@@ -221,7 +221,8 @@ late_come head [] p inside = late_same _ _ (come_empty (judge_of head) p inside)
 late_come head (b ∷ bs) p (suc inside) = late_same _ _ (come_inside (judge_of head) p inside b bs) (late_come head bs p inside)
 late_come head (b ∷ bs) p zero = by_turn (next_turn (judge_of head) true p (b ∷ bs)) refl (late_next head p (b ∷ bs)) (λ q n. late_come head bs q n)
   where
-    by_turn : (turn : Option Turn) → next_turn (judge_of head) true p (b ∷ bs) ≡ turn → IsLateNext turn → ((q : Point) (n : ℕ) → IsLate (to_come (judge_of head) q n bs).fault) → IsLate (to_come (judge_of head) p 0 (b ∷ bs)).fault
+    by_turn : (turn : Option Turn) → next_turn (judge_of head) true p (b ∷ bs) ≡ turn → IsLateNext turn → ((q : Point) (n : ℕ) → IsLate (to_come (judge_of head) q n bs).fault)
+        → IsLate (to_come (judge_of head) p 0 (b ∷ bs)).fault
     by_turn None e late more = late_same _ _ (come_none (judge_of head) p b bs e) (late_ending p.place)
     by_turn (Some (Refused f)) e late more = late_same _ _ (come_refused (judge_of head) p b bs f e) late
     by_turn (Some (Taken n es q)) e late more = late_same _ _ (come_taken (judge_of head) p b bs n es q e) (more q (n - 1))

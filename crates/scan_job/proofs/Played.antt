@@ -1,18 +1,16 @@
 -- What a play of the patterns answers, from what comes of the STIL text.
-use Rattle.std.proofs.Common.{◌≡◌, ◌≢◌, ◌<◌, ◌≤◌, ℕ, Bool, true, false, List, [], ◌∷◌, ◌++◌, length, map, take, Option, Some, None, option_map, IfSome, Result, Ok, Err, refl, sym, ◌∙◌, ap, subst, append_assoc, append-nil, arith, inl, inr}
+use Rattle.std.proofs.Common.{◌≡◌, ◌≢◌, ℕ, Bool, true, false, List, [], ◌∷◌, ◌++◌, map, take, Option, Some, None, option_map, IfSome, Result, Ok, Err, refl, sym, ◌∙◌, ap, subst, append_assoc, append-nil, arith, inl, inr}
 use Rattle.std.proofs.lemmas.Option.{same_Some}
 use Rattle.base_types.specs.declared.fault.Fault.{Fault}
-use Rattle.base_types.specs.declared.fault.FileKind.TheVariants.{Stil as StilFile}
 use Rattle.base_types.specs.declared.kind.Kind.TheVariants.{FileSize}
 use Rattle.base_types.specs.declared.fault.ReadFault.{ReadFault}
 use Rattle.base_types.specs.declared.fault.ReadFault.TheVariants as faults
-use Rattle.base_types.specs.Faults.{number_of, at_line}
+use Rattle.base_types.specs.Faults.{number_of}
 use Rattle.base_types.specs.FirstFault.{ComesBefore, IsFirstFault, IfFault}
 use Rattle.base_types.proofs.FirstFaults.{itself, later}
-use Rattle.desk_io.specs.declared.slot.Slot.TheVariants.{Stil}
-use Rattle.desk_io.specs.Desk.{SlotState, IsOpen, with_unread, with_faults}
+use Rattle.desk_io.specs.Desk.{SlotState, with_unread, with_faults}
 use Rattle.desk_io.specs.Causes.{HasRisen}
-use Rattle.desk_io.specs.Prefixes.{IsAtEnd, HasTaken, HasTakenAndFailed}
+use Rattle.desk_io.specs.Prefixes.{IsAtEnd}
 use Rattle.stil_types.specs.declared.head.StilHead.{StilHead}
 use Rattle.stil_types.specs.declared.statement.PatternStatement.{PatternStatement}
 use Rattle.stil_head.specs.Heads.{DenotesHead}
@@ -20,17 +18,15 @@ use Rattle.stil_head.proofs.Texts.{only_head}
 use Rattle.stil_parts.specs.declared.part.PartFault.{PartFault}
 use Rattle.stil_parts.specs.Coming.{fault_at}
 use Rattle.stil_parts.specs.Heads.{head_len}
-use Rattle.stil_reader.specs.Sayings.{Saying, Head, GapByte, Named, Stated, Told, after, refusal, named, beginning, told_before, told_behind, told_whole}
+use Rattle.stil_reader.specs.Sayings.{Saying, Head, GapByte, Named, Stated, Told, after, refusal, named, beginning, told_before, told_whole}
 use Rattle.stil_stream.specs.Streams.{Streaming, fresh, fault_of, told_of}
 use Rattle.stil_input.specs.declared.input.StilStop.{StilStop}
 use Rattle.stil_input.specs.declared.input.StilStop.TheVariants.{Fault as OfText, Read, NoMemory}
 use Rattle.stil_input.specs.Inputs.{Draws, coming, HasDrawn, HasDrawnAndFailed, Says, HasEnded, IsRefused, GivesHead, Gives, stop_of}
 use Rattle.play_report.specs.declared.device.DeviceKind.{DeviceKind}
 use Rattle.play_report.specs.Faults.{HoldsBeforePatterns, IsPatternFault, HoldsInPlay, Before, OfPatterns}
-use Rattle.play_report.specs.Files.{IsHeadText, IsPlayText, chains_along}
-use Rattle.play_report.specs.Plays.{play_text}
-use Rattle.play_report.specs.Progress.{Progress, IsSetUp, ProgressLaw, opened, after_saying, after_sayings, finished, at_first}
-use Rattle.scan_job.specs.Faults.{size_fault}
+use Rattle.play_report.specs.Files.{IsHeadText, chains_along}
+use Rattle.play_report.specs.Progress.{Progress, IsSetUp, ProgressLaw, after_saying, after_sayings, finished, at_first}
 use Rattle.scan_job.specs.Playing.{IsPlayed, IsPlayFault, IsPlayedOut, IsToldFault, HasPlayed, HasPlayedOn}
 use Rattle.scan_job.proofs.PlayKinds.{before_early, pattern_late}
 
@@ -135,7 +131,8 @@ module _ (p q : Progress) (s t : Streaming) (old mid : SlotState) (come : HasCom
     pub drawn_said : (head : StilHead) (said : List Saying) → Says head t u mid new said → HasDrawn old new
     drawn_said head said says = drawn_more old mid new come.drawn says.drawn
 
-  ended_told : (o w : Option Told) → o ≡ option_map (after come.said) w → IfSome w (λ told. told ≡ record { says = []; fault = None }) → (said : List ℕ) → said ≡ finished q → IfSome o (λ told. IsPlayedOut p told said)
+  ended_told : (o w : Option Told) → o ≡ option_map (after come.said) w → IfSome w (λ told. told ≡ record { says = []; fault = None }) → (said : List ℕ) → said ≡ finished q
+      → IfSome o (λ told. IsPlayedOut p told said)
   ended_told o None comes nothing said is = subst (λ (o : Option Told). IfSome o (λ told. IsPlayedOut p told said)) (sym comes) tt
   ended_told o (Some told) comes nothing said is =
       subst (λ (o : Option Told). IfSome o (λ told. IsPlayedOut p told said)) (sym comes)
@@ -149,15 +146,18 @@ module _ (p q : Progress) (s t : Streaming) (old mid : SlotState) (come : HasCom
   all_played new said ended is = (
     drawn_more old mid new come.drawn ended.drawn,
     ended.at_end,
-    ended_told (coming p.head s old) (coming p.head t mid) come.comes (subst (λ (head : StilHead). IfSome (coming head t mid) (λ told. told ≡ record { says = []; fault = None })) same_head ended.comes) said is,
+    ended_told (coming p.head s old) (coming p.head t mid) come.comes
+        (subst (λ (head : StilHead). IfSome (coming head t mid) (λ told. told ≡ record { says = []; fault = None })) same_head ended.comes) said is,
   )
 
-  refused_told : (o w : Option Told) (f : PartFault) (fault : Fault) → o ≡ option_map (after come.said) w → IfSome w (λ told. told ≡ refusal f) → fault ≡ fault_of f → IfSome o (λ told. IsToldFault told fault)
+  refused_told : (o w : Option Told) (f : PartFault) (fault : Fault) → o ≡ option_map (after come.said) w → IfSome w (λ told. told ≡ refusal f) → fault ≡ fault_of f
+      → IfSome o (λ told. IsToldFault told fault)
   refused_told o None f fault comes refused is = subst (λ (o : Option Told). IfSome o (λ told. IsToldFault told fault)) (sym comes) tt
   refused_told o (Some told) f fault comes refused is =
       subst (λ (o : Option Told). IfSome o (λ told. IsToldFault told fault)) (sym comes) (record { found = f; comes = ap (λ (t : Told). t.fault) refused; is = is })
 
-  pub fault_met : (new : SlotState) (f : PartFault) (fault : Fault) → IsRefused q.head t mid new f → fault ≡ fault_of f → HasDrawn old new × IfSome (coming p.head s old) (λ told. IsToldFault told fault)
+  pub fault_met : (new : SlotState) (f : PartFault) (fault : Fault) → IsRefused q.head t mid new f → fault ≡ fault_of f
+      → HasDrawn old new × IfSome (coming p.head s old) (λ told. IsToldFault told fault)
   fault_met new f fault refused is = (
     drawn_more old mid new come.drawn refused.drawn,
     refused_told (coming p.head s old) (coming p.head t mid) f fault come.comes (subst (λ (head : StilHead). IfSome (coming head t mid) (λ told. told ≡ refusal f)) same_head refused.comes) is,
@@ -175,13 +175,6 @@ pub come_none : (p : Progress) (s : Streaming) (old : SlotState) → Draws s old
 come_none p s old draws behind = record { said = []; comes = none_after (coming p.head s old); is = refl; drawn = drawn_none old; draws = draws; behind = behind }
 
 -- a whole text
-
-pub draws_fresh : (s : Streaming) (slot : SlotState) → s ≡ fresh → IsOpen slot → Draws s slot
-draws_fresh s slot is open_now = record {
-  is_open = open_now;
-  sound = ap (λ (t : Streaming). t.fault) is;
-  ended = λ e. let no : s.ended ≡ false = ap (λ (t : Streaming). t.ended) is in absurd cc;
-}
 
 -- a head that says nothing
 abbrev any_head : StilHead

@@ -1,9 +1,11 @@
 ghost use Rattle.std.specs.Prelude.{◌≡◌, ◌<◌, ◌^◌, false, length, OnOk};
 ghost use Rattle.desk_io.specs.declared.slot.Slot.TheVariants.{Stil};
 ghost use Rattle.desk_io.specs.Desk.{IsOpen, SameElsewhere, SameNames};
-ghost use Rattle.stil_reader.specs.Sayings.{named};
+ghost use Rattle.stil_types.specs.Statements.{IsPlaced};
+ghost use Rattle.stil_calls.specs.Statements.{AreAccepted};
+ghost use Rattle.stil_reader.specs.Sayings.{Stated, named};
 ghost use Rattle.stil_input.specs.Inputs.{Draws};
-ghost use Rattle.play_report.specs.Progress.{after_sayings};
+ghost use Rattle.play_report.specs.Progress.{after_saying, after_sayings};
 ghost use Rattle.scan_job.specs.Playing.{HasPlayed, HasPlayedOn};
 
 use base_types::{Name, NoMemory, Text};
@@ -11,6 +13,7 @@ use desk_io::Desk;
 use play_report::{DeviceKind, Playing, progress_law};
 use std::alloc::Global;
 use stil_input::{Said, StilInput, StilStop};
+use stil_reader::PatternStatement;
 
 /// Opens the Pattern of this name, if one opens.
 fn open_named(playing: &mut Playing, pattern: Option<Name>) -> Result<(), NoMemory>
@@ -20,6 +23,15 @@ fn open_named(playing: &mut Playing, pattern: Option<Name>) -> Result<(), NoMemo
         Some(name) => playing.open_pattern(&name),
         None => Ok(()),
     }
+}
+
+/// Plays a statement that was read beside the head, and drops it.
+fn play_stated(playing: &mut Playing, statement: PatternStatement) -> Result<(), NoMemory>
+    requires accepted { AreAccepted playing.old.head statement }
+    requires placed { IsPlaced statement }
+    ensures value { OnOk result (playing.new ≡ after_saying (Stated statement) playing.old) }
+{
+    playing.play(&statement)
 }
 
 /// Plays what comes behind the head, to the text's end.
@@ -41,7 +53,7 @@ fn play_patterns<D: Desk>(
                 text: _text,
                 pattern,
             } => open_named(&mut playing, pattern)?,
-            Said::Statement(statement) => playing.play(&statement)?,
+            Said::Statement(statement) => play_stated(&mut playing, statement)?,
             Said::End => return Ok(playing.finish()?),
         }
     }

@@ -1,7 +1,7 @@
 use Rattle.std.proofs.Common.{rules, subst, [], ◌∷◌, ◌++◌, map}
 use Rattle.std.proofs.lemmas.Result.{err_from_is_err_and}
 use Rattle.desk_io.specs.declared.slot.Slot.TheVariants.{Stil}
-use Rattle.desk_io.proofs.Steps.{elsewhere_same, elsewhere_then, names_then}
+use Rattle.desk_io.proofs.Steps.{elsewhere_then, names_then}
 use Rattle.stil_types.specs.declared.head.StilHead.{StilHead}
 use Rattle.stil_reader.specs.Sayings.{GapByte, Stated, named}
 use Rattle.stil_input.specs.Inputs.{HasEnded}
@@ -27,7 +27,8 @@ returns-in_err-open_named-in-Gap-clause-played g c =
     let p = err_from_is_err_and c.from_residual-in_err-open_named-in-Gap.result c.from_residual-in_err-open_named-in-Gap.ensures.1 in
     let says = rw c.in-Gap.is at c.in_ok-_text.ensures.gives in
     rw (p.1, p.2)
-    (drawn_said c.args.playing c.patterns.playing c.args.input c.patterns.input _ _ c.patterns.invariant.come c.next.new.self _ c.head.result.now (map GapByte c.in-Gap._text ++ named c.in-Gap.pattern) says)
+    (drawn_said c.args.playing c.patterns.playing c.args.input c.patterns.input _ _ c.patterns.invariant.come c.next.new.self _ c.head.result.now
+    (map GapByte c.in-Gap._text ++ named c.in-Gap.pattern) says)
 
 pub patterns-preserved-in-Gap : goal.patterns-preserved-in-Gap
 patterns-preserved-in-Gap g c =
@@ -39,39 +40,19 @@ patterns-preserved-in-Gap g c =
       names = names_then _ _ _ c.patterns.invariant.names c.next.ensures.names;
     }
 
-pub returns-in_err-play-in-Statement-clause-played : goal.returns-in_err-play-in-Statement-clause-played
-returns-in_err-play-in-Statement-clause-played g c =
-    let p = err_from_is_err_and c.from_residual-in_err-play-in-Statement.result c.from_residual-in_err-play-in-Statement.ensures.1 in
+pub returns-in_err-play_stated-in-Statement-clause-played : goal.returns-in_err-play_stated-in-Statement-clause-played
+returns-in_err-play_stated-in-Statement-clause-played g c =
+    let p = err_from_is_err_and c.from_residual-in_err-play_stated-in-Statement.result c.from_residual-in_err-play_stated-in-Statement.ensures.1 in
     let says = rw c.in-Statement.is at c.in_ok-_text.ensures.gives in
     rw (p.1, p.2)
     (drawn_said c.args.playing c.patterns.playing c.args.input c.patterns.input _ _ c.patterns.invariant.come c.next.new.self _ c.head.result.now (Stated c.in-Statement.statement ∷ []) says.0)
-
-pub patterns-preserved-in_ok-play-in-Statement : goal.patterns-preserved-in_ok-play-in-Statement
-patterns-preserved-in_ok-play-in-Statement g c =
-    let says = rw c.in-Statement.is at c.in_ok-_text.ensures.gives in
-    record {
-      come = come_stated c.args.playing c.patterns.playing c.args.input c.patterns.input _ _ c.patterns.invariant.come c.next.new.self _ c.head.result.now c.head.ensures.value
-          c.play.new.self c.in-Statement.statement says.0 c.in_ok-play-in-Statement.ensures.value;
-      elsewhere = elsewhere_then Stil _ _ _ c.patterns.invariant.elsewhere c.next.ensures.elsewhere;
-      names = names_then _ _ _ c.patterns.invariant.names c.next.ensures.names;
-    }
-
-pub patterns-preserved-in_ok-play-in-Statement-2 : goal.patterns-preserved-in_ok-play-in-Statement-2
-patterns-preserved-in_ok-play-in-Statement-2 g c =
-    let says = rw c.in-Statement.is at c.in_ok-_text.ensures.gives in
-    record {
-      come = come_stated c.args.playing c.patterns.playing c.args.input c.patterns.input _ _ c.patterns.invariant.come c.next.new.self _ c.head.result.now c.head.ensures.value
-          c.play.new.self c.in-Statement.statement says.0 c.in_ok-play-in-Statement.ensures.value;
-      elsewhere = elsewhere_then Stil _ _ _ c.patterns.invariant.elsewhere c.next.ensures.elsewhere;
-      names = names_then _ _ _ c.patterns.invariant.names c.next.ensures.names;
-    }
 
 pub patterns-preserved : goal.patterns-preserved
 patterns-preserved g c =
     let says = rw c.in-Statement.is at c.in_ok-_text.ensures.gives in
     record {
       come = come_stated c.args.playing c.patterns.playing c.args.input c.patterns.input _ _ c.patterns.invariant.come c.next.new.self _ c.head.result.now c.head.ensures.value
-          c.play.new.self c.in-Statement.statement says.0 c.in_ok-play-in-Statement.ensures.value;
+          c.play_stated.new.playing c.in-Statement.statement says.0 c.in_ok-play_stated-in-Statement.ensures.value;
       elsewhere = elsewhere_then Stil _ _ _ c.patterns.invariant.elsewhere c.next.ensures.elsewhere;
       names = names_then _ _ _ c.patterns.invariant.names c.next.ensures.names;
     }
