@@ -5,9 +5,15 @@ use std::alloc::Global;
 use std::marker::Model;
 
 /// A value in memory of its own, which contracts see as the value: it keeps small what seldom holds one.
-#[derive(Debug, Drop)]
+#[derive(Debug)]
 pub struct Boxed<T> {
     value: Box<T>,
+}
+
+impl<T: Drop> Drop for Boxed<T> {
+    fn drop(self) {
+        let Boxed { value: _value } = self;
+    }
 }
 
 impl<T> Model for Boxed<T> {

@@ -1,6 +1,6 @@
 //! Types that every crate needs: names, texts, words, lists, places, kinds of fault and faults, and the lines of a text.
 //!
-//! Floor: ground, on `memchr` and `smallvec`.
+//! Floor: ground, on `memchr`.
 //! Contract: what each type is seen as stands at its `impl Model`; kinds, faults and their order in `specs/Faults.antt` and
 //! `specs/FirstFault.antt`. Begin with `fault.rt`.
 #![tactic(auto)]

@@ -5,9 +5,16 @@ use std::alloc::Global;
 use std::marker::Model;
 
 /// A list field of a public struct, which contracts see as the list of its members.
-#[derive(Debug, Drop)]
+#[derive(Debug)]
 pub struct Rows<T> {
     rows: Vec<T>,
+}
+
+// By hand, so that it is proved here and not again wherever rows are dropped.
+impl<T: Drop> Drop for Rows<T> {
+    fn drop(self) {
+        let Rows { rows: _rows } = self;
+    }
 }
 
 impl<T> Model for Rows<T> {
@@ -39,7 +46,8 @@ impl<T> Rows<T> {
     pub fn into_vec(self) -> Vec<T>
         ensures value { result.items ≡ self }
     {
-        self.rows
+        let Rows { rows } = self;
+        rows
     }
 
     /// Its members in order. Takes no memory.
@@ -64,7 +72,7 @@ impl<T: Drop> Rows<T> {
     pub fn fitted(self) -> Rows<T>
         ensures value { result ≡ self }
     {
-        let mut rows = self.rows;
+        let Rows { mut rows } = self;
         rows.shrink_to_fit();
         Rows { rows }
     }

@@ -6,9 +6,15 @@ use std::convert::AsStr;
 use std::marker::Model;
 
 /// A word of the command line, which contracts see as its bytes.
-#[derive(Debug, Drop)]
+#[derive(Debug)]
 pub struct Word {
     text: String,
+}
+
+impl Drop for Word {
+    fn drop(self) {
+        let Word { text: _text } = self;
+    }
 }
 
 impl Model for Word {

@@ -1,12 +1,10 @@
 -- The loop that reads the cells: those that stand in front, and the members that are still read.
-use Rattle.std.proofs.Common.{◌≡◌, ℕ, Bool, false, cond, List, [], ◌∷◌, ◌++◌, map, Option, Some, None, Result, Ok, Err, String, Global, Vec, string_bytes, Less, nat_cmp, is_eq, refl, sym, ap, ◌∙◌, subst, append_assoc}
+use Rattle.std.proofs.Common.{◌≡◌, ℕ, List, [], ◌∷◌, ◌++◌, map, Option, Some, None, Result, Ok, Err, String, Global, string_bytes, Less, nat_cmp, refl, sym, ap, ◌∙◌, subst, append_assoc}
 use Rattle.std.proofs.lemmas.List.{append-nil, map-append}
-use Rattle.std.proofs.lemmas.Map.Text.{is_eq-slice_cmp}
-use Rattle.std.specs.Cmp.Lexicographic.{slice_cmp, nat_list_eq_equiv}
+use Rattle.std.specs.Cmp.Lexicographic.{slice_cmp}
 use Rattle.std.specs.List.{AllByRecursion}
 use Rattle.std.specs.List.Sorted.{IsStrictlySortedBy}
-use Rattle.std.specs.Map.{lookup, keys_of}
-use Rattle.std.specs.Str.{bytes_eq}
+use Rattle.std.specs.Map.{keys_of}
 use Rattle.std.specs.String.{string_cmp}
 use Rattle.base_types.specs.declared.fault.Fault.{Fault}
 use Rattle.toml.specs.View.{view, members_view}
@@ -16,7 +14,8 @@ use Rattle.base_types.specs.declared.stop.Stop.TheVariants as stops
 use Rattle.cell_table.specs.Cells.{Gives, Cells, cell_of, cells_of, with_cell, shape_fault}
 use Rattle.cell_table.specs.declared.paths.ScanPath.{ScanPath}
 use Rattle.cell_table.proofs.Loops.{Entry}
-use Rattle.cell_table.proofs.Views.{CellEntry, cells_view}
+use Rattle.cell_table.specs.declared.table.Cell.{Cell}
+use Rattle.cell_table.specs.Kept.{cells_view, AreInOrder}
 
 abbrev pub with_cells : Cells → Result Cells Fault → Result Cells Fault
 with_cells front (Ok cells) = Ok (front ++ cells)
@@ -31,8 +30,8 @@ with_more front name paths (Ok cells) = ap (λ (xs : Cells). Ok xs) (sym (append
 with_more front name paths (Err fault) = refl
 
 -- the names so far and those still to come ascend
-abbrev pub cell_names : List CellEntry → List (List ℕ)
-cell_names es = map (λ e. e.0.items) es
+abbrev pub cell_names : List Cell → List (List ℕ)
+cell_names cells = map (λ c. c.name) cells
 
 abbrev pub entry_names : List Entry → List (List ℕ)
 entry_names es = map (λ e. string_bytes e.0) es
@@ -49,22 +48,7 @@ unfolding IsStrictlySortedBy
 ascend_from [] h = tt
 ascend_from (e ∷ es) h = (above (string_bytes e.0) es e.0 refl h.0, ascend_from es h.1)
 
-all_at : (P : List ℕ → Type 0) (xs : List (List ℕ)) (k : List ℕ) (rest : List (List ℕ)) → AllByRecursion P (xs ++ k ∷ rest) → P k
-all_at P [] k rest h = h.0
-all_at P (x ∷ xs) k rest h = all_at P xs k rest h.1
-
-apart : (x k : List ℕ) → slice_cmp nat_cmp x k ≡ Less → bytes_eq k x ≡ false
-apart x k less = nat_list_eq_equiv.symm k x ∙ sym (is_eq-slice_cmp x k) ∙ ap is_eq less
-
--- so a name isn't among those before it
-pub is_new : (es : List CellEntry) (k : List ℕ) (rest : List (List ℕ)) → Ascend (cell_names es ++ k ∷ rest) → lookup (λ v. bytes_eq k v.items) es ≡ None
-unfolding IsStrictlySortedBy
-is_new [] k rest h = refl
-is_new (e ∷ es) k rest h =
-    let other : bytes_eq k e.0.items ≡ false = apart e.0.items k (all_at (λ y. slice_cmp nat_cmp e.0.items y ≡ Less) (cell_names es) k rest h.0) in
-    ap (λ (b : Bool). cond b (Some e.1) (lookup (λ v. bytes_eq k v.items) es)) other ∙ is_new es k rest h.1
-
-module _ (front : List CellEntry) (all rest : List Entry) (k : String Global) (v : Value) (name : List ℕ) (total : Result Cells Fault) (is : all ≡ (k, v) ∷ rest) (same_name : name ≡ string_bytes k) where
+module _ (front : List Cell) (all rest : List Entry) (k : String Global) (v : Value) (name : List ℕ) (total : Result Cells Fault) (is : all ≡ (k, v) ∷ rest) (same_name : name ≡ string_bytes k) where
   pub cell_goes_on : (paths : List ScanPath) → cell_of (view v) ≡ Some paths
       → with_cells (cells_view front) (cells_of (members_view all)) ≡ total
       → with_cells (cells_view front ++ (name, paths) ∷ []) (cells_of (members_view rest)) ≡ total
@@ -84,12 +68,16 @@ module _ (front : List CellEntry) (all rest : List Entry) (k : String Global) (v
   pub ascend_on : Ascend (cell_names front ++ entry_names all) → Ascend (cell_names front ++ name ∷ entry_names rest)
   ascend_on h = subst (λ (names : List (List ℕ)). Ascend (cell_names front ++ names)) (ap entry_names is ∙ ap (λ (n : List ℕ). n ∷ entry_names rest) (sym same_name)) h
 
-pub ascend_more : (front : List CellEntry) (key : Vec ℕ Global) (paths : List ScanPath) (name : List ℕ) (rest : List (List ℕ)) → key.items ≡ name → Ascend (cell_names front ++ name ∷ rest) → Ascend (cell_names (front ++ (key, paths) ∷ []) ++ rest)
-ascend_more front key paths name rest is h =
-    let e = map-append (λ (c : CellEntry). c.0.items) front ((key, paths) ∷ []) in
-    subst Ascend (ap (λ (n : List ℕ). cell_names front ++ n ∷ rest) (sym is) ∙ sym (append_assoc (cell_names front) (key.items ∷ []) rest) ∙ ap (λ (names : List (List ℕ)). names ++ rest) (sym e)) h
+pub ascend_more : (front : List Cell) (cell : Cell) (rest : List (List ℕ)) → Ascend (cell_names front ++ cell.name ∷ rest) → Ascend (cell_names (front ++ cell ∷ []) ++ rest)
+ascend_more front cell rest h =
+    let e = map-append (λ (c : Cell). c.name) front (cell ∷ []) in
+    subst Ascend (sym (append_assoc (cell_names front) (cell.name ∷ []) rest) ∙ ap (λ (names : List (List ℕ)). names ++ rest) (sym e)) h
 
-pub cells_end : (front : List CellEntry) (all : List Entry) (total : Result Cells Fault) → all ≡ [] → with_cells (cells_view front) (cells_of (members_view all)) ≡ total → total ≡ Ok (cells_view front)
+-- all cells are there, and in order
+pub in_order : (front : List Cell) (all : List Entry) → all ≡ [] → Ascend (cell_names front ++ entry_names all) → AreInOrder front
+in_order front all none h = subst Ascend (ap (λ (es : List Entry). cell_names front ++ entry_names es) none ∙ append-nil (cell_names front)) h
+
+pub cells_end : (front : List Cell) (all : List Entry) (total : Result Cells Fault) → all ≡ [] → with_cells (cells_view front) (cells_of (members_view all)) ≡ total → total ≡ Ok (cells_view front)
 unfolding cells_of
 cells_end front all total none same =
     let turn : with_cells (cells_view front) (cells_of (members_view all)) ≡ Ok (cells_view front) = rw none (ap (λ (xs : Cells). Ok xs) (append-nil (cells_view front))) in
@@ -99,20 +87,15 @@ pub gives_none : {X : Type 0} (e : Stop) (read : Option X) → e ≡ stops.NoFor
 gives_none stops.NoForm read is h = h
 gives_none stops.NoMemory read is h = absurd cc
 
--- one turn of the loop, with a cell that is new in the map
-module _ (old new : List CellEntry) (all rest : List Entry) (k : String Global) (v : Value) (key : Vec ℕ Global) (paths : List ScanPath) (total : Result Cells Fault) (is : all ≡ (k, v) ∷ rest) (name : key.items ≡ string_bytes k) (read : cell_of (view v) ≡ Some paths)
-    (same : with_cells (cells_view old) (cells_of (members_view all)) ≡ total) (ascend : Ascend (cell_names old ++ entry_names all)) where
-  ascend_here : Ascend (cell_names old ++ key.items ∷ entry_names rest)
-  ascend_here = ascend_on old all rest k v key.items total is name ascend
+-- one turn of the loop, with one more cell
+module _ (old new : List Cell) (all rest : List Entry) (k : String Global) (v : Value) (cell : Cell) (total : Result Cells Fault) (is : all ≡ (k, v) ∷ rest) (name : cell.name ≡ string_bytes k) (read : cell_of (view v) ≡ Some cell.paths)
+    (same : with_cells (cells_view old) (cells_of (members_view all)) ≡ total) (ascend : Ascend (cell_names old ++ entry_names all)) (added : new ≡ old ++ cell ∷ []) where
+  pub same_after : with_cells (cells_view new) (cells_of (members_view rest)) ≡ total
+  same_after =
+      ap (λ (cs : List Cell). with_cells (cells_view cs) (cells_of (members_view rest))) added
+      ∙ ap (λ (cs : Cells). with_cells cs (cells_of (members_view rest))) (map-append (λ (c : Cell). (c.name, c.paths)) old (cell ∷ []))
+      ∙ cell_goes_on old all rest k v cell.name total is name cell.paths read same
 
-  pub no_such_cell : lookup (λ w. bytes_eq key.items w.items) old ≡ None
-  no_such_cell = is_new old key.items (entry_names rest) ascend_here
-
-  pub same_after : new ≡ old ++ (key, paths) ∷ [] → with_cells (cells_view new) (cells_of (members_view rest)) ≡ total
-  same_after added =
-      ap (λ (es : List CellEntry). with_cells (cells_view es) (cells_of (members_view rest))) added
-      ∙ ap (λ (cs : Cells). with_cells cs (cells_of (members_view rest))) (map-append (λ (e : CellEntry). (e.0.items, e.1)) old ((key, paths) ∷ []))
-      ∙ cell_goes_on old all rest k v key.items total is name paths read same
-
-  pub ascend_after : new ≡ old ++ (key, paths) ∷ [] → Ascend (cell_names new ++ entry_names rest)
-  ascend_after added = subst (λ (es : List CellEntry). Ascend (cell_names es ++ entry_names rest)) (sym added) (ascend_more old key paths key.items (entry_names rest) refl ascend_here)
+  pub ascend_after : Ascend (cell_names new ++ entry_names rest)
+  ascend_after =
+      subst (λ (cs : List Cell). Ascend (cell_names cs ++ entry_names rest)) (sym added) (ascend_more old cell (entry_names rest) (ascend_on old all rest k v cell.name total is name ascend))

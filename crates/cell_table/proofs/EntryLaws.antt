@@ -1,5 +1,5 @@
 -- What is read as cells is what is written: the functions of Cells and the relations of Entries agree.
-use Rattle.std.proofs.Common.{◌≡◌, ◌≢◌, ◌<◌, ◌≤◌, ◌==◌, ℕ, zero, suc, ℤ, pos, Bool, true, false, ◌&&◌, ◌||◌, not, if◌then◌else◌, List, [], ◌∷◌, ◌++◌, length, codes, Option, Some, None, Result, Ok, Err, refl, sym, ap, ◌∙◌, subst, append_assoc, arith}
+use Rattle.std.proofs.Common.{◌≡◌, ◌≢◌, ◌<◌, ◌≤◌, ◌==◌, ℕ, zero, suc, ℤ, pos, Bool, true, false, ◌&&◌, ◌||◌, not, if◌then◌else◌, List, [], ◌∷◌, ◌++◌, length, Option, Some, None, Result, Ok, Err, refl, sym, ap, ◌∙◌, subst, arith}
 use Rattle.std.specs.Prelude.{nat_le}
 use Rattle.std.specs.List.{list_any, AllByRecursion as Each}
 use Rattle.std.specs.Ordering.{int_eq}
@@ -12,7 +12,7 @@ use Rattle.base_types.specs.declared.fault.Fault.{Fault}
 use Rattle.toml.specs.Data.{Data, Items, no_items, item, Members, no_members, member, as_integer}
 use Rattle.cell_table.specs.declared.paths.OutPin.{OutPin}
 use Rattle.cell_table.specs.declared.paths.ScanPath.{ScanPath}
-use Rattle.cell_table.specs.Cells.{Cells, only_if, items_len, members_len, bit_at, bit_of, each_item, each_member, bits_of, out_of, outs_of, are_sized, path_of, paths_of, pins_of, twice_behind, has_twice, has_pin_twice, cell_of, with_cell, cells_of, named_cells, cells_in, document_of, cells_at, table_of}
+use Rattle.cell_table.specs.Cells.{Cells, only_if, items_len, members_len, bit_at, bit_of, each_item, each_member, out_of, are_sized, path_of, pins_of, twice_behind, has_pin_twice, cell_of, with_cell, cells_of, named_cells, cells_in, document_of, cells_at, table_of}
 use Rattle.cell_table.specs.Entries.{IsBit, AreItems, AreMembers, IsOut, IsPath, AreDistinct, IsCell, IsNamedCell, HasCells, DenotesCells}
 
 only_true : (t : Bool) (u : Unit {0}) → only_if t ≡ Some u → t ≡ true

@@ -6,10 +6,10 @@ use Rattle.toml.specs.declared.value.Value.{Value}
 use Rattle.cell_table.specs.declared.paths.OutPin.{OutPin}
 use Rattle.cell_table.specs.declared.paths.ScanPath.{ScanPath}
 use Rattle.cell_table.specs.Ascending.{AreAscending, out_names, HasOutsInOrder, HaveOutsInOrder}
-use Rattle.cell_table.specs.Cells.{Cells}
 use Rattle.cell_table.proofs.Loops.{Entry}
 use Rattle.cell_table.proofs.CellLoop.{entry_names}
-use Rattle.cell_table.proofs.Views.{CellEntry, cells_view}
+use Rattle.cell_table.specs.declared.table.Cell.{Cell}
+use Rattle.cell_table.specs.Kept.{cells_view}
 
 pub each_more : {X : Type 0} (P : X → Type 0) (xs : List X) (x : X) → Each P xs → P x → Each P (xs ++ x ∷ [])
 each_more P [] x all here = (here, tt)
@@ -32,7 +32,7 @@ outs_end outs all none h =
     subst AreAscending (ap (λ (es : List Entry). out_names outs ++ entry_names es) none ∙ append-nil (out_names outs)) h
 
 -- the cells so far with one more
-pub cells_more : (old new : List CellEntry) (cell : CellEntry) → new ≡ old ++ cell ∷ [] → HaveOutsInOrder (cells_view old) → Each HasOutsInOrder cell.1 → HaveOutsInOrder (cells_view new)
+pub cells_more : (old new : List Cell) (cell : Cell) → new ≡ old ++ cell ∷ [] → HaveOutsInOrder (cells_view old) → Each HasOutsInOrder cell.paths → HaveOutsInOrder (cells_view new)
 cells_more old new cell added all here =
-    subst HaveOutsInOrder (sym (ap cells_view added ∙ map-append (λ (e : CellEntry). (e.0.items, e.1)) old (cell ∷ [])))
-    (each_more (λ (c : List ℕ × List ScanPath). Each HasOutsInOrder c.1) (cells_view old) (cell.0.items, cell.1) all here)
+    subst HaveOutsInOrder (sym (ap cells_view added ∙ map-append (λ (c : Cell). (c.name, c.paths)) old (cell ∷ [])))
+    (each_more (λ (c : List ℕ × List ScanPath). Each HasOutsInOrder c.1) (cells_view old) (cell.name, cell.paths) all here)

@@ -13,11 +13,10 @@ use Rattle.base_types.specs.declared.fault.Spot.TheVariants.{Nowhere}
 use Rattle.base_types.specs.declared.kind.Kind.TheVariants.{TableSyntax}
 use Rattle.base_types.specs.declared.fault.ReadFault.{ReadFault}
 use Rattle.base_types.specs.declared.fault.ReadFault.TheVariants as read_faults
-use Rattle.base_types.specs.Names.{plain_name}
 use Rattle.base_types.specs.FirstFault.{fault_key, ComesBefore, IsFirstFault, IfFault, Answers}
 use Rattle.toml.specs.Data.{Data, Members, no_members, member, get_member}
 use Rattle.cell_table.specs.declared.paths.ScanPath.{ScanPath}
-use Rattle.cell_table.specs.Cells.{Cells, shape_fault, cell_of, named_cells, cells_of, cells_in, document_at, document_of, cells_at, table_of}
+use Rattle.cell_table.specs.Cells.{Cells, shape_fault, cell_of, named_cells, cells_in, document_at, document_of, table_of}
 use Rattle.cell_table.specs.Ascending.{Ascending}
 use Rattle.cell_table.specs.Entries.{AreMembers, IsCell, IsNamedCell, HasCells, DenotesCells, IsLeastBad, HoldsInTable, Syntax, Top, Cell, OneTableLaw, NoFaultLaw}
 use Rattle.cell_table.proofs.EntryLaws.{cell_is, is_cell, has_is, is_has, table_denotes, denotes_table}

@@ -1,5 +1,5 @@
 -- In each cell of a table each pin stands once.
-use Rattle.std.proofs.Common.{◌≡◌, ℕ, List, [], ◌∷◌, sym}
+use Rattle.std.proofs.Common.{[], ◌∷◌, sym}
 use Rattle.toml.specs.Data.{Members, no_members, member}
 use Rattle.cell_table.specs.Cells.{Cells}
 use Rattle.cell_table.specs.Entries.{AreMembers, IsNamedCell, HaveEachPinOnce, PinsLaw, OneCellPinsLaw}

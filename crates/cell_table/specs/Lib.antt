@@ -2,3 +2,4 @@ pub mod Cells
 pub mod Table
 pub mod Ascending
 pub mod Entries
+pub mod Kept

@@ -9,10 +9,9 @@ ghost use Rattle.cell_table.specs.Cells.{named_cells, cells_of, document_of, tab
 ghost use Rattle.cell_table.specs.Entries.{DenotesCells, HoldsInTable};
 
 use crate::paths::cell_of;
-use crate::table::CellTable;
+use crate::table::{Cell, CellTable};
 use crate::values::{is_empty, member_at};
 use base_types::{Fault, FileKind, Kind, Name, ReadFault, Spot, Stop, plain_name};
-use indexmap::IndexMap;
 use std::alloc::Global;
 use toml::Table;
 
@@ -22,15 +21,15 @@ fn cells_of(alloc: Global, table: &Table) -> Result<CellTable, ReadFault>
     ensures ascending { Ascending (table_view table.now) }
     ensures order { IfOk result HaveOutsInOrder }
 {
-    let mut cells = IndexMap::new(alloc);
+    let mut cells = Vec::new(alloc);
     for (name, value) in table.iter() {
-        let name = Vec::from_slice(alloc, name.as_bytes())?;
+        let name = Name::copy(alloc, name.as_bytes())?;
         let paths = match cell_of(alloc, value) {
             Ok(paths) => paths,
-            Err(Stop::NoForm) => return Err(shape_fault(plain_name(alloc, name.as_slice())?)),
+            Err(Stop::NoForm) => return Err(shape_fault(plain_name(alloc, name.bytes())?)),
             Err(Stop::NoMemory) => return Err(ReadFault::NoMemory),
         };
-        cells.insert(name, paths)?;
+        cells.push(Cell { name, paths })?;
     }
     Ok(CellTable { cells })
 }

@@ -1,6 +1,6 @@
 //! Reads the table of scan cells, a TOML text that says which pins of a cell are its scan paths.
 //!
-//! Floor: readers, on base_types, `toml` and `indexmap`.
+//! Floor: readers, on base_types and `toml`.
 //! Contract: `read_table` gives what `specs/Cells.antt` says that the text denotes, and refuses exactly where it
 //! denotes nothing. Begin with `paths.rt`.
 #![tactic(auto)]

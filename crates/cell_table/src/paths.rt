@@ -20,13 +20,24 @@ pub struct OutPin {
 }
 
 /// A scan path of a cell: the way from an in pin over the cell's bits to its out pins.
-#[derive(Debug, Drop)]
+#[derive(Debug)]
 pub struct ScanPath {
     pub input: Name,
     /// For each bit whether it is inverted to the bit before it, or to the in pin. A buffer or a lock-up latch has none.
     pub bits: Rows<bool>,
     /// One or more, in the order of the pins' bytes.
     pub outs: Rows<OutPin>,
+}
+
+// By hand, so that it is proved here and not again wherever one is dropped.
+impl Drop for ScanPath {
+    fn drop(self) {
+        let ScanPath {
+            input: _input,
+            bits: _bits,
+            outs: _outs,
+        } = self;
+    }
 }
 
 const MOST_BITS: usize = 1024;

@@ -1,25 +1,60 @@
 ghost use Rattle.std.specs.Prelude.{◌≡◌, [], ◌∷◌, IfOk, option_map};
+ghost use Rattle.std.specs.Cmp.Lexicographic.{slice_cmp};
+ghost use Rattle.std.specs.Ordering.{nat_cmp};
+ghost use Rattle.cell_table.specs.Kept.{cells_view, AreInOrder};
 ghost use Rattle.cell_table.specs.Table.{paths_at, one_path};
 
 use crate::paths::{OutPin, ScanPath};
 use base_types::{Name, NoMemory, Rows};
-use indexmap::IndexMap;
 use std::alloc::Global;
+use std::cmp::Ordering;
 use std::marker::Model;
 
-/// The cells of a table, in the order of their names, with their scan paths.
+/// A cell with its scan paths.
 #[derive(Drop)]
+pub(crate) struct Cell {
+    pub(crate) name: Name,
+    pub(crate) paths: Rows<ScanPath>,
+}
+
+/// The cells of a table with their scan paths, in the order of their names, by which they are found.
 pub struct CellTable {
-    pub(crate) cells: IndexMap<Vec<u8>, Rows<ScanPath>>,
+    pub(crate) cells: Vec<Cell>,
+}
+
+// By hand, so that it is proved here and not again wherever one is dropped.
+impl Drop for CellTable {
+    fn drop(self) {
+        let CellTable { cells: _cells } = self;
+    }
 }
 
 impl Model for CellTable {
-    ghost use Rattle.std.specs.Prelude.{ℕ, List, map};
+    ghost use Rattle.std.specs.Prelude.{ℕ, List};
     ghost use Rattle.cell_table.specs.declared.paths.ScanPath.{ScanPath as scan_path};
+    ghost use Rattle.cell_table.specs.Kept.{cells_view, AreInOrder};
 
     ghost Value = { List (List ℕ × List scan_path) };
 
-    ghost view = { λ t. map (λ e. (e.0.items, e.1)) t.cells.entries };
+    ghost view = { λ t. cells_view t.cells.items };
+
+    ghost invariant = { λ t. AreInOrder t.cells.items };
+}
+
+/// The cell of a name among cells that stand in the order of their names.
+fn found_in<'a>(cells: &'a [Cell], name: &[u8]) -> Option<&'a Cell>
+    requires in_order { AreInOrder cells.now }
+    ensures value { option_map (λ cell. cell.now.paths) result ≡ paths_at name.now (cells_view cells.now) }
+{
+    let found = cells.binary_search_by(
+        |cell: &Cell| -> Ordering
+            ensures { result ≡ slice_cmp nat_cmp cell.now.name name.entry.now }
+        { cell.name.bytes().cmp(name) },
+    );
+    match found {
+        Ok(at) => Some(&cells[at]),
+        Err(_) => None,
+    }
 }
 
 impl CellTable {
@@ -40,8 +75,11 @@ impl CellTable {
             bits,
             outs,
         })?;
-        let mut cells = IndexMap::new(alloc);
-        cells.insert(Vec::from_slice(alloc, cell.bytes())?, paths)?;
+        let mut cells = Vec::new(alloc);
+        cells.push(Cell {
+            name: Name::copy(alloc, cell.bytes())?,
+            paths,
+        })?;
         Ok(CellTable { cells })
     }
 
@@ -49,9 +87,7 @@ impl CellTable {
     pub fn get(&self, cell: &Name) -> Option<&[ScanPath]>
         ensures value { option_map (λ paths. paths.now) result ≡ paths_at cell.now self.now }
     {
-        match self.cells.get(cell.bytes()) {
-            Some(paths) => Some(paths.as_slice()),
-            None => None,
-        }
+        let found = found_in(self.cells.as_slice(), cell.bytes())?;
+        Some(found.paths.as_slice())
     }
 }

@@ -8,9 +8,16 @@ use std::marker::Model;
 use std::mem;
 
 /// Which units stand in which chain, in their order; contracts see it as a record of a list of lists of unit numbers.
-#[derive(Debug, Drop)]
+#[derive(Debug)]
 pub struct Plan {
     chains: Vec<Vec<u32>>,
+}
+
+// By hand, so that it is proved here and not again wherever one is dropped.
+impl Drop for Plan {
+    fn drop(self) {
+        let Plan { chains: _chains } = self;
+    }
 }
 
 impl Model for Plan {
@@ -33,7 +40,8 @@ impl Plan {
     pub fn into_chains(self) -> Vec<Vec<u32>>
         ensures value { lists_of result.items ≡ self.chains }
     {
-        self.chains
+        let Plan { chains } = self;
+        chains
     }
 
     /// A copy, or want of memory.

@@ -32,11 +32,22 @@ pub struct ChainRule {
 }
 
 /// The units, what each chain may hold, and the plan as read.
-#[derive(Debug, Drop)]
+#[derive(Debug)]
 pub struct Rules {
     pub units: Rows<Unit>,
     pub chains: Rows<ChainRule>,
     pub read: Plan,
+}
+
+// By hand, so that it is proved here and not again wherever one is dropped.
+impl Drop for Rules {
+    fn drop(self) {
+        let Rules {
+            units: _units,
+            chains: _chains,
+            read: _read,
+        } = self;
+    }
 }
 
 /// A place in a plan; both numbers count from 0.

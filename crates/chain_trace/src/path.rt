@@ -18,11 +18,22 @@ pub struct Step {
 }
 
 /// A path from an input or inout port over steps to an output or inout port, in the order in which it shifts.
-#[derive(Debug, Drop)]
+#[derive(Debug)]
 pub struct Path {
     pub input: NetId,
     pub output: NetId,
     pub steps: Rows<Step>,
+}
+
+// By hand, so that it is proved here and not again wherever one is dropped.
+impl Drop for Path {
+    fn drop(self) {
+        let Path {
+            input: _input,
+            output: _output,
+            steps: _steps,
+        } = self;
+    }
 }
 
 /// The bits of a path in the order in which it shifts, with their parities.

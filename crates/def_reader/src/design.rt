@@ -85,7 +85,6 @@ pub struct ScanChainText {
 }
 
 /// A placed design. Its names are plain.
-#[derive(Drop)]
 pub struct Design {
     /// The database units of a micron, 1 to 100000.
     pub units: i64,
@@ -95,4 +94,18 @@ pub struct Design {
     pub chains: Rows<ScanChainText>,
     /// From the first token of the SCANCHAINS section to the token behind its `END`.
     pub chains_span: Option<Span>,
+}
+
+// By hand, so that it is proved here and not again wherever one is dropped.
+impl Drop for Design {
+    fn drop(self) {
+        let Design {
+            units: _units,
+            components: _components,
+            pins: _pins,
+            nets: _nets,
+            chains: _chains,
+            chains_span: _chains_span,
+        } = self;
+    }
 }

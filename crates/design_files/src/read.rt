@@ -20,7 +20,6 @@ use std::alloc::Global;
 use wire_cost::Ends;
 
 /// What the files of a placed design denote, and what was found by checking them beside each other.
-#[derive(Drop)]
 pub struct DesignFiles {
     pub table: CellTable,
     pub macros: Macros,
@@ -34,6 +33,22 @@ pub struct DesignFiles {
     pub rules: Rules,
     /// Where the units and the chains begin and end, in half database units.
     pub ends: Ends,
+}
+
+// By hand, so that it is proved here and not again wherever one is dropped.
+impl Drop for DesignFiles {
+    fn drop(self) {
+        let DesignFiles {
+            table: _table,
+            macros: _macros,
+            netlist: _netlist,
+            design: _design,
+            chains: _chains,
+            paths: _paths,
+            rules: _rules,
+            ends: _ends,
+        } = self;
+    }
 }
 
 /// What the texts of a cell table, a LEF, a Verilog and a DEF denote together: the scan paths that the chains of the design ask for, the

@@ -27,9 +27,15 @@ pub struct MacroPin {
 }
 
 /// The macros of a LEF by their names, in file order.
-#[derive(Drop)]
 pub struct Macros {
     pub(crate) macros: IndexMap<Vec<u8>, Macro>,
+}
+
+// By hand, so that it is proved here and not again wherever one is dropped.
+impl Drop for Macros {
+    fn drop(self) {
+        let Macros { macros: _macros } = self;
+    }
 }
 
 impl Model for Macros {

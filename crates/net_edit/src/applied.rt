@@ -21,7 +21,7 @@ fn edited_expr(alloc: Global, net: Option<NetId>, expr: &Expr) -> Result<Expr, N
     ensures value { IfOk result (λ copy. copy ≡ edited_expr net expr.now) }
 {
     let bits = match net {
-        Some(net) => Bits::one(alloc, Bit::Net(net)),
+        Some(net) => Bits::one(Bit::Net(net)),
         None => Bits::copy(alloc, expr.bits.as_slice())?,
     };
     Ok(Expr {
@@ -144,7 +144,7 @@ fn one_bit(alloc: Global, net: NetId) -> Expr
     ensures value { result ≡ one_bit net }
 {
     Expr {
-        bits: Bits::one(alloc, Bit::Net(net)),
+        bits: Bits::one(Bit::Net(net)),
         span: Span { start: 0, end: 0 },
     }
 }

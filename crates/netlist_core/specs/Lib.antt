@@ -1,3 +1,4 @@
 pub mod Netlists
 pub mod Joining
 pub mod Forests
+pub mod Kept

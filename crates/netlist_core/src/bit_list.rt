@@ -1,24 +1,40 @@
-ghost use Rattle.std.specs.Prelude.{◌≡◌, [], ◌∷◌, ◌++◌, IfOk, OnOk, OnErr};
+ghost use Rattle.std.specs.Prelude.{◌≡◌, [], ◌∷◌, IfOk};
 
 use crate::netlist::Bit;
 use base_types::NoMemory;
-use smallvec::SmallVec;
 use std::alloc::Global;
 use std::marker::Model;
+use std::slice;
 
-/// The bits of an expression from the left, which contracts see as their list. Up to two lie in the value itself.
+/// Where a list keeps its bits.
 #[derive(Debug, Drop)]
+enum Kept {
+    /// One bit, in the list itself: most expressions have one.
+    One(Bit),
+    /// Any number of bits, in memory of their own.
+    Apart(Vec<Bit>),
+}
+
+/// The bits of an expression from the left, which contracts see as their list. A single one lies in the value itself.
+#[derive(Debug)]
 pub struct Bits {
-    bits: SmallVec<Bit, 2>,
+    kept: Kept,
+}
+
+impl Drop for Bits {
+    fn drop(self) {
+        let Bits { kept: _kept } = self;
+    }
 }
 
 impl Model for Bits {
     ghost use Rattle.std.specs.Prelude.{List};
     ghost use Rattle.netlist_core.specs.declared.netlist.Bit.{Bit as ghost_bit};
+    ghost use Rattle.netlist_core.specs.Kept.{kept_bits};
 
     ghost Value = { List ghost_bit };
 
-    ghost view = { λ b. b.bits.items };
+    ghost view = { λ b. kept_bits b.kept };
 }
 
 impl Bits {
@@ -26,67 +42,47 @@ impl Bits {
     pub fn new(alloc: Global) -> Bits
         ensures value { result ≡ [] }
     {
-        Bits {
-            bits: SmallVec::new(alloc),
-        }
+        Bits::of(Vec::new(alloc))
     }
 
     /// One bit; takes no memory.
-    pub fn one(alloc: Global, bit: Bit) -> Bits
+    pub fn one(bit: Bit) -> Bits
         ensures value { result ≡ bit ∷ [] }
     {
         Bits {
-            bits: SmallVec::from_buf_and_len(alloc, [bit, bit], 1),
+            kept: Kept::One(bit),
         }
-    }
-
-    /// No bits, and room for so many.
-    pub fn with_room(alloc: Global, count: usize) -> Result<Bits, NoMemory>
-        ensures value { IfOk result (λ bits. bits ≡ []) }
-    {
-        Ok(Bits {
-            bits: SmallVec::with_capacity(alloc, count)?,
-        })
     }
 
     /// A copy of these bits, or want of memory.
     pub fn copy(alloc: Global, bits: &[Bit]) -> Result<Bits, NoMemory>
         ensures value { IfOk result (λ copy. copy ≡ bits.now) }
     {
-        Ok(Bits {
-            bits: SmallVec::from_slice(alloc, bits)?,
-        })
+        match bits {
+            [bit] => Ok(Bits::one(*bit)),
+            _ => Ok(Bits::of(Vec::from_slice(alloc, bits)?)),
+        }
     }
 
     /// These bits, from the left; takes no memory.
     pub fn of(bits: Vec<Bit>) -> Bits
         ensures value { result ≡ bits.items }
     {
-        Bits {
-            bits: SmallVec::from_vec(bits),
+        match bits.as_slice() {
+            [bit] => Bits::one(*bit),
+            _ => Bits {
+                kept: Kept::Apart(bits),
+            },
         }
-    }
-
-    /// The bits as a vector, or want of memory. Up to two lie in the value itself and need a place; more take no memory.
-    pub fn into_vec(self) -> Result<Vec<Bit>, NoMemory>
-        ensures value { IfOk result (λ bits. bits.items ≡ self) }
-    {
-        Ok(self.bits.into_vec()?)
     }
 
     /// The bits in order, from the left. Takes no memory.
     pub fn as_slice(&self) -> &[Bit]
         ensures value { result.now ≡ self.now }
     {
-        self.bits.as_slice()
-    }
-
-    /// Puts a bit behind the last one; after want of memory the bits are as before.
-    pub fn push(&mut self, bit: Bit) -> Result<(), NoMemory>
-        ensures ok { OnOk result (self.new ≡ self.old ++ bit ∷ []) }
-        ensures unchanged { OnErr result (self.new ≡ self.old) }
-    {
-        self.bits.push(bit)?;
-        Ok(())
+        match &self.kept {
+            Kept::One(bit) => slice::from_ref(bit),
+            Kept::Apart(bits) => bits.as_slice(),
+        }
     }
 }

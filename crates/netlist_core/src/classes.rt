@@ -11,9 +11,16 @@ use std::alloc::Global;
 use std::marker::Model;
 
 /// Which nets are joined by assigns, which contracts see as the list of the nets' class numbers.
-#[derive(Debug, Drop)]
+#[derive(Debug)]
 pub struct Classes {
     pub(crate) classes: Vec<u32>,
+}
+
+// By hand, so that it is proved here and not again wherever one is dropped.
+impl Drop for Classes {
+    fn drop(self) {
+        let Classes { classes: _classes } = self;
+    }
 }
 
 impl Model for Classes {

@@ -1,6 +1,6 @@
 //! A flat netlist: nets, ports, assigns and instances, and which nets are joined (IEEE 1364-2005, in this profile).
 //!
-//! Floor: readers, on base_types and `smallvec`.
+//! Floor: readers, on base_types.
 //! Contract: two nets have one class exactly where `specs/Joining.antt` says that they are joined. Begin with
 //! `netlist.rt`.
 #![tactic(auto)]

@@ -20,11 +20,21 @@ pub enum Bit {
 }
 
 /// An expression: its bits from the left, and where it stands.
-#[derive(Debug, Drop)]
+#[derive(Debug)]
 pub struct Expr {
     pub bits: Bits,
     /// From the first token to the last; in `.pin()` empty, at the closing parenthesis.
     pub span: Span,
+}
+
+// By hand, so that it is proved here and not again wherever one is dropped.
+impl Drop for Expr {
+    fn drop(self) {
+        let Expr {
+            bits: _bits,
+            span: _span,
+        } = self;
+    }
 }
 
 /// The direction of a port (IEEE 1364-2005, 12.3.3).
@@ -61,7 +71,7 @@ pub struct Connection {
 }
 
 /// An instance of a cell (IEEE 1364-2005, 12.1.2).
-#[derive(Debug, Drop)]
+#[derive(Debug)]
 pub struct Instance {
     /// The plain name.
     pub name: Name,
@@ -69,6 +79,18 @@ pub struct Instance {
     pub connections: Rows<Connection>,
     /// The line of the statement, from 1.
     pub line: u64,
+}
+
+// By hand, so that it is proved here and not again wherever one is dropped.
+impl Drop for Instance {
+    fn drop(self) {
+        let Instance {
+            name: _name,
+            cell: _cell,
+            connections: _connections,
+            line: _line,
+        } = self;
+    }
 }
 
 /// How a net bit is named.
@@ -81,7 +103,7 @@ pub struct NetName {
 }
 
 /// A module.
-#[derive(Debug, Drop)]
+#[derive(Debug)]
 pub struct Netlist {
     pub module: Name,
     /// The line of `module`, from 1.
@@ -96,4 +118,19 @@ pub struct Netlist {
     pub assigns: Rows<Assign>,
     /// The instances, in file order.
     pub instances: Rows<Instance>,
+}
+
+// By hand, so that it is proved here and not again wherever one is dropped.
+impl Drop for Netlist {
+    fn drop(self) {
+        let Netlist {
+            module: _module,
+            line: _line,
+            nets: _nets,
+            declared: _declared,
+            ports: _ports,
+            assigns: _assigns,
+            instances: _instances,
+        } = self;
+    }
 }

@@ -37,7 +37,7 @@ fn blank_expr(alloc: Global, expr: &Expr) -> Expr
     ensures value { result.bits ≡ Unknown ∷ [] }
 {
     Expr {
-        bits: Bits::one(alloc, Bit::Unknown),
+        bits: Bits::one(Bit::Unknown),
         span: expr.span,
     }
 }

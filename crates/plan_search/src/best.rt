@@ -19,7 +19,7 @@ use std::alloc::Global;
 use wire_cost::Ends;
 
 /// A plan with its length, beside those of the plan as read and of the nearest plan, in half database units.
-#[derive(Debug, Drop)]
+#[derive(Debug)]
 pub struct MeasuredPlan {
     pub plan: Plan,
     /// The length of the plan as read.
@@ -28,6 +28,18 @@ pub struct MeasuredPlan {
     pub nearest_length: i64,
     /// The length of this plan.
     pub length: i64,
+}
+
+// By hand, so that it is proved here and not again wherever one is dropped.
+impl Drop for MeasuredPlan {
+    fn drop(self) {
+        let MeasuredPlan {
+            plan: _plan,
+            read_length: _read_length,
+            nearest_length: _nearest_length,
+            length: _length,
+        } = self;
+    }
 }
 
 // The shorter of the plan as read and another one, which has the same members.

@@ -10,12 +10,23 @@ use stil_tester::Chains;
 
 /// What a call's way from old chains to new ones needs: both, with the parities of their bits.
 /// Contracts see it as the pair of the old and the new chains.
-#[derive(Debug, Drop)]
+#[derive(Debug)]
 pub struct Map {
     pub(crate) old: Route,
     pub(crate) new: Route,
     /// The bits of the longest new chain.
     pub(crate) shifts: usize,
+}
+
+// By hand, so that it is proved here and not again wherever one is dropped.
+impl Drop for Map {
+    fn drop(self) {
+        let Map {
+            old: _old,
+            new: _new,
+            shifts: _shifts,
+        } = self;
+    }
 }
 
 impl Model for Map {

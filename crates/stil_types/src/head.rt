@@ -33,7 +33,7 @@ pub struct Callee {
 }
 
 /// What stands before the first Pattern.
-#[derive(Debug, Drop)]
+#[derive(Debug)]
 pub struct StilHead {
     pub chains: Rows<ScanChainDecl>,
     pub procedures: Rows<Callee>,
@@ -44,4 +44,18 @@ pub struct StilHead {
     pub marks: bool,
     /// The byte place at which the head ends.
     pub end: u32,
+}
+
+// By hand, so that it is proved here and not again wherever one is dropped.
+impl Drop for StilHead {
+    fn drop(self) {
+        let StilHead {
+            chains: _chains,
+            procedures: _procedures,
+            macros: _macros,
+            keywords: _keywords,
+            marks: _marks,
+            end: _end,
+        } = self;
+    }
 }

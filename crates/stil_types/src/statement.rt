@@ -2,7 +2,7 @@ use base_types::{Rows, Text};
 
 /// The data of one scan call: one place for each scan chain, in the order of the ScanChain blocks
 /// (IEEE 1450-1999, ScanStructures and Shift).
-#[derive(Debug, Drop)]
+#[derive(Debug)]
 pub struct ScanCall {
     /// How often the call shifts: the length of its longest string.
     pub shifts: usize,
@@ -12,8 +12,19 @@ pub struct ScanCall {
     pub compares: Rows<Option<Text>>,
 }
 
+// By hand, so that it is proved here and not again wherever one is dropped.
+impl Drop for ScanCall {
+    fn drop(self) {
+        let ScanCall {
+            shifts: _shifts,
+            loads: _loads,
+            compares: _compares,
+        } = self;
+    }
+}
+
 /// A statement in the block of a Loop. The places are byte places in the Loop's text.
-#[derive(Debug, Drop)]
+#[derive(Debug)]
 pub struct BodyStatement {
     /// The place of its first byte.
     pub start: u32,
@@ -23,6 +34,18 @@ pub struct BodyStatement {
     pub line: u64,
     /// What is shifted in and compared, exactly where it is a Scan.
     pub call: Option<ScanCall>,
+}
+
+// By hand, so that it is proved here and not again wherever one is dropped.
+impl Drop for BodyStatement {
+    fn drop(self) {
+        let BodyStatement {
+            start: _start,
+            end: _end,
+            line: _line,
+            call: _call,
+        } = self;
+    }
 }
 
 /// A statement of a Pattern (IEEE 1450-1999, Pattern statements).

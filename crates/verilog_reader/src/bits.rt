@@ -14,8 +14,8 @@ use verilog_checks::small_value;
 use verilog_names::{Bounds, Entry, offset_in, unescaped, width, width_or_one};
 use verilog_syntax::{Expression, Item};
 
-fn push_nets(bits: &mut Bits, first: u32, end: u32) -> Result<(), NoMemory>
-    ensures ok { OnOk result (bits.new ≡ bits.old ++ net_bits first (end - first)) }
+fn push_nets(bits: &mut Vec<Bit>, first: u32, end: u32) -> Result<(), NoMemory>
+    ensures ok { OnOk result (bits.new.items ≡ bits.old.items ++ net_bits first (end - first)) }
 {
     for number in first..end {
         bits.push(Bit::Net(NetId(number)))?;
@@ -23,34 +23,35 @@ fn push_nets(bits: &mut Bits, first: u32, end: u32) -> Result<(), NoMemory>
     Ok(())
 }
 
-fn push_all(bits: &mut Bits, entry: Entry) -> Result<(), NoMemory>
+fn push_all(bits: &mut Vec<Bit>, entry: Entry) -> Result<(), NoMemory>
     requires { entry.first + width_or_one entry.bounds < 2 ^ 32 }
-    ensures ok { OnOk result (bits.new ≡ bits.old ++ all_bits (Some entry)) }
+    ensures ok { OnOk result (bits.new.items ≡ bits.old.items ++ all_bits (Some entry)) }
 {
     let end = entry.first + width_or_one(entry.bounds) as u32;
     push_nets(bits, entry.first, end)
 }
 
-fn push_one(bits: &mut Bits, entry: Entry, index: u32) -> Result<(), NoMemory>
+fn push_one(bits: &mut Vec<Bit>, entry: Entry, index: u32) -> Result<(), NoMemory>
     requires within { entry.first + width_or_one entry.bounds < 2 ^ 32 }
     requires selects { selects entry.bounds index ≡ true }
-    ensures ok { OnOk result (bits.new ≡ bits.old ++ one_bit (Some entry) index) }
+    ensures ok { OnOk result (bits.new.items ≡ bits.old.items ++ one_bit (Some entry) index) }
 {
-    bits.push(Bit::Net(NetId(entry.first + offset_in(entry.bounds, index))))
+    bits.push(Bit::Net(NetId(entry.first + offset_in(entry.bounds, index))))?;
+    Ok(())
 }
 
-fn push_part(bits: &mut Bits, entry: Entry, part: Bounds) -> Result<(), NoMemory>
+fn push_part(bits: &mut Vec<Bit>, entry: Entry, part: Bounds) -> Result<(), NoMemory>
     requires within { entry.first + width_or_one entry.bounds < 2 ^ 32 }
     requires selects { selects_part entry.bounds part ≡ true }
-    ensures ok { OnOk result (bits.new ≡ bits.old ++ part_bits (Some entry) part) }
+    ensures ok { OnOk result (bits.new.items ≡ bits.old.items ++ part_bits (Some entry) part) }
 {
     let first = entry.first + offset_in(entry.bounds, part.left);
     push_nets(bits, first, first + width(part) as u32)
 }
 
-fn push_constant(alloc: Global, bits: &mut Bits, text: &[u8]) -> Result<(), NoMemory>
+fn push_constant(alloc: Global, bits: &mut Vec<Bit>, text: &[u8]) -> Result<(), NoMemory>
     requires { is_bad_size text.now ≡ false }
-    ensures ok { OnOk result (bits.new ≡ bits.old ++ constant_bits text.now) }
+    ensures ok { OnOk result (bits.new.items ≡ bits.old.items ++ constant_bits text.now) }
 {
     for bit in constant_bits(alloc, text)?.into_vec() {
         bits.push(bit)?;
@@ -61,13 +62,13 @@ fn push_constant(alloc: Global, bits: &mut Bits, text: &[u8]) -> Result<(), NoMe
 /// The item's bits, whose net may be new.
 fn push_item<'a>(
     alloc: Global,
-    bits: &mut Bits,
+    bits: &mut Vec<Bit>,
     nets: &mut Nets<'a>,
     item: &Item<'a>,
 ) -> Result<(), NoMemory>
     requires { IsFineItem (with_mentioned nets.old (mentions_of item.now)) item.now }
     ensures ok { OnOk result (nets.new ≡ with_mentioned nets.old (mentions_of item.now)) }
-    ensures made { OnOk result (bits.new ≡ bits.old ++ numbered_item nets.new item.now) }
+    ensures made { OnOk result (bits.new.items ≡ bits.old.items ++ numbered_item nets.new item.now) }
 {
     match item {
         Item::Open | Item::Comma | Item::Close => Ok(()),
@@ -96,11 +97,11 @@ fn bits_of_items<'a>(
     ensures ok { OnOk result (nets.new ≡ with_items nets.old items.now) }
     ensures value { IfOk result (λ bits. bits ≡ numbered_items nets.new items.now) }
 {
-    let mut bits = Bits::with_room(alloc, items.len())?;
+    let mut bits = Vec::with_capacity(alloc, items.len())?;
     for item in items {
         push_item(alloc, &mut bits, nets, item)?;
     }
-    Ok(bits)
+    Ok(Bits::of(bits))
 }
 
 fn bits_of_entry(alloc: Global, entry: Entry) -> Result<Bits, NoMemory>
@@ -108,11 +109,11 @@ fn bits_of_entry(alloc: Global, entry: Entry) -> Result<Bits, NoMemory>
     ensures value { IfOk result (λ bits. bits ≡ all_bits (Some entry)) }
 {
     if entry.bounds.is_none() {
-        return Ok(Bits::one(alloc, Bit::Net(NetId(entry.first))));
+        return Ok(Bits::one(Bit::Net(NetId(entry.first))));
     }
-    let mut bits = Bits::with_room(alloc, width_or_one(entry.bounds) as usize)?;
+    let mut bits = Vec::with_capacity(alloc, width_or_one(entry.bounds) as usize)?;
     push_all(&mut bits, entry)?;
-    Ok(bits)
+    Ok(Bits::of(bits))
 }
 
 fn bits_of_item<'a>(alloc: Global, nets: &mut Nets<'a>, item: &Item<'a>) -> Result<Bits, NoMemory>
@@ -123,9 +124,9 @@ fn bits_of_item<'a>(alloc: Global, nets: &mut Nets<'a>, item: &Item<'a>) -> Resu
     if let Item::Name(name) = item {
         return bits_of_entry(alloc, nets.entry_or_add(unescaped(name))?);
     }
-    let mut bits = Bits::new(alloc);
+    let mut bits = Vec::new(alloc);
     push_item(alloc, &mut bits, nets, item)?;
-    Ok(bits)
+    Ok(Bits::of(bits))
 }
 
 /// The bits of pieces, which mostly are one name.

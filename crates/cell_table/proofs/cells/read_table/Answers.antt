@@ -1,9 +1,8 @@
-use Rattle.std.proofs.Common.{◌≡◌, Some, sym, ◌∙◌, subst}
+use Rattle.std.proofs.Common.{sym, ◌∙◌, subst}
 use Rattle.std.proofs.lemmas.Bool.{false≢true}
-use Rattle.std.proofs.lemmas.Option.{same_Some}
 use Rattle.toml.specs.View.{table_view}
 use Rattle.base_types.specs.FirstFault.{Answers}
-use Rattle.cell_table.specs.Cells.{Cells, document_at}
+use Rattle.cell_table.specs.Cells.{Cells}
 use Rattle.cell_table.proofs.Documents.{taken, refused, read_at, unread}
 use Rattle.cell_table.proofs.TableFaults.{answered, denoted, syntax_first}
 use Rattle.cell_table.proofs.cells.read_table.Goals as goal

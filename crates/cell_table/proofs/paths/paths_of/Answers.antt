@@ -1,7 +1,7 @@
 use Rattle.std.proofs.lemmas.Result.{err_from_is_err_and}
 use Rattle.cell_table.specs.Ascending.{HasOutsInOrder}
 use Rattle.cell_table.specs.Cells.{path_of}
-use Rattle.cell_table.proofs.Loops.{front_none, item_goes_on, item_gives, items_end}
+use Rattle.cell_table.proofs.Loops.{item_goes_on, item_gives, items_end}
 use Rattle.cell_table.proofs.Orders.{each_more}
 use Rattle.cell_table.proofs.paths.paths_of.Goals as goal
 

@@ -25,9 +25,9 @@ returns c = record {
       c.in_ok-puts.ensures.value q ∙ ap₂ (λ (ts : List TailEdit) (ps : List PinEdit). option_or (tail_put n ts q.0 q.1.now) (pin_put n t ps q.0 q.1.now)) tails c.as_slice.ensures.value ∙ puts_are n t old new edits e q.0 q.1.now in
       let right : (place : ℕ) → get ◌==◌ c.in_ok-rights.rights place ≡ assign_put n edits.ports place = λ place.
       c.in_ok-rights.ensures.value place ∙ ap (λ (ps : List PortEdit). assign_put n ps place) c.as_slice-2.ensures.value in
-      let nets = c.nets.view_is ∙ c.in_ok-add_nets.ensures.value ∙ ap₂ (λ (ns : List NetName) (ts : List TailEdit). ns ++ map (λ t. net_named t.tail) ts) (c.in_ok-nets.ensures.value ∙ c.as_slice-3.ensures.value) tails in
+      let nets = c.in_ok-add_nets.ensures.value ∙ ap₂ (λ (ns : List NetName) (ts : List TailEdit). ns ++ map (λ t. net_named t.tail) ts) (c.in_ok-nets.ensures.value ∙ c.as_slice-3.ensures.value) tails in
       let first = c.in_ok-assigns.ensures.value ∙ ap (map_from (put_assign (get ◌==◌ c.in_ok-rights.rights)) 0) c.as_slice-4.ensures.value ∙ rights_are n t old new edits e (get ◌==◌ c.in_ok-rights.rights) right in
-      let assigns = c.assigns.view_is ∙ c.in_ok-add_assigns.ensures.value ∙ ap₂ (λ (l : List Assign) (ts : List TailEdit). l ++ map (tail_assign n) ts) first tails in
+      let assigns = c.in_ok-add_assigns.ensures.value ∙ ap₂ (λ (l : List Assign) (ts : List TailEdit). l ++ map (tail_assign n) ts) first tails in
       let instances = c.in_ok-put_instances.ensures.value at has ∙ ap (map_from (put_instance at) 0) c.as_slice-6.ensures.value in
       rebuilt n t old new edits e _ _ _ _ _ (c.in_ok-copy.ensures.value ∙ c.bytes.ensures.value) nets (c.of.ensures.value ∙ c.in_ok-ports.ensures.items ∙ c.as_slice-5.ensures.value) assigns instances;
 }

@@ -20,7 +20,7 @@ loop-item-preserved c =
     let is = left_is xs i x c.loop-item-test.true c.item-item.is in
     record {
       nets = item_nets c.loop-item.nets (with_items c.args.nets.now xs) (drop i xs) (drop (i + 1) xs) x is c.loop-item.invariant.nets c.push_item.new.nets c.in_ok-push_item.ensures.ok;
-      bits = item_bits c.loop-item.nets (with_items c.args.nets.now xs) (drop i xs) (drop (i + 1) xs) x is c.loop-item.invariant.nets c.push_item.new.nets c.loop-item.bits c.push_item.new.bits _ c.in_ok-push_item.ensures.ok
+      bits = item_bits c.loop-item.nets (with_items c.args.nets.now xs) (drop i xs) (drop (i + 1) xs) x is c.loop-item.invariant.nets c.push_item.new.nets c.loop-item.bits.items c.push_item.new.bits.items _ c.in_ok-push_item.ensures.ok
           c.in_ok-push_item.ensures.made c.loop-item.invariant.bits;
     }
 

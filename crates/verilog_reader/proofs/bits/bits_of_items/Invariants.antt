@@ -5,5 +5,5 @@ use Rattle.verilog_reader.proofs.bits.bits_of_items.Given as goal
 abbrev pub invariant-loop-item : goal.invariant-loop-item
 invariant-loop-item l = record {
   nets : with_items l.nets (drop l.item-index l.items) ≡ with_items l.initial.nets l.items;
-  bits : l.bits ++ numbered_items (with_items l.initial.nets l.items) (drop l.item-index l.items) ≡ numbered_items (with_items l.initial.nets l.items) l.items;
+  bits : l.bits.items ++ numbered_items (with_items l.initial.nets l.items) (drop l.item-index l.items) ≡ numbered_items (with_items l.initial.nets l.items) l.items;
 }

@@ -3,4 +3,4 @@ use Rattle.verilog_reader.specs.Numbering.{net_bits}
 use Rattle.verilog_reader.proofs.bits.push_nets.Given as goal
 
 abbrev pub invariant-loop-number : goal.invariant-loop-number
-invariant-loop-number l = l.bits ++ net_bits l.number (l.end - l.number) ≡ l.initial.bits ++ net_bits l.first (l.end - l.first)
+invariant-loop-number l = l.bits.items ++ net_bits l.number (l.end - l.number) ≡ l.initial.bits.items ++ net_bits l.first (l.end - l.first)

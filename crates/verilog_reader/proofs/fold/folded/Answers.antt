@@ -24,7 +24,7 @@ returns-clause-value c =
     let nets = c.of-nets.ensures.value ∙ ap bounded c.requires.names ∙ bounded_firsts (declarations c.args.statements) in
     folded_is c.args.statements c.of-nets.result c.parts_of.new.nets _ _ _ _ _ _ _
     nets c.in_ok-assigns.ensures.ok
-    (c.module.view_is ∙ c.in_ok-module.ensures.value ∙ c.header_name.ensures.value ∙ ap header_name c.as_slice.ensures.value)
+    (c.in_ok-module.ensures.value ∙ c.header_name.ensures.value ∙ ap header_name c.as_slice.ensures.value)
     (c.header_line-line.ensures.value ∙ ap header_line c.as_slice-2.ensures.value)
     c.in_ok-names.ensures.value c.count-declared.ensures.value
     (c.in_ok-ports.ensures.value ∙ ap (numbered_ports c.of-nets.result) c.as_slice-3.ensures.value)
