@@ -12,14 +12,6 @@ ghost use Rattle.stil_tester.specs.Shifting.{AreChains, IsCallFor};
 
 mod made;
 mod plain;
-#[cfg(test)]
-mod playing;
-#[cfg(test)]
-mod small;
-#[cfg(test)]
-mod sweep;
-#[cfg(test)]
-mod tests;
 
 use anyhow::{Context, Result, bail, ensure};
 use base_types::Text;

@@ -1,0 +1,134 @@
+//! Commands over desks in memory.
+ghost use Rattle.std.specs.Prelude.{IfOk};
+ghost use Rattle.desk_io.specs.Desk.{AllUnopened};
+ghost use Rattle.desk_io.specs.Memory.{slots_of};
+
+use crate::report::{compare, compare_number};
+use crate::row::{Row, items_of};
+use crate::texts::{Texts, WANTED, changed};
+use anyhow::{Context, Result, bail};
+use base_types::{Text, Word};
+use desk_io::{MemoryDesk, Slot};
+use scan_job::run;
+use std::alloc::Global;
+use toml::Value;
+
+/// The files that are read.
+const INPUTS: [(Slot, &str); 5] = [
+    (Slot::Table, "t.toml"),
+    (Slot::Lef, "m.lef"),
+    (Slot::Verilog, "v.v"),
+    (Slot::Def, "d.def"),
+    (Slot::Stil, "s.stil"),
+];
+
+/// The files that are written, with the file that each is made of.
+const OUTPUTS: [(Slot, &str, &str); 3] = [
+    (Slot::OutVerilog, "w.v", "v.v"),
+    (Slot::OutDef, "w.def", "d.def"),
+    (Slot::OutStil, "w.stil", "s.stil"),
+];
+
+/// The bytes that a read or a write moves at most.
+const PORTION: usize = 4096;
+
+/// The most that is written to a file or to the console.
+const ROOM: usize = 4_194_304;
+
+/// The words of a line, between which stands one space.
+pub(crate) fn push_words(alloc: Global, words: &mut Vec<Word>, line: &str) -> Result<()> {
+    if !line.is_empty() {
+        for word in line.split(' ') {
+            words.push(Word::of(String::from_str(alloc, word)?))?;
+        }
+    }
+    Ok(())
+}
+
+/// A desk over the texts whose calls don't fail.
+fn desk_of(alloc: Global, texts: &Texts<'_>) -> Result<MemoryDesk>
+    ensures { IfOk result (λ desk. AllUnopened (slots_of desk)) }
+{
+    let mut files = Vec::new(alloc);
+    for (slot, file) in INPUTS {
+        files.push((slot, Text::of(Vec::from_slice(alloc, texts.text(file))?)))?;
+    }
+    let room = texts.len().saturating_add(PORTION).min(ROOM);
+    match MemoryDesk::new(
+        alloc,
+        files,
+        Vec::new(alloc),
+        Vec::new(alloc),
+        PORTION,
+        room,
+    ) {
+        Ok(desk) => Ok(desk),
+        Err(_) => bail!("no memory"),
+    }
+}
+
+/// What must stand in a file that is written: a text, or the text that it is made of with changes.
+fn written(alloc: Global, wanted: &Value, read: &[u8]) -> Result<Vec<u8>> {
+    match wanted {
+        Value::String(text) => Ok(Vec::from_slice(alloc, text.as_bytes())?),
+        Value::Array(changes) => {
+            let mut text = Vec::from_slice(alloc, read)?;
+            for change in changes {
+                match items_of(change) {
+                    [Value::String(old), Value::String(new)] => {
+                        text = changed(alloc, &text, old.as_str(), new.as_str())?;
+                    }
+                    _ => bail!("a change is no old text and new text"),
+                }
+            }
+            Ok(text)
+        }
+        _ => bail!("what is written is no text and no changes"),
+    }
+}
+
+/// Compares the files that were written; nothing must stand in one of which the row says nothing.
+fn compare_written(
+    alloc: Global,
+    row: &Row<'_>,
+    texts: &Texts<'_>,
+    desk: &MemoryDesk,
+    report: &mut String,
+) -> Result<()> {
+    for (slot, file, from) in OUTPUTS {
+        let wanted = match row.written(file)? {
+            Some(wanted) => written(alloc, wanted, texts.text(from))?,
+            None => Vec::new(alloc),
+        };
+        compare(report, file, &wanted, desk.written(slot))?;
+    }
+    Ok(())
+}
+
+/// Runs a command, of which this line and the row's words are the words, and notes in the report what came otherwise.
+pub(crate) fn try_command(
+    alloc: Global,
+    form: &str,
+    row: &Row<'_>,
+    texts: &Texts<'_>,
+    report: &mut String,
+) -> Result<()> {
+    row.has_none(["text", "of"].as_slice())?;
+    let status = row.number("status")?.context("no status")?;
+    let mut words = Vec::new(alloc);
+    push_words(alloc, &mut words, form)?;
+    push_words(alloc, &mut words, row.text("words")?.unwrap_or(""))?;
+    let mut desk = desk_of(alloc, texts)?;
+    let came = run(alloc, &words, &mut desk);
+    compare_number(report, "status", status, u64::from(came))?;
+    compare(
+        report,
+        "console",
+        texts.text(WANTED),
+        desk.written(Slot::Console),
+    )?;
+    if let Some(calls) = row.number("calls")? {
+        compare_number(report, "calls", calls, desk.calls())?;
+    }
+    compare_written(alloc, row, texts, &desk, report)
+}
