@@ -5,8 +5,7 @@ use Rattle.desk_io.specs.declared.slot.Slot.{Slot}
 use Rattle.desk_io.specs.Number.{number}
 use Rattle.desk_io.specs.Desk.{SlotState, IsInput, SameElsewhere}
 use Rattle.desk_io.specs.Prefixes.{HasTakenFile}
-use Rattle.desk_io.specs.declared.names.Names.{Names}
-use Rattle.desk_io.specs.Names.{IsNamed}
+use Rattle.desk_io.specs.Names.{Names, IsNamed}
 use Rattle.desk_io.specs.Inputs.{limit_of, taken_at, input_at, HasTakenInputs}
 use Rattle.desk_io.proofs.Slots.{number_once}
 

@@ -1,9 +1,9 @@
 -- What stands at each slot of a desk, and which slots a call leaves alone.
 use Rattle.std.specs.Prelude.{◌≡◌, ◌≢◌, ℕ, Bool, List, Option}
 use Rattle.desk_io.specs.declared.slot.Slot.{Slot}
-use Rattle.desk_io.specs.declared.slot.Slot.TheVariants.{Table, Lef, Verilog, Def, Stil, OutVerilog, OutDef, OutStil, Console}
 use Rattle.desk_io.specs.declared.slot.Stage.{Stage}
 use Rattle.desk_io.specs.declared.slot.Stage.TheVariants.{Unopened, Open, Closed}
+use Rattle.desk_io.specs.Ways.{way_of, IsIn, IsOut}
 
 -- How far a slot has come, the bytes that are still to be read from it, those that were written to it, and its
 -- count of faults. Bytes that the desk doesn't tell are None.
@@ -31,27 +31,11 @@ AllUnopened slots = (slot : Slot) → IsUnopened (slots slot)
 
 -- a slot that is read
 abbrev pub IsInput : Slot → Type 0
-IsInput Table = Unit {0}
-IsInput Lef = Unit {0}
-IsInput Verilog = Unit {0}
-IsInput Def = Unit {0}
-IsInput Stil = Unit {0}
-IsInput OutVerilog = ⊥
-IsInput OutDef = ⊥
-IsInput OutStil = ⊥
-IsInput Console = ⊥
+IsInput slot = IsIn (way_of slot)
 
 -- a slot that is written: an output file, or the console
 abbrev pub IsOutput : Slot → Type 0
-IsOutput Table = ⊥
-IsOutput Lef = ⊥
-IsOutput Verilog = ⊥
-IsOutput Def = ⊥
-IsOutput Stil = ⊥
-IsOutput OutVerilog = Unit {0}
-IsOutput OutDef = Unit {0}
-IsOutput OutStil = Unit {0}
-IsOutput Console = Unit {0}
+IsOutput slot = IsOut (way_of slot)
 
 -- the slot, opened
 abbrev pub opened : SlotState → SlotState

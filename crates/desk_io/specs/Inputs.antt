@@ -1,26 +1,17 @@
 -- The inputs of a command, taken one after another.
 use Rattle.std.specs.Prelude.{◌≡◌, ◌<◌, ◌≤◌, ℕ, List, [], length, Option, Some, None, slice_index_or, unwrap_or, Result, Ok, Err}
 use Rattle.desk_io.specs.declared.slot.Slot.{Slot}
-use Rattle.desk_io.specs.declared.slot.Slot.TheVariants.{Table, Lef, Verilog, Def, Stil, OutVerilog, OutDef, OutStil, Console}
-use Rattle.desk_io.specs.declared.names.Names.{Names}
 use Rattle.desk_io.specs.declared.inputs.InputsFault.{InputsFault}
 use Rattle.desk_io.specs.declared.inputs.InputsFault.TheVariants.{TooLarge, Read, NoMemory}
 use Rattle.desk_io.specs.Number.{number}
 use Rattle.desk_io.specs.Desk.{SlotState, IsInput, IsUnopened, SameElsewhere}
 use Rattle.desk_io.specs.Prefixes.{HasTakenFile, IsTooLarge, HasFailedToTake, HasRunOut}
-use Rattle.desk_io.specs.Names.{IsNamed}
+use Rattle.desk_io.specs.Ways.{way_of, limit_in}
+use Rattle.desk_io.specs.Names.{Names, IsNamed}
 
 -- the most bytes that the file of an input may have
 abbrev pub limit_of : Slot → ℕ
-limit_of Table = 1048576
-limit_of Lef = 67108864
-limit_of Verilog = 67108864
-limit_of Def = 67108864
-limit_of Stil = 67108864
-limit_of OutVerilog = 67108864
-limit_of OutDef = 67108864
-limit_of OutStil = 67108864
-limit_of Console = 67108864
+limit_of slot = limit_in (way_of slot)
 
 -- the text that was taken from a slot, where one was
 abbrev pub taken_at : List (Option (List ℕ)) → Slot → Option (List ℕ)

@@ -8,3 +8,5 @@ pub mod Number
 pub mod Outputs
 pub mod Prefixes
 pub mod Sure
+pub mod Ways
+pub mod FileKinds

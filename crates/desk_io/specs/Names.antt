@@ -1,21 +1,22 @@
 -- The slots that the words of a command name.
-use Rattle.std.specs.Prelude.{◌≡◌, ℕ, Bool, List, [], Option, Some, IsSome, IsTrue}
+use Rattle.std.specs.Prelude.{◌≡◌, ℕ, Bool, List, [], ◌∷◌, nat_eq, if◌then◌else◌, Option, Some, None, IsSome, IsTrue}
 use Rattle.desk_io.specs.declared.slot.Slot.{Slot}
-use Rattle.desk_io.specs.declared.slot.Slot.TheVariants.{Table, Lef, Verilog, Def, Stil, OutVerilog, OutDef, OutStil, Console}
-use Rattle.desk_io.specs.declared.names.Names.{Names}
+use Rattle.desk_io.specs.declared.slot.Slot.TheVariants.{Console}
+use Rattle.desk_io.specs.Number.{number}
 use Rattle.desk_io.specs.Desk.{SlotState}
 
--- the name of a slot, where it has one: the value of its option, and the empty name of the console
+-- the slots that a command uses, each with its name: the value of its option
+abbrev pub Names : Type 0
+Names = List (Slot × List ℕ)
+
+-- the name that a slot has first
+abbrev pub name_in : Names → Slot → Option (List ℕ)
+name_in [] slot = None
+name_in (first ∷ names) slot = if nat_eq (number first.0) (number slot) then Some first.1 else name_in names slot
+
+-- the name of a slot, where it has one; each command uses the console, whose name is empty
 abbrev pub name_at : Names → Slot → Option (List ℕ)
-name_at names Table = names.table
-name_at names Lef = names.lef
-name_at names Verilog = names.verilog
-name_at names Def = names.def
-name_at names Stil = names.stil
-name_at names OutVerilog = names.out_verilog
-name_at names OutDef = names.out_def
-name_at names OutStil = names.out_stil
-name_at names Console = Some []
+name_at names slot = name_in ((Console, []) ∷ names) slot
 
 -- the slot has a name
 abbrev pub IsNamed : Names → Slot → Type 0

@@ -1,37 +1,29 @@
 -- The outputs of a command, put one after another.
 use Rattle.std.specs.Prelude.{◌≡◌, ◌<◌, ℕ, List, []}
 use Rattle.desk_io.specs.declared.slot.Slot.{Slot}
-use Rattle.desk_io.specs.declared.slot.Slot.TheVariants.{Table, Lef, Verilog, Def, Stil, OutVerilog, OutDef, OutStil, Console}
-use Rattle.desk_io.specs.declared.names.Names.{Names}
+use Rattle.desk_io.specs.declared.slot.Slot.TheVariants.{OutVerilog, OutDef, OutStil, Console}
 use Rattle.desk_io.specs.declared.outputs.Outputs.{Outputs}
 use Rattle.desk_io.specs.Desk.{SlotState, IsOutput, IsUnopened, SameElsewhere}
 use Rattle.desk_io.specs.Causes.{HasRisen}
 use Rattle.desk_io.specs.Prefixes.{HasPutFile, HoldsPrefix}
-use Rattle.desk_io.specs.Names.{IsNamed}
+use Rattle.desk_io.specs.Ways.{way_of, turn_in}
+use Rattle.desk_io.specs.Names.{Names, IsNamed}
 
 -- the text that is to be put at a slot
 abbrev pub output_at : Outputs → Slot → List ℕ
-output_at outputs Table = []
-output_at outputs Lef = []
-output_at outputs Verilog = []
-output_at outputs Def = []
-output_at outputs Stil = []
 output_at outputs OutVerilog = outputs.verilog
 output_at outputs OutDef = outputs.def
 output_at outputs OutStil = outputs.stil
 output_at outputs Console = outputs.console
+output_at outputs slot = []
+
+-- the outputs of a command that says this and writes no file
+abbrev pub saying : List ℕ → Outputs
+saying text = record { verilog = []; def = []; stil = []; console = text }
 
 -- the place of an output in the order in which they are put
 abbrev pub turn : Slot → ℕ
-turn OutStil = 0
-turn OutVerilog = 1
-turn OutDef = 2
-turn Console = 3
-turn Table = 4
-turn Lef = 4
-turn Verilog = 4
-turn Def = 4
-turn Stil = 4
+turn slot = turn_in (way_of slot)
 
 -- no output was opened yet
 abbrev pub OutputsUnopened : (Slot → SlotState) → Type 0

@@ -9,18 +9,12 @@ ghost use Rattle.desk_io.specs.Inputs.{limit_of, input_at, InputsUnopened, HasTa
 use crate::desk::Desk;
 use crate::file::take_file;
 use crate::names::{Names, name_of};
-use crate::slot::{INPUTS, Slot};
+use crate::slot::{FILE_LIMIT, INPUTS, Slot, Way};
 use crate::take::TakeFault;
 use base_types::Text;
 use std::alloc::Global;
 use std::marker::Model;
 use thiserror::Error;
-
-/// The most bytes of a cell table.
-const TABLE_LIMIT: u64 = 1048576;
-
-/// The most bytes of any other file.
-const FILE_LIMIT: u64 = 67108864;
 
 /// Why the inputs weren't all taken.
 #[derive(Clone, Copy, Debug, PartialEq, Eq, Error)]
@@ -67,9 +61,9 @@ impl Inputs {
 pub fn limit_of(slot: Slot) -> u64
     ensures value { result ≡ limit_of slot }
 {
-    match slot {
-        Slot::Table => TABLE_LIMIT,
-        _ => FILE_LIMIT,
+    match slot.way() {
+        Way::In(limit) => limit,
+        Way::Out(_) => FILE_LIMIT,
     }
 }
 

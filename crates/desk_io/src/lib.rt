@@ -25,6 +25,6 @@ pub use memory::MemoryDesk;
 pub use names::{Names, name_of};
 pub use outputs::{Outputs, put_outputs};
 pub use put::{PutFault, put_all};
-pub use slot::{INPUTS, SLOTS, Slot, Stage};
+pub use slot::{INPUTS, SLOTS, Slot, Stage, Way, slot_of};
 pub use sure::SureDesk;
 pub use take::{TakeFault, take_all};

@@ -2,7 +2,7 @@ ghost use Rattle.std.specs.Prelude.{◌≡◌, ◌<◌, OnOk, OnErr};
 ghost use Rattle.desk_io.specs.Desk.{IsOutput, SameNames};
 ghost use Rattle.desk_io.specs.Causes.{SomeRose, SameCounts};
 ghost use Rattle.desk_io.specs.Names.{AllowsNames, OnlyNamed};
-ghost use Rattle.desk_io.specs.Outputs.{output_at, turn, OutputsUnopened, HasPutOutputs, HasStoppedPutting, HoldsPrefixes};
+ghost use Rattle.desk_io.specs.Outputs.{output_at, saying, turn, OutputsUnopened, HasPutOutputs, HasStoppedPutting, HoldsPrefixes};
 
 use crate::desk::Desk;
 use crate::file::put_file;
@@ -10,6 +10,7 @@ use crate::names::{Names, name_of};
 use crate::put::PutFault;
 use crate::slot::Slot;
 use base_types::Text;
+use std::alloc::Global;
 
 /// How many outputs there are, the console among them.
 const OUTPUTS: usize = 4;
@@ -21,6 +22,20 @@ pub struct Outputs {
     pub def: Text,
     pub stil: Text,
     pub console: Text,
+}
+
+impl Outputs {
+    /// The outputs of a command that says this and writes no file. Takes no memory.
+    pub fn saying(alloc: Global, console: Text) -> Outputs
+        ensures value { result ≡ saying console }
+    {
+        Outputs {
+            verilog: Text::of(Vec::new(alloc)),
+            def: Text::of(Vec::new(alloc)),
+            stil: Text::of(Vec::new(alloc)),
+            console,
+        }
+    }
 }
 
 /// The text of an output slot.

@@ -1,4 +1,11 @@
 pub mod Values
+pub mod Agreeing
+pub mod Options
+pub mod RewireLaws
+pub mod TraceLaws
+pub mod CheckLaws
+pub mod ReorderLaws
+pub mod PlayLaws
 pub mod Asked
 pub mod Sizes
 pub mod Phases

@@ -1,10 +1,9 @@
 -- What a run leaves, from what its phases leave.
-use Rattle.std.proofs.Common.{◌≡◌, ◌≢◌, ◌<◌, ◌≤◌, ◌⊎◌, ℕ, zero, suc, Bool, true, false, List, [], ◌++◌, length, Option, Some, None, option_map, IfSome, IsSome, Result, Ok, Err, nat_lt, refl, sym, ◌∙◌, ap, subst, append-nil, length-append, arith, inl, inr}
-use Rattle.std.proofs.lemmas.Bool.Decides.{nat_tests}
+use Rattle.std.proofs.Common.{◌≡◌, ◌≢◌, ◌<◌, ◌≤◌, ◌^◌, ◌⊎◌, ℕ, false, List, [], ◌++◌, length, Option, Some, None, option_map, IfSome, IsSome, Result, Ok, Err, refl, sym, ◌∙◌, ap, subst, append-nil, length-append, arith, inl, inr}
 use Rattle.base_types.specs.declared.fault.Fault.{Fault}
-use Rattle.base_types.specs.FirstFault.{IsFirstFault}
+use Rattle.base_types.specs.declared.kind.Kind.{Kind}
 use Rattle.desk_io.specs.declared.slot.Slot.{Slot}
-use Rattle.desk_io.specs.declared.slot.Slot.TheVariants.{Table, Lef, Verilog, Def, Stil, OutVerilog, OutDef, OutStil, Console}
+use Rattle.desk_io.specs.declared.slot.Slot.TheVariants.{Table, OutVerilog, OutDef, OutStil, Console}
 use Rattle.desk_io.specs.declared.outputs.Outputs.{Outputs}
 use Rattle.desk_io.specs.Number.{number}
 use Rattle.desk_io.specs.Desk.{SlotState, SameElsewhere, IsInput, IsOutput, IsUnopened, IsOpen, IsClosed, AllUnopened}
@@ -13,24 +12,17 @@ use Rattle.desk_io.specs.Prefixes.{IsAtEnd, IsAppended, HasTakenFile, IsTooLarge
 use Rattle.desk_io.specs.Names.{name_at}
 use Rattle.desk_io.specs.Inputs.{limit_of, input_at, HasTakenInputs, HasStoppedAt}
 use Rattle.desk_io.specs.Outputs.{output_at, turn}
-use Rattle.scan_job.specs.declared.request.Request.{Request}
-use Rattle.scan_job.specs.declared.request.Request.TheVariants as requests
 use Rattle.scan_job.specs.declared.stop.Stop.{Stop}
 use Rattle.scan_job.specs.declared.stop.Stop.TheVariants.{NoForm, Refused, InputFailed, OutputFailed, NoMemory}
-use Rattle.chain_rewire.specs.Faults.{IsRewireFault}
-use Rattle.path_report.specs.Reports.{IsPathText, IsPathFault}
-use Rattle.design_files.specs.Files.{Texts, texts_of}
-use Rattle.design_files.specs.Faults.{IsFilesFault}
-use Rattle.check_report.specs.Checks.{IsCheckText}
-use Rattle.play_report.specs.Faults.{HoldsInPlay}
-use Rattle.play_report.specs.Files.{IsPlayText}
-use Rattle.scan_job.specs.Requests.{names_of, rewire_of}
+use Rattle.scan_job.specs.Requests.{Request, command_of, names_of}
 use Rattle.scan_job.specs.Faults.{size_fault, IsOver, AreSmall, IsCommandFault, HasNoCommandFault, IsRunFault, HasNoFault, IsFoundWriting}
-use Rattle.scan_job.specs.Texts.{AreTexts, AreRewired, AreReordered, AreOutputsOf, AreOutputsBefore}
+use Rattle.scan_job.specs.Texts.{AreOutputsOf, AreOutputsBefore}
 use Rattle.scan_job.specs.TopCall.{Slots, IsUsed, Reads, SameEverywhere, SameUnused, SameOutputs, SameDesign, AreFilesRefused}
 use Rattle.scan_job.specs.Ended.{IsDone, IsRefused, IsInputFailed, IsOutputFailed, IsOutOfMemory, HasEnded}
-use Rattle.scan_job.specs.Phases.{HasPutLine, HasFailedAtLine, HasSaid, AreJudged, HasPutAll, HasPutSome, HasFinished}
-use Rattle.scan_job.proofs.Sizes.{over_of, small_of, size_first, size_none}
+use Rattle.scan_job.specs.Phases.{HasPutLine, HasFailedAtLine, HasSaid, AreCountable, AreJudged, HasPutAll, HasPutSome, HasFinished}
+use Rattle.desk_io.proofs.Slots.{below_cases, slot_cases, input_or_output, not_both, at_slot, apart, low_number, early_turn}
+use Rattle.scan_job.proofs.Asked.{command_same, texts_same}
+use Rattle.scan_job.proofs.Sizes.{IsWhole, over_of, small_of, size_first, size_none}
 
 -- what was taken to the end is the whole file
 pub text_is : (u v : Option (List ℕ)) (text file : List ℕ) → u ≡ Some file → u ≡ option_map (λ rest. text ++ rest) v → IfSome v (λ rest. rest ≡ []) → text ≡ file
@@ -45,94 +37,6 @@ over_limit u (Some rest) taken file limit holds front over =
     let whole : taken ++ rest ≡ file = cc in
     omega (arith, ap length whole, length-append taken rest)
 
--- a slot is read or written, and never both
-pub input_or_output : (slot : Slot) → IsInput slot ⊎ IsOutput slot
-input_or_output Table = inl tt
-input_or_output Lef = inl tt
-input_or_output Verilog = inl tt
-input_or_output Def = inl tt
-input_or_output Stil = inl tt
-input_or_output OutVerilog = inr tt
-input_or_output OutDef = inr tt
-input_or_output OutStil = inr tt
-input_or_output Console = inr tt
-
-pub not_both : (slot : Slot) → IsInput slot → IsOutput slot → ⊥
-not_both Table input output = output
-not_both Lef input output = output
-not_both Verilog input output = output
-not_both Def input output = output
-not_both Stil input output = output
-not_both OutVerilog input output = input
-not_both OutDef input output = input
-not_both OutStil input output = input
-not_both Console input output = input
-
-pub low_number : (slot : Slot) → IsInput slot → number slot < 5
-low_number Table input = omega arith
-low_number Lef input = omega arith
-low_number Verilog input = omega arith
-low_number Def input = omega arith
-low_number Stil input = omega arith
-low_number OutVerilog input = absurd input
-low_number OutDef input = absurd input
-low_number OutStil input = absurd input
-low_number Console input = absurd input
-
-pub early_turn : (slot : Slot) → IsOutput slot → turn slot < 4
-early_turn OutVerilog output = omega arith
-early_turn OutDef output = omega arith
-early_turn OutStil output = omega arith
-early_turn Console output = omega arith
-early_turn Table output = absurd output
-early_turn Lef output = absurd output
-early_turn Verilog output = absurd output
-early_turn Def output = absurd output
-early_turn Stil output = absurd output
-
--- one number is below another or not
-below_cases : (X : Type 0) (m n : ℕ) → (m < n → X) → ((m < n → ⊥) → X) → X
-below_cases X m n lower otherwise = cases (nat_lt m n) refl
-  where
-    cases : (t : Bool) → nat_lt m n ≡ t → X
-    cases true e = lower (grind (arith, nat_tests))
-    cases false e = otherwise (λ lt. let h : nat_lt m n ≡ true = grind (arith, nat_tests) in absurd cc)
-
--- two slots are one or not, by their numbers
-slot_of : ℕ → Slot
-slot_of zero = Table
-slot_of (suc zero) = Lef
-slot_of (suc (suc zero)) = Verilog
-slot_of (suc (suc (suc zero))) = Def
-slot_of (suc (suc (suc (suc zero)))) = Stil
-slot_of (suc (suc (suc (suc (suc zero))))) = OutVerilog
-slot_of (suc (suc (suc (suc (suc (suc zero)))))) = OutDef
-slot_of (suc (suc (suc (suc (suc (suc (suc zero))))))) = OutStil
-slot_of (suc (suc (suc (suc (suc (suc (suc (suc n)))))))) = Console
-
-slot_of-number : (slot : Slot) → slot_of (number slot) ≡ slot
-unfolding slot_of
-slot_of-number Table = refl
-slot_of-number Lef = refl
-slot_of-number Verilog = refl
-slot_of-number Def = refl
-slot_of-number Stil = refl
-slot_of-number OutVerilog = refl
-slot_of-number OutDef = refl
-slot_of-number OutStil = refl
-slot_of-number Console = refl
-
-number_cases : (one other : Slot) → (one ≡ other) ⊎ (one ≢ other)
-number_cases one other =
-    below_cases ((one ≡ other) ⊎ (one ≢ other)) (number one) (number other)
-    (λ lt. inr (λ e. let same = ap number e in absurd (omega (arith, lt, same))))
-    (λ low. below_cases ((one ≡ other) ⊎ (one ≢ other)) (number other) (number one)
-    (λ lt. inr (λ e. let same = ap number e in absurd (omega (arith, lt, same))))
-    (λ high. let same : number one ≡ number other = between_same (number one) (number other) low high in inl (sym (slot_of-number one) ∙ ap slot_of same ∙ slot_of-number other)))
-  where
-    between_same : (m n : ℕ) → (m < n → ⊥) → (n < m → ⊥) → m ≡ n
-    between_same m n low high = grind arith
-
 -- a slot is used or not
 pub used_or_not : (request : Request) (slot : Slot) → IsUsed request slot ⊎ (IsUsed request slot → ⊥)
 used_or_not request slot = cases (name_at (names_of request) slot)
@@ -140,24 +44,6 @@ used_or_not request slot = cases (name_at (names_of request) slot)
     cases : (o : Option (List ℕ)) → IsSome o ⊎ (IsSome o → ⊥)
     cases None = inr (λ h. absurd cc)
     cases (Some name) = inl refl
-
-pub console_or_not : (slot : Slot) → (slot ≡ Console) ⊎ (slot ≢ Console)
-console_or_not Console = inl refl
-console_or_not Table = inr (λ e. cc)
-console_or_not Lef = inr (λ e. cc)
-console_or_not Verilog = inr (λ e. cc)
-console_or_not Def = inr (λ e. cc)
-console_or_not Stil = inr (λ e. cc)
-console_or_not OutVerilog = inr (λ e. cc)
-console_or_not OutDef = inr (λ e. cc)
-console_or_not OutStil = inr (λ e. cc)
-
-pub at_slot : (P : Slot → Type 0) (one other : Slot) → one ≡ other → P one → P other
-at_slot P one other e held = subst P e held
-
--- an input is no output
-pub apart : (input output : Slot) → IsInput input → IsOutput output → input ≢ output
-apart input output reads writes e = not_both output (at_slot IsInput input output e reads) writes
 
 -- a slot that isn't used is another than one that is
 pub unused_apart : (request : Request) (slot here : Slot) → (IsUsed request slot → ⊥) → IsUsed request here → slot ≢ here
@@ -185,55 +71,7 @@ appended_since bytes a b c e held = subst (λ (s : SlotState). IsAppended bytes 
 pub risen_since : (now : ℕ) (a b : SlotState) → b ≡ a → HasRisen b.faults now → HasRisen a.faults now
 risen_since now a b e risen = subst (λ (s : SlotState). HasRisen s.faults now) e risen
 
--- a command looks at its inputs alone
-
-abbrev AgreeAt : Request → (Slot → List ℕ) → (Slot → List ℕ) → Type 0
-AgreeAt request one other = (slot : Slot) → IsInput slot → IsUsed request slot → one slot ≡ other slot
-
--- the four files of a design
-design_same : (one other : Slot → List ℕ) → one Table ≡ other Table → one Lef ≡ other Lef → one Verilog ≡ other Verilog → one Def ≡ other Def
-    → texts_of (one Table) (one Lef) (one Verilog) (one Def) ≡ texts_of (other Table) (other Lef) (other Verilog) (other Def)
-design_same one other table lef verilog def =
-    ap (λ (text : List ℕ). texts_of text (one Lef) (one Verilog) (one Def)) table ∙ ap (λ (text : List ℕ). texts_of (other Table) text (one Verilog) (one Def)) lef
-    ∙ ap (λ (text : List ℕ). texts_of (other Table) (other Lef) text (one Def)) verilog ∙ ap (texts_of (other Table) (other Lef) (other Verilog)) def
-
-pub command_same : (request : Request) (one other : Slot → List ℕ) (fault : Fault) → AgreeAt request one other → IsCommandFault request one fault → IsCommandFault request other fault
-command_same (requests.Rewire r) one other fault agree is = subst (λ (text : List ℕ). IsRewireFault text (rewire_of r) fault) (agree Verilog tt refl) is
-command_same (requests.Trace r) one other fault agree is =
-    subst (λ (table : List ℕ). IsPathFault table (other Verilog) r.scan_out fault) (agree Table tt refl)
-    (subst (λ (text : List ℕ). IsPathFault (one Table) text r.scan_out fault) (agree Verilog tt refl) is)
-command_same (requests.Check r) one other fault agree is = subst (λ (t : Texts). IsFilesFault t fault) (design_same one other (agree Table tt refl) (agree Lef tt refl) (agree Verilog tt refl) (agree Def tt refl)) is
-command_same (requests.Reorder r) one other fault agree is = subst (λ (t : Texts). IsFilesFault t fault) (design_same one other (agree Table tt refl) (agree Lef tt refl) (agree Verilog tt refl) (agree Def tt refl)) is
-command_same (requests.Play r) one other fault agree is =
-    subst (λ (table : List ℕ). IsFirstFault (HoldsInPlay table (other Verilog) (other Stil)) fault) (agree Table tt refl)
-    (subst (λ (text : List ℕ). IsFirstFault (HoldsInPlay (one Table) text (other Stil)) fault) (agree Verilog tt refl)
-    (subst (λ (text : List ℕ). IsFirstFault (HoldsInPlay (one Table) (one Verilog) text) fault) (agree Stil tt refl) is))
-
-pub texts_same : (request : Request) (one other : Slot → List ℕ) (outputs : Outputs) → AgreeAt request one other → AreTexts request one outputs → AreTexts request other outputs
-texts_same (requests.Rewire r) one other outputs agree are = subst (λ (text : List ℕ). AreRewired r text outputs) (agree Verilog tt refl) are
-texts_same (requests.Trace r) one other outputs agree are =
-    subst (λ (table : List ℕ). IsPathText table (other Verilog) r.scan_out outputs.console) (agree Table tt refl)
-    (subst (λ (text : List ℕ). IsPathText (one Table) text r.scan_out outputs.console) (agree Verilog tt refl) are)
-texts_same (requests.Check r) one other outputs agree are = subst (λ (t : Texts). IsCheckText t outputs.console) (design_same one other (agree Table tt refl) (agree Lef tt refl) (agree Verilog tt refl) (agree Def tt refl)) are
-texts_same (requests.Reorder r) one other outputs agree are = subst (λ (t : Texts). AreReordered r t outputs) (design_same one other (agree Table tt refl) (agree Lef tt refl) (agree Verilog tt refl) (agree Def tt refl)) are
-texts_same (requests.Play r) one other outputs agree are =
-    subst (λ (table : List ℕ). IsPlayText table (other Verilog) (other Stil) r.device outputs.console) (agree Table tt refl)
-    (subst (λ (text : List ℕ). IsPlayText (one Table) text (other Stil) r.device outputs.console) (agree Verilog tt refl)
-    (subst (λ (text : List ℕ). IsPlayText (one Table) (one Verilog) text r.device outputs.console) (agree Stil tt refl) are))
-
 -- the inputs of a request were taken
-
--- a request that names no STIL file takes its inputs whole
-pub whole_number : (request : Request) → (IsUsed request Stil → ⊥) → (slot : Slot) → IsInput slot → IsUsed request slot → number slot < 4
-whole_number request whole Table input used = omega arith
-whole_number request whole Lef input used = omega arith
-whole_number request whole Verilog input used = omega arith
-whole_number request whole Def input used = omega arith
-whole_number request whole Stil input used = absurd (whole used)
-whole_number request whole OutVerilog input used = absurd input
-whole_number request whole OutDef input used = absurd input
-whole_number request whole OutStil input used = absurd input
-whole_number request whole Console input used = absurd input
 
 module _ (request : Request) (texts : List (Option (List ℕ))) (a b : Slots) (taken : HasTakenInputs (names_of request) 5 texts a b) where
   taken_here : (slot : Slot) → IsInput slot → IsUsed request slot → HasTakenFile (input_at texts slot) (a slot) (b slot)
@@ -254,7 +92,7 @@ module _ (request : Request) (texts : List (Option (List ℕ))) (a b : Slots) (t
     | inr output ↦ ap (λ (s : SlotState). s.faults) (output_kept slot output)
   ]
 
-  module _ (whole : IsUsed request Stil → ⊥) (files : Slot → List ℕ) (holds : Reads request files a) where
+  module _ (whole : (command_of request).streams ≡ false) (files : Slot → List ℕ) (holds : Reads request files a) where
     file_is : (slot : Slot) → IsInput slot → IsUsed request slot → input_at texts slot ≡ files slot
     file_is slot input used =
         let t = taken_here slot input used in
@@ -264,7 +102,7 @@ module _ (request : Request) (texts : List (Option (List ℕ))) (a b : Slots) (t
     is_small slot input used =
         let small = taken.small slot input used (low_number slot input) in
         let same = ap length (file_is slot input used) in
-        small_of slot (files slot) input (whole_number request whole slot input used) (omega (arith, small, same))
+        small_of request slot (files slot) input (inl whole) (omega (arith, small, same))
 
     found_first : (fault : Fault) → IsCommandFault request (input_at texts) fault → IsRunFault request files fault
     found_first fault found = inr (is_small, command_same request (input_at texts) files fault file_is found)
@@ -278,14 +116,6 @@ module _ (request : Request) (texts : List (Option (List ℕ))) (a b : Slots) (t
       no_fault = none_first judged.no_fault;
       texts = texts_same request (input_at texts) files outputs file_is judged.are;
     }
-
--- no fault is found while the STIL output is written
-none_late : (request : Request) (fault : Fault) → IsFoundWriting request fault.kind → ⊥
-none_late (requests.Rewire r) fault late = late
-none_late (requests.Trace r) fault late = late
-none_late (requests.Check r) fault late = late
-none_late (requests.Reorder r) fault late = late
-none_late (requests.Play r) fault late = late
 
 pub before_of : (request : Request) (files : Slot → List ℕ) (outputs : Outputs) → AreOutputsOf request files outputs → AreOutputsBefore request files outputs
 before_of request files outputs are = record { no_fault = λ fault is. absurd (are.no_fault fault is); texts = are.texts }
@@ -305,7 +135,7 @@ not_open_closed s shut open_now = cc
 pub not_open_unopened : (s : SlotState) → IsUnopened s → IsOpen s → ⊥
 not_open_unopened s never open_now = cc
 
-module _ (request : Request) (fault : Fault) (a b c : Slots) (f : Found request fault a b) where
+module _ (request : Request) (fault : Fault) (a b c : Slots) (early : IsFoundWriting request fault.kind → ⊥) (f : Found request fault a b) where
   module _ (second : SameElsewhere Console b c) where
     unused_since : SameUnused request a c
     unused_since slot unused = second slot (unused_apart request slot Console unused refl) ∙ f.unused slot unused
@@ -320,17 +150,17 @@ module _ (request : Request) (fault : Fault) (a b c : Slots) (f : Found request 
     files_since files = record {
       design = design_since;
       stil = λ early. second OutStil (λ e. cc) ∙ f.outputs OutStil tt;
-      stil_begun = λ late. absurd (none_late request fault late);
+      stil_begun = λ late. absurd (early late);
     }
 
-  pub put_line : HasPutLine request fault b c → IsRefused request a c
+  pub put_line : HasPutLine (names_of request) fault b c → IsRefused request a c
   put_line put = record {
     unused = unused_since put.elsewhere;
-    none_open = λ slot open_now. elim (console_or_not slot) [
+    none_open = λ slot open_now. elim (slot_cases slot Console) [
       | inl e ↦ not_open_closed (c Console) put.put.closed (at_slot (λ s. IsOpen (c s)) slot Console e open_now)
       | inr ne ↦ f.none_open slot (state_same IsOpen (b slot) (c slot) (sym (put.elsewhere slot ne)) open_now)
     ];
-    counts = λ slot. elim (console_or_not slot) [
+    counts = λ slot. elim (slot_cases slot Console) [
       | inl e ↦ at_slot (λ s. (c s).faults ≡ (a s).faults) Console slot (sym e) (put.put.faults ∙ f.counts Console)
       | inr ne ↦ ap (λ (s : SlotState). s.faults) (put.elsewhere slot ne) ∙ f.counts slot
     ];
@@ -343,7 +173,7 @@ module _ (request : Request) (fault : Fault) (a b c : Slots) (f : Found request 
     };
   }
 
-  pub failed_at_line : HasFailedAtLine request fault b c → IsOutputFailed request a c
+  pub failed_at_line : HasFailedAtLine (names_of request) fault b c → IsOutputFailed request a c
   failed_at_line failed = record {
     unused = unused_since failed.elsewhere;
     rose = record { slot = Console; is = tt; risen = risen_since _ (a Console) (b Console) (f.outputs Console tt) failed.risen };
@@ -363,7 +193,7 @@ module _ (request : Request) (fault : Fault) (a b c : Slots) (f : Found request 
     outputs = λ slot output. same slot ∙ f.outputs slot output;
   }
 
-  pub said_ended : (ended : Result (Unit {0}) Stop) → HasSaid request fault b c ended → HasEnded request a c ended
+  pub said_ended : (ended : Result (Unit {0}) Stop) → HasSaid (names_of request) fault b c ended → HasEnded request a c ended
   said_ended (Ok done) said = absurd said
   said_ended (Err NoForm) said = absurd said
   said_ended (Err Refused) said = put_line said
@@ -378,7 +208,7 @@ module _ (request : Request) (slot : Slot) (a b : Slots) (did : SlotState → Sl
   here_kept = stopped.before.others slot (λ input used lt. absurd (omega (arith, lt)))
 
   slot_or_not : (other : Slot) → (other ≡ slot) ⊎ (other ≢ slot)
-  slot_or_not other = number_cases other slot
+  slot_or_not other = slot_cases other slot
 
   other_kept : (other : Slot) → other ≢ slot → ((IsInput other → IsUsed request other → number other < number slot → ⊥) → b other ≡ a other)
   other_kept other ne none = stopped.elsewhere other ne ∙ stopped.before.others other none
@@ -432,31 +262,31 @@ module _ (request : Request) (slot : Slot) (a b : Slots) (did : SlotState → Sl
       ]
 
   -- the inputs that were taken before are small
-  pub small_before : number slot ≤ 4 → (files : Slot → List ℕ) → Reads request files a
-      → (other : Slot) → IsInput other → number other < number slot → IsUsed request other → IsOver other (files other) → ⊥
+  pub small_before : ((other : Slot) → number other < number slot → IsWhole request other) → (files : Slot → List ℕ) → Reads request files a
+      → (other : Slot) → IsInput other → number other < number slot → IsUsed request other → IsOver request other (files other) → ⊥
   small_before whole files holds other input lt used =
       let t = stopped.before.taken other input used lt in
       let same = ap length (text_is _ _ (input_at stopped.texts other) (files other) (holds other input used) t.front t.at_end) in
       let small = stopped.before.small other input used lt in
-      small_of other (files other) input (omega (arith, lt, whole)) (omega (arith, same, small))
+      small_of request other (files other) input (whole other lt) (omega (arith, same, small))
 
 -- an input was too large
 
-module _ (request : Request) (slot : Slot) (a b : Slots) (unopened : AllUnopened a) (whole : number slot < 4)
+module _ (request : Request) (slot : Slot) (a b : Slots) (unopened : AllUnopened a) (whole : (other : Slot) → number other ≤ number slot → IsWhole request other)
     (stopped : HasStoppedAt (names_of request) slot a b (IsTooLarge (limit_of slot))) where
   abbrev large : SlotState → SlotState → Type 0
   large = IsTooLarge (limit_of slot)
 
-  over : (files : Slot → List ℕ) → Reads request files a → IsOver slot (files slot)
+  over : (files : Slot → List ℕ) → Reads request files a → IsOver request slot (files slot)
   over files holds =
-      over_of slot (files slot) stopped.input whole
+      over_of request slot (files slot) stopped.input (whole slot (omega arith))
       (over_limit _ _ stopped.here.taken (files slot) (limit_of slot)
       (ap (λ (s : SlotState). s.unread) (here_kept request slot a b large stopped) ∙ holds slot stopped.input stopped.named) stopped.here.front stopped.here.over)
 
   pub found_large : Found request (size_fault slot) a b
   found_large = found_closed request slot a b large stopped (size_fault slot) unopened stopped.here.closed stopped.here.faults
       (λ files holds. inl (size_first request files slot stopped.input stopped.named (over files holds)
-      (small_before request slot a b large stopped (omega (arith, whole)) files holds)))
+      (small_before request slot a b large stopped (λ other lt. whole other (omega (arith, lt))) files holds)))
 
 -- an input failed, or memory ran out
 
@@ -476,7 +306,8 @@ inputs_ran_out request slot a b stopped = record {
 
 -- all inputs were taken, and then the command finished
 
-module _ (request : Request) (texts : List (Option (List ℕ))) (a b c : Slots) (unopened : AllUnopened a) (whole : IsUsed request Stil → ⊥)
+module _ (request : Request) (texts : List (Option (List ℕ))) (a b c : Slots) (unopened : AllUnopened a) (whole : (command_of request).streams ≡ false)
+    (early : (kind : Kind) → IsFoundWriting request kind → ⊥)
     (taken : HasTakenInputs (names_of request) 5 texts a b) where
   abbrev kept : (slot : Slot) → IsOutput slot → b slot ≡ a slot
   kept slot output = output_kept request texts a b taken slot output
@@ -547,7 +378,7 @@ module _ (request : Request) (texts : List (Option (List ℕ))) (a b c : Slots) 
         prefixes = λ files holds. inr (inl (record {
           outputs = p.outputs;
           are = before_of request files p.outputs (judged_outputs request texts a b taken whole files holds p.outputs p.judged);
-          prefixes = λ slot output used. elim (number_cases slot at) [
+          prefixes = λ slot output used. elim (slot_cases slot at) [
             | inl e ↦ at_slot (λ t. HoldsPrefix (output_at p.outputs t) (a t) (c t)) at slot (sym e)
                 (prefix_since _ (a at) (s.between at) (c at) (here ∙ kept at s.output) s.prefix)
             | inr ne ↦ below_cases (HoldsPrefix (output_at p.outputs slot) (a slot) (c slot)) (turn slot) (turn at)
@@ -561,19 +392,23 @@ module _ (request : Request) (texts : List (Option (List ℕ))) (a b c : Slots) 
   pub finished : (ended : Result (Unit {0}) Stop) → HasFinished request texts b c ended → HasEnded request a c ended
   finished (Ok done) f = put_all f
   finished (Err NoForm) f = absurd f
-  finished (Err Refused) f = put_line request f.fault a b c (found_own f.fault f.first) f.then_did
+  finished (Err Refused) f = put_line request f.fault a b c (early f.fault.kind) (found_own f.fault f.first) f.then_did
   finished (Err InputFailed) f = absurd f
   finished (Err OutputFailed) (inl p) = put_some p
-  finished (Err OutputFailed) (inr f) = failed_at_line request f.fault a b c (found_own f.fault f.first) f.then_did
+  finished (Err OutputFailed) (inr f) = failed_at_line request f.fault a b c (early f.fault.kind) (found_own f.fault f.first) f.then_did
   finished (Err NoMemory) same = record {
     unused = λ slot unused. same slot ∙ unused_kept request texts a b taken slot unused;
     counts = λ slot. ap (λ (s : SlotState). s.faults) (same slot) ∙ counts_kept request texts a b taken slot;
     outputs = λ slot output. same slot ∙ kept slot output;
   }
 
--- the file of a named input has fewer than 2 ^ 32 bytes, and one that isn't named none
-pub small_input : (request : Request) (texts : List (Option (List ℕ))) (a b : Slots) → HasTakenInputs (names_of request) 5 texts a b → (slot : Slot) → IsInput slot → length (input_at texts slot) ≤ limit_of slot
-small_input request texts a b taken slot input = elim (used_or_not request slot) [
-  | inl used ↦ taken.small slot input used (low_number slot input)
+-- no file of an input is longer than its limit
+limit_small : (slot : Slot) → limit_of slot < 2 ^ 32
+limit_small Table = omega arith
+limit_small slot = omega arith
+
+pub countable : (request : Request) (texts : List (Option (List ℕ))) (a b : Slots) → HasTakenInputs (names_of request) 5 texts a b → AreCountable texts
+countable request texts a b taken slot input = elim (used_or_not request slot) [
+  | inl used ↦ let small = taken.small slot input used (low_number slot input) in let limit = limit_small slot in omega (arith, small, limit)
   | inr unused ↦ let none = ap length (taken.no_text slot (λ reads used lt. unused used)) in omega (arith, none)
 ]

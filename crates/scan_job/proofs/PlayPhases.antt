@@ -1,24 +1,22 @@
 -- What a run of `play` leaves, from what its phases leave.
-use Rattle.std.proofs.Common.{◌≡◌, ◌<◌, ◌≤◌, ◌^◌, ◌⊎◌, ℕ, List, [], length, Option, Some, IfSome, Result, Ok, Err, refl, sym, ◌∙◌, ap, subst, arith, inl, inr}
+use Rattle.std.proofs.Common.{◌≡◌, ◌<◌, ◌≤◌, ◌^◌, ◌⊎◌, ℕ, List, length, Option, Some, IfSome, Result, Ok, Err, refl, sym, ◌∙◌, ap, subst, arith, inl, inr}
 use Rattle.base_types.specs.declared.fault.Fault.{Fault}
 use Rattle.base_types.specs.FirstFault.{IsFirstFault}
 use Rattle.desk_io.specs.declared.slot.Slot.{Slot}
 use Rattle.desk_io.specs.declared.slot.Slot.TheVariants.{Table, Lef, Verilog, Def, Stil, OutVerilog, OutDef, OutStil, Console}
-use Rattle.desk_io.specs.declared.outputs.Outputs.{Outputs}
 use Rattle.desk_io.specs.Number.{number}
 use Rattle.desk_io.specs.Desk.{SlotState, SameElsewhere, IsInput, IsOutput, IsOpen, IsClosed, AllUnopened, opened, closed}
 use Rattle.desk_io.specs.Causes.{HasRisen}
 use Rattle.desk_io.specs.Prefixes.{IsAtEnd, IsAppended, HasPutFile, HoldsPrefix}
 use Rattle.desk_io.specs.Names.{IsNamed}
 use Rattle.desk_io.specs.Inputs.{input_at, HasTakenInputs, HasStoppedAt}
-use Rattle.desk_io.specs.Outputs.{output_at}
+use Rattle.desk_io.specs.Outputs.{output_at, saying}
 use Rattle.stil_input.specs.Inputs.{HasDrawn}
-use Rattle.scan_job.specs.declared.request.Request.{Request}
-use Rattle.scan_job.specs.declared.request.PlayRequest.{PlayRequest}
-use Rattle.scan_job.specs.declared.request.Request.TheVariants.{Play}
+use Rattle.scan_job.specs.declared.commands.play.PlayRequest.{PlayRequest}
 use Rattle.scan_job.specs.declared.stop.Stop.{Stop}
 use Rattle.scan_job.specs.declared.stop.Stop.TheVariants.{NoForm, Refused, InputFailed, OutputFailed, NoMemory}
-use Rattle.scan_job.specs.Requests.{names_of, first_names}
+use Rattle.scan_job.specs.Requests.{Request, Play, names_of}
+use Rattle.scan_job.specs.Commands.Play.{first_names}
 use Rattle.scan_job.specs.Faults.{IsOver, IsSizeFault, AreSmall, IsRunFault, HasNoFault}
 use Rattle.scan_job.specs.Texts.{AreOutputsOf}
 use Rattle.scan_job.specs.TopCall.{Slots, IsUsed, Reads, SameUnused}
@@ -26,12 +24,9 @@ use Rattle.scan_job.specs.Ended.{IsDone, IsInputFailed, IsOutputFailed, IsOutOfM
 use Rattle.scan_job.specs.Phases.{HasSaid}
 use Rattle.scan_job.specs.Playing.{IsPlayed, IsPlayFault}
 use Rattle.scan_job.specs.PlayPhases.{HasReadStil, HasFailedAtStil, HasRunOutAtStil, HasFinishedPlay}
-use Rattle.scan_job.proofs.Sizes.{small_of, size_first, size_none}
-use Rattle.scan_job.proofs.Phases.{text_is, input_or_output, state_same, at_slot, apart, unused_apart, used_or_not, console_or_not, appended_since, prefix_since, risen_since, not_open_closed, not_open_unopened, Found, put_line, failed_at_line, before_of, here_kept, output_as_was, unused_as_was, count_as_was, found_closed}
-
--- the outputs of `play`: the console alone
-abbrev lines : List ℕ → Outputs
-lines said = record { verilog = []; def = []; stil = []; console = said }
+use Rattle.desk_io.proofs.Slots.{input_or_output, slot_cases, at_slot, apart}
+use Rattle.scan_job.proofs.Sizes.{IsWhole, small_of, size_first, size_none}
+use Rattle.scan_job.proofs.Phases.{text_is, state_same, unused_apart, used_or_not, appended_since, prefix_since, risen_since, not_open_closed, not_open_unopened, Found, put_line, failed_at_line, before_of, here_kept, output_as_was, unused_as_was, count_as_was, found_closed}
 
 -- the table and the netlist are what is taken before the STIL slot is opened
 
@@ -67,6 +62,9 @@ first_low r OutVerilog input named = absurd input
 first_low r OutDef input named = absurd input
 first_low r OutStil input named = absurd input
 first_low r Console input named = absurd input
+
+pub before_stil : (r : PlayRequest) (slot : Slot) → number slot < 4 → IsWhole (Play r) slot
+before_stil r slot low = inr (λ e. let same = ap number e in absurd (omega (arith, low, same)))
 
 -- so they are the inputs of the request before the STIL file
 pub taken_first : (r : PlayRequest) (below most : ℕ) (texts : List (Option (List ℕ))) (a b : Slots) → most ≤ 4 → most ≤ below → (below ≤ most) ⊎ (4 ≤ most)
@@ -130,7 +128,7 @@ ran_out_closed b e f read same = record {
 
 module _ (r : PlayRequest) (texts : List (Option (List ℕ))) (b e f : Slots) (read : HasReadStil b e) where
   pub said_finished : (fault : Fault) → IfSome (b Stil).unread (λ stil. IsPlayFault (input_at texts Table) (input_at texts Verilog) stil fault)
-      → (ended : Result (Unit {0}) Stop) → HasSaid (Play r) fault e f ended → HasFinishedPlay r texts b f ended
+      → (ended : Result (Unit {0}) Stop) → HasSaid (names_of (Play r)) fault e f ended → HasFinishedPlay r texts b f ended
   said_finished fault is (Ok done) said = absurd said
   said_finished fault is (Err NoForm) said = absurd said
   said_finished fault is (Err Refused) said = record { fault = fault; between = e; read = read; is = is; then_did = said }
@@ -174,13 +172,13 @@ module _ (r : PlayRequest) (texts : List (Option (List ℕ))) (a b : Slots) (uno
     verilog_is : input_at texts Verilog ≡ files Verilog
     verilog_is = file_is files holds Verilog tt refl (omega arith)
 
-    small_at : (slot : Slot) → IsInput slot → number slot < 4 → IsUsed request slot → IsOver slot (files slot) → ⊥
+    small_at : (slot : Slot) → IsInput slot → number slot < 4 → IsUsed request slot → IsOver request slot (files slot) → ⊥
     small_at slot input low used =
         let small = taken.small slot input used low in
         let same = ap length (file_is files holds slot input used low) in
-        small_of slot (files slot) input low (omega (arith, small, same))
+        small_of request slot (files slot) input (before_stil r slot low) (omega (arith, small, same))
 
-    all_small : (IsOver Stil (files Stil) → ⊥) → AreSmall request files
+    all_small : (IsOver request Stil (files Stil) → ⊥) → AreSmall request files
     all_small head Table input used = small_at Table input (omega arith) used
     all_small head Lef input used = small_at Lef input (omega arith) used
     all_small head Verilog input used = small_at Verilog input (omega arith) used
@@ -212,7 +210,7 @@ module _ (r : PlayRequest) (texts : List (Option (List ℕ))) (a b : Slots) (uno
         (subst (λ (verilog : List ℕ). IsPlayFault (input_at texts Table) verilog (files Stil) fault) verilog_is
         (of_file files holds (λ stil. IsPlayFault (input_at texts Table) (input_at texts Verilog) stil fault) is)))
 
-    outputs_are : (said : List ℕ) → IsPlayed (files Table) (files Verilog) (files Stil) r.device said → AreOutputsOf request files (lines said)
+    outputs_are : (said : List ℕ) → IsPlayed (files Table) (files Verilog) (files Stil) r.device said → AreOutputsOf request files (saying said)
     outputs_are said is = record { no_fault = none; texts = is.is }
       where
         none : HasNoFault request files
@@ -289,7 +287,7 @@ module _ (r : PlayRequest) (texts : List (Option (List ℕ))) (a b : Slots) (uno
           → IfSome (b Stil).unread (λ stil. IsPlayed (input_at texts Table) (input_at texts Verilog) stil r.device said) → IsDone request a c
       put_out said last put is = record {
         unused = unused_since;
-        none_open = λ slot open_now. elim (console_or_not slot) [
+        none_open = λ slot open_now. elim (slot_cases slot Console) [
           | inl same ↦ not_open_closed (c Console) put.closed (at_slot (λ s. IsOpen (c s)) slot Console same open_now)
           | inr ne ↦ none_open slot (state_same IsOpen (e slot) (c slot) (sym (second slot ne)) open_now)
         ];
@@ -298,14 +296,14 @@ module _ (r : PlayRequest) (texts : List (Option (List ℕ))) (a b : Slots) (uno
           | inr output ↦ at_slot (λ s. IsClosed (c s)) Console slot (sym (only_console slot output used)) put.closed
         ];
         read = λ slot input used. state_same IsAtEnd (c slot) (e slot) (input_since slot input) (end_at last slot input used);
-        counts = λ slot. elim (console_or_not slot) [
+        counts = λ slot. elim (slot_cases slot Console) [
           | inl same ↦ at_slot (λ s. (c s).faults ≡ (a s).faults) Console slot (sym same) (put.faults ∙ count_kept Console)
           | inr ne ↦ ap (λ (s : SlotState). s.faults) (second slot ne) ∙ count_kept slot
         ];
         done = λ files holds. record {
-          outputs = lines said;
+          outputs = saying said;
           are = outputs_are files holds said (played files holds said is);
-          texts = λ slot output used. at_slot (λ s. IsAppended (output_at (lines said) s) (a s) (c s)) Console slot (sym (only_console slot output used))
+          texts = λ slot output used. at_slot (λ s. IsAppended (output_at (saying said) s) (a s) (c s)) Console slot (sym (only_console slot output used))
               (appended_since said (a Console) (e Console) (c Console) (out_kept Console tt) put.appended);
         };
       }
@@ -318,9 +316,9 @@ module _ (r : PlayRequest) (texts : List (Option (List ℕ))) (a b : Slots) (uno
         rose = record { slot = Console; is = tt; risen = risen_since _ (a Console) (e Console) (out_kept Console tt) risen };
         inputs = λ slot input. ap (λ (s : SlotState). s.faults) (input_since slot input) ∙ count_kept slot;
         prefixes = λ files holds. inr (inl (record {
-          outputs = lines said;
-          are = before_of request files (lines said) (outputs_are files holds said (played files holds said is));
-          prefixes = λ slot output used. at_slot (λ s. HoldsPrefix (output_at (lines said) s) (a s) (c s)) Console slot (sym (only_console slot output used))
+          outputs = saying said;
+          are = before_of request files (saying said) (outputs_are files holds said (played files holds said is));
+          prefixes = λ slot output used. at_slot (λ s. HoldsPrefix (output_at (saying said) s) (a s) (c s)) Console slot (sym (only_console slot output used))
               (prefix_since said (a Console) (e Console) (c Console) (out_kept Console tt) prefix);
         }));
       }
@@ -342,8 +340,8 @@ module _ (r : PlayRequest) (texts : List (Option (List ℕ))) (a b : Slots) (uno
   pub play_finished : (c : Slots) (ended : Result (Unit {0}) Stop) → HasFinishedPlay r texts b c ended → HasEnded request a c ended
   play_finished c (Ok done) p = put_out p.between p.read c p.then_did.elsewhere p.said p.at_end p.then_did.put p.is
   play_finished c (Err NoForm) f = absurd f
-  play_finished c (Err Refused) f = put_line request f.fault a f.between c (found_play f.between f.fault f.read f.is) f.then_did
+  play_finished c (Err Refused) f = put_line request f.fault a f.between c (λ late. late) (found_play f.between f.fault f.read f.is) f.then_did
   play_finished c (Err InputFailed) failed = stil_failed c failed
   play_finished c (Err OutputFailed) (inl p) = put_failed p.between p.read c p.then_did.elsewhere p.said p.then_did.prefix p.then_did.risen p.is
-  play_finished c (Err OutputFailed) (inr f) = failed_at_line request f.fault a f.between c (found_play f.between f.fault f.read f.is) f.then_did
+  play_finished c (Err OutputFailed) (inr f) = failed_at_line request f.fault a f.between c (λ late. late) (found_play f.between f.fault f.read f.is) f.then_did
   play_finished c (Err NoMemory) out = stil_ran_out c out

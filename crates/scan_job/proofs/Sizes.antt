@@ -1,5 +1,5 @@
 -- The first of the files that are too large.
-use Rattle.std.proofs.Common.{◌<◌, ◌≤◌, ℕ, List, length, refl, subst, arith}
+use Rattle.std.proofs.Common.{◌≡◌, ◌≢◌, ◌<◌, ◌≤◌, ◌⊎◌, ℕ, Bool, true, false, List, length, refl, subst, arith, inl, inr}
 use Rattle.base_types.specs.declared.fault.Fault.{Fault}
 use Rattle.base_types.specs.FirstFault.{ComesBefore, IsFirstFault}
 use Rattle.desk_io.specs.declared.slot.Slot.{Slot}
@@ -8,9 +8,11 @@ use Rattle.desk_io.specs.Number.{number}
 use Rattle.desk_io.specs.Desk.{IsInput}
 use Rattle.desk_io.specs.Names.{IsNamed}
 use Rattle.desk_io.specs.Inputs.{limit_of}
-use Rattle.scan_job.specs.declared.request.Request.{Request}
-use Rattle.scan_job.specs.Requests.{names_of}
-use Rattle.scan_job.specs.Faults.{size_fault, IsOver, IsSizeFault, AreSmall}
+use Rattle.desk_io.specs.declared.slot.Way.{Way}
+use Rattle.desk_io.specs.declared.slot.Way.TheVariants.{In, Out}
+use Rattle.desk_io.specs.Ways.{way_of, IsIn, limit_in, IsLonger}
+use Rattle.scan_job.specs.Requests.{Request, command_of, names_of}
+use Rattle.scan_job.specs.Faults.{size_fault, IsOverAt, IsOver, IsSizeFault, AreSmall}
 
 -- of two files that are too large the one that is taken first comes first
 before : (one other : Slot) → IsInput one → IsInput other → ComesBefore (size_fault one) (size_fault other) → number one < number other
@@ -64,35 +66,57 @@ before OutDef other reads_one reads_other h = absurd reads_one
 before OutStil other reads_one reads_other h = absurd reads_one
 before Console other reads_one reads_other h = absurd reads_one
 
--- a file that is taken whole is too large where it has more bytes than its limit
-pub over_of : (slot : Slot) (text : List ℕ) → IsInput slot → number slot < 4 → limit_of slot < length text → IsOver slot text
-over_of Table text input whole over = over
-over_of Lef text input whole over = over
-over_of Verilog text input whole over = over
-over_of Def text input whole over = over
-over_of Stil text input whole over = absurd (omega (arith, whole))
-over_of OutVerilog text input whole over = absurd input
-over_of OutDef text input whole over = absurd input
-over_of OutStil text input whole over = absurd input
-over_of Console text input whole over = absurd input
+-- a file is taken whole, and is not read as it comes
+abbrev pub IsWhole : Request → Slot → Type 0
+IsWhole request slot = ((command_of request).streams ≡ false) ⊎ (slot ≢ Stil)
+
+-- such a file is too large where it has more bytes than its limit
+longer : (way : Way) (text : List ℕ) → IsIn way → limit_in way < length text → IsLonger way text
+longer (In limit) text reads over = over
+longer (Out turn) text reads over = absurd reads
+
+over_at : (streams : Bool) (slot : Slot) (text : List ℕ) → (streams ≡ false) ⊎ (slot ≢ Stil) → IsLonger (way_of slot) text → IsOverAt streams slot text
+over_at false slot text whole over = over
+over_at true Stil text (inl whole) over = absurd cc
+over_at true Stil text (inr ne) over = absurd (ne refl)
+over_at true Table text whole over = over
+over_at true Lef text whole over = over
+over_at true Verilog text whole over = over
+over_at true Def text whole over = over
+over_at true OutVerilog text whole over = over
+over_at true OutDef text whole over = over
+over_at true OutStil text whole over = over
+over_at true Console text whole over = over
+
+pub over_of : (request : Request) (slot : Slot) (text : List ℕ) → IsInput slot → IsWhole request slot → limit_of slot < length text → IsOver request slot text
+over_of request slot text input whole over = over_at (command_of request).streams slot text whole (longer (way_of slot) text input over)
 
 -- and nowhere else
-pub small_of : (slot : Slot) (text : List ℕ) → IsInput slot → number slot < 4 → length text ≤ limit_of slot → IsOver slot text → ⊥
-small_of Table text input whole small over = absurd (omega (arith, small, over))
-small_of Lef text input whole small over = absurd (omega (arith, small, over))
-small_of Verilog text input whole small over = absurd (omega (arith, small, over))
-small_of Def text input whole small over = absurd (omega (arith, small, over))
-small_of Stil text input whole small over = absurd (omega (arith, whole))
-small_of OutVerilog text input whole small over = input
-small_of OutDef text input whole small over = input
-small_of OutStil text input whole small over = input
-small_of Console text input whole small over = input
+no_longer : (way : Way) (text : List ℕ) → IsIn way → length text ≤ limit_in way → IsLonger way text → ⊥
+no_longer (In limit) text reads small over = absurd (omega (arith, small, over))
+no_longer (Out turn) text reads small over = over
+
+longer_at : (streams : Bool) (slot : Slot) (text : List ℕ) → (streams ≡ false) ⊎ (slot ≢ Stil) → IsOverAt streams slot text → IsLonger (way_of slot) text
+longer_at false slot text whole over = over
+longer_at true Stil text (inl whole) over = absurd cc
+longer_at true Stil text (inr ne) over = absurd (ne refl)
+longer_at true Table text whole over = over
+longer_at true Lef text whole over = over
+longer_at true Verilog text whole over = over
+longer_at true Def text whole over = over
+longer_at true OutVerilog text whole over = over
+longer_at true OutDef text whole over = over
+longer_at true OutStil text whole over = over
+longer_at true Console text whole over = over
+
+pub small_of : (request : Request) (slot : Slot) (text : List ℕ) → IsInput slot → IsWhole request slot → length text ≤ limit_of slot → IsOver request slot text → ⊥
+small_of request slot text input whole small over = no_longer (way_of slot) text input small (longer_at (command_of request).streams slot text whole over)
 
 pub size_none : (request : Request) (files : Slot → List ℕ) → AreSmall request files → (fault : Fault) → IsSizeFault request files fault → ⊥
 size_none request files small fault large = small large.slot large.input large.named large.over
 
-pub size_first : (request : Request) (files : Slot → List ℕ) (slot : Slot) → IsInput slot → IsNamed (names_of request) slot → IsOver slot (files slot)
-    → ((other : Slot) → IsInput other → number other < number slot → IsNamed (names_of request) other → IsOver other (files other) → ⊥)
+pub size_first : (request : Request) (files : Slot → List ℕ) (slot : Slot) → IsInput slot → IsNamed (names_of request) slot → IsOver request slot (files slot)
+    → ((other : Slot) → IsInput other → number other < number slot → IsNamed (names_of request) other → IsOver request other (files other) → ⊥)
     → IsFirstFault (IsSizeFault request files) (size_fault slot)
 size_first request files slot input named over small = record {
   holds = record { slot = slot; input = input; named = named; over = over; is = refl };

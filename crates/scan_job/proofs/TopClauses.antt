@@ -11,8 +11,7 @@ use Rattle.scan_words.specs.Written.{Says}
 use Rattle.scan_words.proofs.Written.{says_read}
 use Rattle.scan_job.specs.declared.stop.Stop.{Stop}
 use Rattle.scan_job.specs.declared.stop.Stop.TheVariants.{NoForm, Refused, InputFailed, OutputFailed, NoMemory}
-use Rattle.scan_job.specs.declared.request.Request.{Request}
-use Rattle.scan_job.specs.Requests.{Asks, order_of}
+use Rattle.scan_job.specs.Requests.{Request, Asks, order_of}
 use Rattle.scan_job.specs.Faults.{IsRunFault, HasNoFault}
 use Rattle.scan_job.specs.TopCall.{Slots, SaysNothing, SameEverywhere, SameDesign, Reads, NoneRose, HasDone, HasRefused, HasWritten, AllClosed, AllRead}
 use Rattle.scan_job.proofs.Asked.{order_once}

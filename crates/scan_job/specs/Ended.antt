@@ -3,8 +3,8 @@ use Rattle.std.specs.Prelude.{◌≡◌, ◌⊎◌, ℕ, List, Result, Ok, Err}
 use Rattle.desk_io.specs.declared.slot.Slot.{Slot}
 use Rattle.desk_io.specs.Desk.{IsInput, IsOutput}
 use Rattle.desk_io.specs.Causes.{SomeRose, SameCounts}
-use Rattle.scan_job.specs.declared.request.Request.{Request}
-use Rattle.scan_job.specs.Requests.{Asks}
+use Rattle.scan_words.specs.declared.order.Order.{Order}
+use Rattle.scan_job.specs.Requests.{Request, Asks, order_of}
 use Rattle.scan_job.specs.declared.stop.Stop.{Stop}
 use Rattle.scan_job.specs.declared.stop.Stop.TheVariants.{NoForm, Refused, InputFailed, OutputFailed, NoMemory}
 use Rattle.scan_job.specs.TopCall.{Slots, SaysNothing, SameEverywhere, SameUnused, NoneOpen, AllClosed, AllRead, Reads, SameOutputs, SameDesign, HasRefused, HasDone, HasWritten}
@@ -53,6 +53,12 @@ HasEnded request old new (Err Refused) = IsRefused request old new
 HasEnded request old new (Err InputFailed) = IsInputFailed request old new
 HasEnded request old new (Err OutputFailed) = IsOutputFailed request old new
 HasEnded request old new (Err NoMemory) = IsOutOfMemory request old new
+
+-- a run of an order ended so: that of the request whose values it has
+pub record HasRunOrder (order : Order) (old new : Slots) (result : Result (Unit {0}) Stop) : Type 0 where
+  pub request : Request
+  pub is : order_of request ≡ order
+  pub ended : HasEnded request old new result
 
 -- the status of a result
 abbrev pub status_of : Result (Unit {0}) Stop → ℕ

@@ -1,17 +1,18 @@
 -- What the phases of a command leave at the slots.
-use Rattle.std.specs.Prelude.{◌⊎◌, ℕ, List, Option, Result, Ok, Err}
+use Rattle.std.specs.Prelude.{◌⊎◌, ◌<◌, ◌^◌, ℕ, List, length, Option, Result, Ok, Err}
 use Rattle.base_types.specs.declared.fault.Fault.{Fault}
 use Rattle.desk_io.specs.declared.slot.Slot.TheVariants.{Console}
 use Rattle.desk_io.specs.declared.outputs.Outputs.{Outputs}
-use Rattle.desk_io.specs.Desk.{SameElsewhere}
+use Rattle.desk_io.specs.declared.slot.Slot.{Slot}
+use Rattle.desk_io.specs.Names.{Names}
+use Rattle.desk_io.specs.Desk.{IsInput, SameElsewhere}
 use Rattle.desk_io.specs.Causes.{HasRisen}
 use Rattle.desk_io.specs.Prefixes.{HasPutFile, HoldsPrefix}
 use Rattle.desk_io.specs.Inputs.{input_at}
 use Rattle.desk_io.specs.Outputs.{HasPutOutputs, HasStoppedPutting}
 use Rattle.scan_job.specs.declared.stop.Stop.{Stop}
 use Rattle.scan_job.specs.declared.stop.Stop.TheVariants.{NoForm, Refused, InputFailed, OutputFailed, NoMemory}
-use Rattle.scan_job.specs.declared.request.Request.{Request}
-use Rattle.scan_job.specs.Requests.{names_of}
+use Rattle.scan_job.specs.Requests.{Request, names_of}
 use Rattle.scan_job.specs.Faults.{IsCommandFault, HasNoCommandFault, fault_text}
 use Rattle.scan_job.specs.Texts.{AreTexts}
 use Rattle.scan_job.specs.TopCall.{Slots, SameEverywhere}
@@ -28,12 +29,12 @@ pub record HasFailedAtText (text : List ℕ) (old new : Slots) : Type 0 where
   pub risen : HasRisen (old Console).faults (new Console).faults
 
 -- the line of a fault was put on the console
-abbrev pub HasPutLine : Request → Fault → Slots → Slots → Type 0
-HasPutLine request fault old new = HasPutText (fault_text request fault) old new
+abbrev pub HasPutLine : Names → Fault → Slots → Slots → Type 0
+HasPutLine names fault old new = HasPutText (fault_text names fault) old new
 
 -- the console failed at the line of a fault
-abbrev pub HasFailedAtLine : Request → Fault → Slots → Slots → Type 0
-HasFailedAtLine request fault old new = HasFailedAtText (fault_text request fault) old new
+abbrev pub HasFailedAtLine : Names → Fault → Slots → Slots → Type 0
+HasFailedAtLine names fault old new = HasFailedAtText (fault_text names fault) old new
 
 -- a text was put on the console, or putting it failed
 abbrev pub HasTold : List ℕ → Slots → Slots → Result (Unit {0}) Stop → Type 0
@@ -45,13 +46,17 @@ HasTold text old new (Err OutputFailed) = HasFailedAtText text old new
 HasTold text old new (Err NoMemory) = ⊥
 
 -- the fault was said on the console, or saying it failed
-abbrev pub HasSaid : Request → Fault → Slots → Slots → Result (Unit {0}) Stop → Type 0
-HasSaid request fault old new (Ok done) = ⊥
-HasSaid request fault old new (Err NoForm) = ⊥
-HasSaid request fault old new (Err Refused) = HasPutLine request fault old new
-HasSaid request fault old new (Err InputFailed) = ⊥
-HasSaid request fault old new (Err OutputFailed) = HasFailedAtLine request fault old new
-HasSaid request fault old new (Err NoMemory) = SameEverywhere old new
+abbrev pub HasSaid : Names → Fault → Slots → Slots → Result (Unit {0}) Stop → Type 0
+HasSaid names fault old new (Ok done) = ⊥
+HasSaid names fault old new (Err NoForm) = ⊥
+HasSaid names fault old new (Err Refused) = HasPutLine names fault old new
+HasSaid names fault old new (Err InputFailed) = ⊥
+HasSaid names fault old new (Err OutputFailed) = HasFailedAtLine names fault old new
+HasSaid names fault old new (Err NoMemory) = SameEverywhere old new
+
+-- the texts of the inputs are of a size that the readers can count
+abbrev pub AreCountable : List (Option (List ℕ)) → Type 0
+AreCountable texts = (slot : Slot) → IsInput slot → length (input_at texts slot) < 2 ^ 32
 
 -- the inputs' texts have no fault of the command's own, and these are its texts
 pub record AreJudged (request : Request) (texts : List (Option (List ℕ))) (outputs : Outputs) : Type 0 where
@@ -80,8 +85,8 @@ pub record HasFound (request : Request) (texts : List (Option (List ℕ))) (did 
 abbrev pub HasFinished : Request → List (Option (List ℕ)) → Slots → Slots → Result (Unit {0}) Stop → Type 0
 HasFinished request texts old new (Ok done) = HasPutAll request texts old new
 HasFinished request texts old new (Err NoForm) = ⊥
-HasFinished request texts old new (Err Refused) = HasFound request texts (λ fault. HasPutLine request fault old new)
+HasFinished request texts old new (Err Refused) = HasFound request texts (λ fault. HasPutLine (names_of request) fault old new)
 HasFinished request texts old new (Err InputFailed) = ⊥
 HasFinished request texts old new (Err OutputFailed) =
-    HasPutSome request texts old new ⊎ HasFound request texts (λ fault. HasFailedAtLine request fault old new)
+    HasPutSome request texts old new ⊎ HasFound request texts (λ fault. HasFailedAtLine (names_of request) fault old new)
 HasFinished request texts old new (Err NoMemory) = SameEverywhere old new

@@ -8,8 +8,8 @@ use Rattle.desk_io.specs.Prefixes.{IsAtEnd}
 use Rattle.desk_io.specs.Inputs.{input_at}
 use Rattle.scan_job.specs.declared.stop.Stop.{Stop}
 use Rattle.scan_job.specs.declared.stop.Stop.TheVariants.{NoForm, Refused, InputFailed, OutputFailed, NoMemory}
-use Rattle.scan_job.specs.declared.request.PlayRequest.{PlayRequest}
-use Rattle.scan_job.specs.declared.request.Request.TheVariants.{Play}
+use Rattle.scan_job.specs.declared.commands.play.PlayRequest.{PlayRequest}
+use Rattle.scan_job.specs.Requests.{Play, names_of}
 use Rattle.scan_job.specs.TopCall.{Slots}
 use Rattle.scan_job.specs.Playing.{IsPlayed, IsPlayFault}
 use Rattle.scan_job.specs.Phases.{HasPutText, HasFailedAtText, HasPutLine, HasFailedAtLine}
@@ -51,9 +51,9 @@ pub record HasRunOutAtStil (old new : Slots) : Type 0 where
 abbrev pub HasFinishedPlay : PlayRequest → List (Option (List ℕ)) → Slots → Slots → Result (Unit {0}) Stop → Type 0
 HasFinishedPlay r texts old new (Ok done) = HasPlayedOut r texts old (λ said between. HasPutText said between new)
 HasFinishedPlay r texts old new (Err NoForm) = ⊥
-HasFinishedPlay r texts old new (Err Refused) = HasFoundInPlay r texts old (λ fault between. HasPutLine (Play r) fault between new)
+HasFinishedPlay r texts old new (Err Refused) = HasFoundInPlay r texts old (λ fault between. HasPutLine (names_of (Play r)) fault between new)
 HasFinishedPlay r texts old new (Err InputFailed) = HasFailedAtStil old new
 HasFinishedPlay r texts old new (Err OutputFailed) =
     HasPlayedOut r texts old (λ said between. HasFailedAtText said between new)
-    ⊎ HasFoundInPlay r texts old (λ fault between. HasFailedAtLine (Play r) fault between new)
+    ⊎ HasFoundInPlay r texts old (λ fault between. HasFailedAtLine (names_of (Play r)) fault between new)
 HasFinishedPlay r texts old new (Err NoMemory) = HasRunOutAtStil old new

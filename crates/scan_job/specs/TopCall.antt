@@ -12,9 +12,7 @@ use Rattle.desk_io.specs.Names.{IsNamed}
 use Rattle.desk_io.specs.Outputs.{output_at}
 use Rattle.scan_words.specs.declared.order.Order.{Order}
 use Rattle.scan_words.specs.Written.{Says}
-use Rattle.scan_job.specs.declared.request.Request.{Request}
-use Rattle.scan_job.specs.declared.request.Request.TheVariants as requests
-use Rattle.scan_job.specs.Requests.{names_of}
+use Rattle.scan_job.specs.Requests.{Request, command_of, names_of}
 use Rattle.scan_job.specs.Faults.{IsRunFault, IsFoundWriting, fault_text}
 use Rattle.scan_job.specs.Texts.{AreOutputsOf, AreOutputsBefore}
 
@@ -69,11 +67,7 @@ pub record SameDesign (old new : Slots) : Type 0 where
 
 -- the written form of what stands before the statement that is refused, where that is found while the STIL output is written
 abbrev pub IsTextBefore : Request → (Slot → List ℕ) → Fault → List ℕ → Type 0
-IsTextBefore (requests.Rewire r) files fault text = ⊥
-IsTextBefore (requests.Trace r) files fault text = ⊥
-IsTextBefore (requests.Check r) files fault text = ⊥
-IsTextBefore (requests.Reorder r) files fault text = ⊥
-IsTextBefore (requests.Play r) files fault text = ⊥
+IsTextBefore request files fault text = (command_of request).text_before files fault text
 
 -- the STIL output holds a prefix of what stands before the refused statement
 pub record HoldsTextBefore (request : Request) (files : Slot → List ℕ) (fault : Fault) (old new : Slots) : Type 0 where
@@ -92,7 +86,7 @@ pub record HasRefused (request : Request) (files : Slot → List ℕ) (old new :
   pub fault : Fault
   pub first : IsRunFault request files fault
   pub outputs : AreFilesRefused request files fault old new
-  pub line : IsAppended (fault_text request fault) (old Console) (new Console)
+  pub line : IsAppended (fault_text (names_of request) fault) (old Console) (new Console)
 
 -- the files have no fault, and each output of the request holds its whole text
 pub record HasDone (request : Request) (files : Slot → List ℕ) (old new : Slots) : Type 0 where
@@ -111,7 +105,7 @@ pub record HasBegunRefusing (request : Request) (files : Slot → List ℕ) (old
   pub fault : Fault
   pub first : IsRunFault request files fault
   pub outputs : AreFilesRefused request files fault old new
-  pub prefix : HoldsPrefix (fault_text request fault) (old Console) (new Console)
+  pub prefix : HoldsPrefix (fault_text (names_of request) fault) (old Console) (new Console)
 
 -- Nothing was written, or prefixes of the command's texts, or a prefix of the line of the fault.
 abbrev pub HasWritten : Request → (Slot → List ℕ) → Slots → Slots → Type 0

@@ -4,24 +4,28 @@
 //! chain_reorder, cell_table, verilog_checks, netlist_core, chain_trace, traced_paths, head_checks, token_forms,
 //! stil_types, stil_tokens, stil_parts, stil_syntax, stil_head, stil_calls, stil_reader, stil_stream, stil_tester,
 //! stil_input, play_report and base_types.
-//! Contract: the clauses of `run`, in the words of `specs/TopCall.antt`; what requests, faults and texts are stands in
-//! `specs/Requests.antt`, `specs/Faults.antt` and `specs/Texts.antt`. Begin with `top.rt`. Of the STIL file that `play` reads, the
-//! patterns are played as they come (`play.rt`, `playing.rt`).
+//! Contract: the clauses of `run`, in the words of `specs/TopCall.antt`, over what a command is: `specs/Commands.antt`, with a file
+//! for each command. Begin with `top.rt`; `command.rt` alone knows all commands, of which each has a file in `commands`. A command
+//! that takes its files whole is run by `whole.rt`. Of the STIL file that `play` reads, the patterns are played as they come
+//! (`play.rt`, `playing.rt`).
 #![tactic(auto)]
 
 mod command;
-mod judge;
+mod commands;
+mod copying;
 mod laws;
 mod line;
 mod play;
 mod playing;
-mod request;
 mod say;
 mod stop;
 mod top;
+mod whole;
 
+pub use commands::check::CheckRequest;
+pub use commands::play::PlayRequest;
+pub use commands::reorder::ReorderRequest;
+pub use commands::rewire::RewireRequest;
+pub use commands::trace::TraceRequest;
 pub use laws::one_fault_law;
-pub use request::{
-    CheckRequest, PlayRequest, ReorderRequest, Request, RewireRequest, TraceRequest,
-};
 pub use top::run;

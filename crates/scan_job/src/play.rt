@@ -4,16 +4,21 @@ ghost use Rattle.desk_io.specs.Desk.{AllUnopened, IsUnopened, IsOpen, closed, Sa
 ghost use Rattle.desk_io.specs.Causes.{HasFailed};
 ghost use Rattle.desk_io.specs.Names.{AllowsNames};
 ghost use Rattle.desk_io.specs.Inputs.{input_at};
-ghost use Rattle.scan_job.specs.Requests.{names_of, first_names};
+ghost use Rattle.scan_job.specs.declared.commands.play.PlayRequest.{PlayRequest};
+ghost use Rattle.scan_job.specs.Requests as requests;
+ghost use Rattle.scan_job.specs.Requests.{Request, order_of, names_of};
+ghost use Rattle.scan_job.specs.Commands.Play.{first_names};
 ghost use Rattle.scan_job.specs.PlayPhases.{HasFinishedPlay};
 ghost use Rattle.scan_job.specs.declared.stop.Stop.{Stop};
-ghost use Rattle.scan_job.specs.Ended.{HasEnded};
+ghost use Rattle.scan_job.specs.Ended.{HasEnded, HasRunOrder};
 
+use crate::commands::Command;
+use crate::commands::play::{PlayRequest, first_names};
 use crate::playing::play_stil;
-use crate::request::{PlayRequest, Request, first_names};
 use crate::say::{refuse, size_fault, tell};
 use crate::stop::Stop;
-use desk_io::{Desk, Inputs, InputsFault, Slot, take_inputs};
+use desk_io::{Desk, Inputs, InputsFault, Names, Slot, take_inputs};
+use scan_words::Order;
 use std::alloc::Global;
 use stil_input::StilStop;
 
@@ -32,16 +37,16 @@ fn close_stil<D: Desk>(desk: &mut D) -> Result<(), Stop>
 /// Plays the patterns as they come from the STIL slot, which is opened for it and closed again, and says what was played or the fault.
 fn play_taken<D: Desk>(
     alloc: Global,
-    request: &Request,
     play: &PlayRequest,
+    names: &Names,
     inputs: &Inputs,
     desk: &mut D,
 ) -> Result<(), Stop>
-    requires is { request.now ≡ Request.Play play.now }
+    requires named { names.now ≡ names_of (requests.Play play.now) }
     requires small { length (input_at inputs.now Verilog) < 2 ^ 32 }
     requires unopened { IsUnopened (D.state desk.old Stil) }
     requires silent { IsUnopened (D.state desk.old Console) }
-    requires allowed { AllowsNames (names_of request.now) (D.allows desk.old) }
+    requires allowed { AllowsNames (names_of (requests.Play play.now)) (D.allows desk.old) }
     ensures ended { HasFinishedPlay play.now inputs.now (D.state desk.old) (D.state desk.new) result }
 {
     desk.open(Slot::Stil, play.stil.as_str())
@@ -55,7 +60,7 @@ fn play_taken<D: Desk>(
         }
         Err(StilStop::Fault(fault)) => {
             close_stil(desk)?;
-            refuse(alloc, request, &fault, desk)
+            refuse(alloc, names, &fault, desk)
         }
         Err(StilStop::Read) => Err(Stop::InputFailed),
         Err(StilStop::NoMemory) => Err(Stop::NoMemory),
@@ -63,22 +68,42 @@ fn play_taken<D: Desk>(
 }
 
 /// Takes the table and the Verilog text, and plays the patterns as they come.
-pub(crate) fn run_play<D: Desk>(
+fn play_named<D: Desk>(
     alloc: Global,
-    request: &Request,
     play: &PlayRequest,
+    names: &Names,
+    first: &Names,
     desk: &mut D,
 ) -> Result<(), Stop>
-    requires is { request.now ≡ Request.Play play.now }
+    requires named { names.now ≡ names_of (requests.Play play.now) }
+    requires first { first.now ≡ first_names play.now }
     requires unopened { AllUnopened (D.state desk.old) }
-    requires allowed { AllowsNames (names_of request.now) (D.allows desk.old) }
-    ensures ended { HasEnded request.now (D.state desk.old) (D.state desk.new) result }
+    requires allowed { AllowsNames (names_of (requests.Play play.now)) (D.allows desk.old) }
+    ensures ended { HasEnded (requests.Play play.now) (D.state desk.old) (D.state desk.new) result }
 {
-    let names = first_names(alloc, play).map_err(|_| Stop::NoMemory)?;
-    match take_inputs(alloc, &names, desk) {
-        Ok(inputs) => play_taken(alloc, request, play, &inputs, desk),
-        Err(InputsFault::TooLarge(slot)) => refuse(alloc, request, &size_fault(slot), desk),
+    match take_inputs(alloc, first, desk) {
+        Ok(inputs) => play_taken(alloc, play, names, &inputs, desk),
+        Err(InputsFault::TooLarge(slot)) => refuse(alloc, names, &size_fault(slot), desk),
         Err(InputsFault::Read) => Err(Stop::InputFailed),
         Err(InputsFault::NoMemory) => Err(Stop::NoMemory),
     }
+}
+
+/// Does what an order of `play` asks for.
+pub(crate) fn run_play<D: Desk>(alloc: Global, order: &Order, desk: &mut D) -> Result<(), Stop>
+    requires made { (made : PlayRequest) × (order_of (requests.Play made) ≡ order.now) }
+    requires unopened { AllUnopened (D.state desk.old) }
+    requires allowed { (request : Request) → order_of request ≡ order.now → AllowsNames (names_of request) (D.allows desk.old) }
+    ensures ended { HasRunOrder order.now (D.state desk.old) (D.state desk.new) result }
+{
+    let Ok(play) = PlayRequest::of(alloc, order) else {
+        return Err(Stop::NoMemory);
+    };
+    let Ok(names) = play.names(alloc) else {
+        return Err(Stop::NoMemory);
+    };
+    let Ok(first) = first_names(alloc, &play) else {
+        return Err(Stop::NoMemory);
+    };
+    play_named(alloc, &play, &names, &first, desk)
 }

@@ -7,14 +7,12 @@ ghost use Rattle.desk_io.specs.Names.{AllowsNames};
 ghost use Rattle.scan_words.specs.declared.order.Order.{Order};
 ghost use Rattle.scan_words.specs.Written.{Says};
 ghost use Rattle.desk_io.specs.Causes.{SomeRose, SameCounts};
-ghost use Rattle.scan_job.specs.declared.request.Request.{Request};
-ghost use Rattle.scan_job.specs.Requests.{Asks, order_of, names_of};
+ghost use Rattle.scan_job.specs.Requests.{Request, Asks, order_of, names_of};
 ghost use Rattle.scan_job.specs.Faults.{IsRunFault, HasNoFault};
 ghost use Rattle.scan_job.specs.TopCall.{SaysNothing, SameEverywhere, SameUnused, SameDesign, NoneRose, NoneOpen, AllClosed, AllRead, Reads, HasRefused, HasDone, HasWritten};
 ghost use Rattle.scan_job.specs.Ended.{HasRun, status_of};
 
-use crate::command::run_request;
-use crate::request::request_of;
+use crate::command::run_order;
 use crate::stop::Stop;
 use base_types::{NoMemory, Word};
 use desk_io::Desk;
@@ -40,10 +38,7 @@ fn run_words<D: Desk>(alloc: Global, words: &[Word], desk: &mut D) -> Result<(),
     ensures ended { HasRun words.now (D.state desk.old) (D.state desk.new) result }
 {
     match read_words(alloc, words) {
-        Ok(Some(order)) => match request_of(alloc, &order) {
-            Ok(request) => run_request(alloc, &request, desk),
-            Err(NoMemory) => Err(Stop::NoMemory),
-        },
+        Ok(Some(order)) => run_order(alloc, &order, desk),
         Ok(None) => Err(Stop::NoForm),
         Err(NoMemory) => Err(Stop::NoMemory),
     }

@@ -9,7 +9,6 @@ use Rattle.clap.specs.Takes.{takes}
 use Rattle.clap.specs.Walk.{rows_of}
 use Rattle.clap.specs.declared.parser.matches.ArgMatches.{ArgMatches}
 use Rattle.scan_words.specs.declared.verb.Verb.{Verb}
-use Rattle.scan_words.specs.declared.verb.Verb.TheVariants.{Rewire, Trace, Check, Reorder, Play}
 use Rattle.std.specs.Str.{bytes_eq}
 use Rattle.std.proofs.lemmas.Slice.Eq.{bytes_eq-Decides}
 use Rattle.scan_words.specs.Command.{program, raw_of}
@@ -20,7 +19,8 @@ use Rattle.scan_words.specs.declared.table.OptionForm.{OptionForm}
 use Rattle.scan_words.specs.declared.table.ValueForm.{ValueForm}
 use Rattle.scan_words.specs.declared.table.ValueForm.TheVariants as forms
 use Rattle.scan_words.specs.Table.{Values, option_text, value_form, has_form, is_given, may_lack, may_stand, value_among, option_value, value_list, each_value, is_like, values_like, are_distinct, are_apart}
-use Rattle.scan_words.specs.Orders.{options_of, values_by, is_count, verb_name, option_names, takes_further, verb_of, order_by, verb_order, order_in}
+use Rattle.scan_words.specs.Verbs.{verbs, options_of, verb_name, option_names, takes_further, verb_among, verb_of}
+use Rattle.scan_words.specs.Orders.{values_by, is_count, order_by, verb_order, order_in}
 use Rattle.scan_words.proofs.Found.{values_in, values_in-parts}
 use Rattle.scan_words.proofs.Sim.{add_parts}
 use Rattle.scan_words.proofs.Top.{taken, matched, parts_exist}
@@ -112,27 +112,21 @@ pub same_words : (words : List Text) → map (λ word. word) words ≡ words
 same_words [] = refl
 same_words (w ∷ ws) = ap (λ (rest : List Text). w ∷ rest) (same_words ws)
 
--- a word is the name of the first command, or what the others say of it holds
-named_or : (word : Text) (first verb : Verb) (others : Option Verb) → (others ≡ Some verb → word ≡ verb_name verb)
-    → cond (bytes_eq word (verb_name first)) (Some first) others ≡ Some verb → word ≡ verb_name verb
-named_or word first verb others more is =
-    let cases : (b : Bool) → bytes_eq word (verb_name first) ≡ b → cond b (Some first) others ≡ Some verb → word ≡ verb_name verb
-    = λ b. elim b as (λ b. bytes_eq word (verb_name first) ≡ b → cond b (Some first) others ≡ Some verb → word ≡ verb_name verb) [
+-- a command that is found among some has the word
+found_verb : (others : List Verb) (word : Text) (verb : Verb) → verb_among others word ≡ Some verb → word ≡ verb_name verb
+found_verb [] word verb is = absurd cc
+found_verb (first ∷ others) word verb is =
+    let cases : (b : Bool) → bytes_eq word (verb_name first) ≡ b → cond b (Some first) (verb_among others word) ≡ Some verb → word ≡ verb_name verb
+    = λ b. elim b as (λ b. bytes_eq word (verb_name first) ≡ b → cond b (Some first) (verb_among others word) ≡ Some verb → word ≡ verb_name verb) [
       | true ↦ λ f k. let same : first ≡ verb = cc in (bytes_eq-Decides word (verb_name first)).0 f ∙ ap verb_name same
-      | false ↦ λ f k. more k
+      | false ↦ λ f k. found_verb others word verb k
     ]
     in cases (bytes_eq word (verb_name first)) refl is
 
 -- the word that names a command
 pub verb_word : (word : Text) (verb : Verb) → verb_of word ≡ Some verb → word ≡ verb_name verb
 unfolding verb_of
-verb_word word verb is =
-    let last : Option Verb = cond (bytes_eq word (codes "play")) (Some Play) None in
-    let fourth : Option Verb = cond (bytes_eq word (codes "reorder")) (Some Reorder) last in
-    let third : Option Verb = cond (bytes_eq word (codes "check")) (Some Check) fourth in
-    let second : Option Verb = cond (bytes_eq word (codes "trace")) (Some Trace) third in
-    named_or word Rewire verb second
-    (named_or word Trace verb third (named_or word Check verb fourth (named_or word Reorder verb last (named_or word Play verb None (λ none. absurd cc))))) is
+verb_word word verb is = found_verb verbs word verb is
 
 pub no_order : (words : List Text) (command : Text) (behind : List Text) (verb : Verb) → words ≡ command ∷ behind → verb_of command ≡ Some verb → have_parts (option_names verb) (takes_further verb) false behind ≡ false → order_in words ≡ None
 unfolding order_in

@@ -13,7 +13,7 @@ use Rattle.scan_words.specs.declared.verb.Verb.{Verb}
 use Rattle.scan_words.specs.declared.verb.Verb.TheVariants.{Rewire, Trace, Check, Reorder, Play}
 use Rattle.scan_words.specs.Command.{program}
 use Rattle.scan_words.specs.Form.{Text, Part, is_name, is_value, word_kind, long_kind, kind_turn, turn, have_parts, with_part, word_parts, parts_from}
-use Rattle.scan_words.specs.Orders.{verb_name, option_names, takes_further}
+use Rattle.scan_words.specs.Verbs.{verb_name, option_names, takes_further}
 use Rattle.scan_words.proofs.Rules.{Finds, finds}
 use Rattle.scan_words.proofs.Steps.{walk_at}
 use Rattle.scan_words.proofs.Sim.{Goes, add_parts, follows}

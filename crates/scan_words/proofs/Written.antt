@@ -14,7 +14,8 @@ use Rattle.scan_words.specs.declared.form.WordKind.TheVariants as kinds
 use Rattle.scan_words.specs.declared.verb.Verb.{Verb}
 use Rattle.scan_words.specs.declared.verb.Verb.TheVariants.{Rewire, Trace, Check, Reorder, Play}
 use Rattle.scan_words.specs.Form.{◌>>=◌, Text, Part, is_name, is_value, word_kind, long_kind, with_part, word_parts, parts_from, values_of, only_if}
-use Rattle.scan_words.specs.Orders.{options_of, values_by, verb_name, option_names, takes_further, verb_of, is_count, order_by, verb_order, order_in}
+use Rattle.scan_words.specs.Verbs.{options_of, verb_name, option_names, takes_further, verb_of}
+use Rattle.scan_words.specs.Orders.{values_by, is_count, order_by, verb_order, order_in}
 use Rattle.scan_words.proofs.Orders.{verb_word}
 use Rattle.scan_words.proofs.Sim.{part_first}
 use Rattle.scan_words.specs.Written.{dashed, attached, IsSpelled, AreSpelled, Says}

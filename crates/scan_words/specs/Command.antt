@@ -7,8 +7,7 @@ use Rattle.clap.specs.declared.parser.matches.ArgMatches.{ArgMatches}
 use Rattle.clap.specs.Simple.{App, Shape, new_app, new_rule, on_top, with_subcommand}
 use Rattle.clap.specs.Walk.{Rule, Text}
 use Rattle.scan_words.specs.declared.verb.Verb.{Verb}
-use Rattle.scan_words.specs.declared.verb.Verb.TheVariants.{Rewire, Trace, Check, Reorder, Play}
-use Rattle.scan_words.specs.Orders.{verb_name, option_names, takes_further}
+use Rattle.scan_words.specs.Verbs.{verbs, verb_name, option_names, takes_further}
 use Rattle.clap.specs.declared.builder.action.ArgAction.TheVariants.{Append}
 
 -- the rule of an option: it may stand as often as it likes, each time with a value
@@ -44,11 +43,14 @@ app_of_verb verb = app_for (verb_name verb) (option_names verb) (takes_further v
 abbrev pub program_top : App
 program_top = on_top (λ s. record s { no_binary_name = true; disable_help_flag = true; disable_help_subcommand = true }) (new_app (codes "wrenpewter"))
 
+-- a program with a subcommand for each of some commands besides
+abbrev pub with_verbs : App → List Verb → App
+with_verbs app [] = app
+with_verbs app (verb ∷ others) = with_verbs (with_subcommand app (app_of_verb verb).top) others
+
 -- the program with a subcommand for each command
 abbrev pub program : App
-program =
-    with_subcommand (with_subcommand (with_subcommand (with_subcommand (with_subcommand program_top (app_of_verb Rewire).top) (app_of_verb Trace).top)
-    (app_of_verb Check).top) (app_of_verb Reorder).top) (app_of_verb Play).top
+program = with_verbs program_top verbs
 
 -- no argument is global
 abbrev pub IsLocal : Command → Type 0

@@ -1,5 +1,5 @@
 -- The table of a command: its options, what their values are, and which of them stand.
-use Rattle.std.specs.Prelude.{Bool, true, false, ◌&&◌, ◌||◌, not, if◌then◌else◌, List, [], ◌∷◌, ◌++◌, map, codes, Option, Some, None, option_and_then}
+use Rattle.std.specs.Prelude.{Bool, true, false, ◌&&◌, ◌||◌, not, if◌then◌else◌, List, [], ◌∷◌, ◌++◌, map, codes, Option, Some, None}
 use Rattle.std.specs.Str.{bytes_eq}
 use Rattle.scan_words.specs.declared.table.OptionName.{OptionName}
 use Rattle.scan_words.specs.declared.table.OptionName.TheVariants as options
@@ -8,43 +8,42 @@ use Rattle.scan_words.specs.declared.table.ValueForm.TheVariants as forms
 use Rattle.scan_words.specs.declared.table.Need.{Need}
 use Rattle.scan_words.specs.declared.table.Need.TheVariants.{Needed, Optional, With}
 use Rattle.scan_words.specs.declared.table.OptionForm.{OptionForm}
-use Rattle.scan_words.specs.Form.{◌>>=◌, Text, only_if, is_name}
+use Rattle.scan_words.specs.Form.{◌>>=◌, Text, is_name}
+
+-- what is known of an option: the name behind the two hyphens, and what its value is
+pub record OptionRow : Type 0 where
+  pub text : Text
+  pub form : ValueForm
+
+-- an option of this name whose value has this form
+abbrev pub option : Text → ValueForm → OptionRow
+option text form = record { text = text; form = form }
+
+-- the table of options: a row for each
+abbrev pub option_row : OptionName → OptionRow
+option_row options.Table = option (codes "table") forms.File
+option_row options.Lef = option (codes "lef") forms.File
+option_row options.Verilog = option (codes "verilog") forms.File
+option_row options.Def = option (codes "def") forms.File
+option_row options.Stil = option (codes "stil") forms.File
+option_row options.OutVerilog = option (codes "out-verilog") forms.File
+option_row options.OutDef = option (codes "out-def") forms.File
+option_row options.OutStil = option (codes "out-stil") forms.File
+option_row options.Cell = option (codes "cell") forms.Name
+option_row options.InPin = option (codes "in-pin") forms.Pin
+option_row options.OutPin = option (codes "out-pin") forms.Pin
+option_row options.ScanIn = option (codes "scan-in") forms.Name
+option_row options.ScanOut = option (codes "scan-out") forms.Name
+option_row options.Effort = option (codes "effort") forms.Effort
+option_row options.Device = option (codes "device") forms.Device
 
 -- the name behind the two hyphens
 abbrev pub option_text : OptionName → Text
-option_text options.Table = codes "table"
-option_text options.Lef = codes "lef"
-option_text options.Verilog = codes "verilog"
-option_text options.Def = codes "def"
-option_text options.Stil = codes "stil"
-option_text options.OutVerilog = codes "out-verilog"
-option_text options.OutDef = codes "out-def"
-option_text options.OutStil = codes "out-stil"
-option_text options.Cell = codes "cell"
-option_text options.InPin = codes "in-pin"
-option_text options.OutPin = codes "out-pin"
-option_text options.ScanIn = codes "scan-in"
-option_text options.ScanOut = codes "scan-out"
-option_text options.Effort = codes "effort"
-option_text options.Device = codes "device"
+option_text name = (option_row name).text
 
 -- what the option's value is
 abbrev pub value_form : OptionName → ValueForm
-value_form options.Table = forms.File
-value_form options.Lef = forms.File
-value_form options.Verilog = forms.File
-value_form options.Def = forms.File
-value_form options.Stil = forms.File
-value_form options.OutVerilog = forms.File
-value_form options.OutDef = forms.File
-value_form options.OutStil = forms.File
-value_form options.Cell = forms.Name
-value_form options.InPin = forms.Pin
-value_form options.OutPin = forms.Pin
-value_form options.ScanIn = forms.Name
-value_form options.ScanOut = forms.Name
-value_form options.Effort = forms.Effort
-value_form options.Device = forms.Device
+value_form name = (option_row name).form
 
 -- the names of a table's options
 abbrev pub texts : List OptionForm → List Text

@@ -4,7 +4,8 @@ use Rattle.std.specs.Prelude.{◌≡◌, true, ◌⊎◌, List, [], ◌∷◌, �
 use Rattle.scan_words.specs.declared.order.Order.{Order}
 use Rattle.scan_words.specs.declared.verb.Verb.{Verb}
 use Rattle.scan_words.specs.Form.{Text, Part, is_name, is_value, values_of}
-use Rattle.scan_words.specs.Orders.{option_names, takes_further, verb_name, order_by}
+use Rattle.scan_words.specs.Verbs.{option_names, takes_further, verb_name}
+use Rattle.scan_words.specs.Orders.{order_by}
 
 -- `--name`
 abbrev pub dashed : Text → Text

@@ -5,13 +5,14 @@ ghost use Rattle.scan_words.specs.Written.{Says};
 ghost use Rattle.scan_words.specs.Command.{bare_option, bare_further, app_for, app_of_verb, program, IsLocal, raw_of};
 ghost use Rattle.scan_words.specs.Form.{have_parts};
 ghost use Rattle.scan_words.specs.Table.{texts};
-ghost use Rattle.scan_words.specs.Orders.{verb_name, option_names, takes_further, order_by, verb_order, order_in};
+ghost use Rattle.scan_words.specs.Verbs.{verb_name, option_names, takes_further};
+ghost use Rattle.scan_words.specs.Orders.{order_by, verb_order, order_in};
 
 use crate::form::have_parts;
 use crate::order::Order;
 use crate::table::OptionForm;
 use crate::values::values_by;
-use crate::verb::Verb;
+use crate::verb::{Verb, verbs};
 use base_types::{NoMemory, Rows, Word};
 use clap::error::ErrorKind;
 use clap::{Arg, ArgAction, ArgMatches, Command};
@@ -64,20 +65,13 @@ fn verb_command<'a>(alloc: Global, verb: Verb) -> Result<Command<'a>, AllocError
 fn program<'a>(alloc: Global) -> Result<Command<'a>, AllocError>
     ensures { IfOk result (λ command. app_of command ≡ program) }
 {
-    let rewire = verb_command(alloc, Verb::Rewire)?;
-    let trace = verb_command(alloc, Verb::Trace)?;
-    let check = verb_command(alloc, Verb::Check)?;
-    let reorder = verb_command(alloc, Verb::Reorder)?;
-    let play = verb_command(alloc, Verb::Play)?;
-    let command = Command::new(alloc, "wrenpewter")
+    let mut command = Command::new(alloc, "wrenpewter")
         .no_binary_name(true)
         .disable_help_flag(true)
-        .disable_help_subcommand(true)
-        .subcommand(rewire)?
-        .subcommand(trace)?
-        .subcommand(check)?
-        .subcommand(reorder)?
-        .subcommand(play)?;
+        .disable_help_subcommand(true);
+    for verb in verbs() {
+        command = command.subcommand(verb_command(alloc, *verb)?)?;
+    }
     Ok(command)
 }
 

@@ -56,27 +56,35 @@ pub struct OptionForm {
 }
 
 impl OptionName {
+    /// The option's row: the name behind the two hyphens, and what its value is.
+    fn row<'a>(self) -> (&'a str, ValueForm)
+        ensures text { result.0.now ≡ option_text self }
+        ensures form { result.1 ≡ value_form self }
+    {
+        match self {
+            OptionName::Table => ("table", ValueForm::File),
+            OptionName::Lef => ("lef", ValueForm::File),
+            OptionName::Verilog => ("verilog", ValueForm::File),
+            OptionName::Def => ("def", ValueForm::File),
+            OptionName::Stil => ("stil", ValueForm::File),
+            OptionName::OutVerilog => ("out-verilog", ValueForm::File),
+            OptionName::OutDef => ("out-def", ValueForm::File),
+            OptionName::OutStil => ("out-stil", ValueForm::File),
+            OptionName::Cell => ("cell", ValueForm::Name),
+            OptionName::InPin => ("in-pin", ValueForm::Pin),
+            OptionName::OutPin => ("out-pin", ValueForm::Pin),
+            OptionName::ScanIn => ("scan-in", ValueForm::Name),
+            OptionName::ScanOut => ("scan-out", ValueForm::Name),
+            OptionName::Effort => ("effort", ValueForm::Effort),
+            OptionName::Device => ("device", ValueForm::Device),
+        }
+    }
+
     /// The name behind the two hyphens.
     pub(crate) fn text<'a>(self) -> &'a str
         ensures { result.now ≡ option_text self }
     {
-        match self {
-            OptionName::Table => "table",
-            OptionName::Lef => "lef",
-            OptionName::Verilog => "verilog",
-            OptionName::Def => "def",
-            OptionName::Stil => "stil",
-            OptionName::OutVerilog => "out-verilog",
-            OptionName::OutDef => "out-def",
-            OptionName::OutStil => "out-stil",
-            OptionName::Cell => "cell",
-            OptionName::InPin => "in-pin",
-            OptionName::OutPin => "out-pin",
-            OptionName::ScanIn => "scan-in",
-            OptionName::ScanOut => "scan-out",
-            OptionName::Effort => "effort",
-            OptionName::Device => "device",
-        }
+        self.row().0
     }
 
     /// Whether this is the option's name.
@@ -90,20 +98,7 @@ impl OptionName {
     pub(crate) fn value_form(self) -> ValueForm
         ensures { result ≡ value_form self }
     {
-        match self {
-            OptionName::Table
-            | OptionName::Lef
-            | OptionName::Verilog
-            | OptionName::Def
-            | OptionName::Stil
-            | OptionName::OutVerilog
-            | OptionName::OutDef
-            | OptionName::OutStil => ValueForm::File,
-            OptionName::InPin | OptionName::OutPin => ValueForm::Pin,
-            OptionName::Cell | OptionName::ScanIn | OptionName::ScanOut => ValueForm::Name,
-            OptionName::Effort => ValueForm::Effort,
-            OptionName::Device => ValueForm::Device,
-        }
+        self.row().1
     }
 }
 

@@ -1,5 +1,6 @@
 ghost use Rattle.std.specs.Prelude.{◌≡◌};
-ghost use Rattle.scan_words.specs.Orders.{verb_name, options_of, takes_further, verb_of};
+ghost use Rattle.std.specs.Str.{bytes_eq};
+ghost use Rattle.scan_words.specs.Verbs.{verbs, verb_name, options_of, takes_further, verb_among, verb_of};
 
 use crate::table::{Need, OptionForm, OptionName};
 
@@ -17,6 +18,25 @@ pub enum Verb {
     /// Plays patterns on the scan chains of a netlist, cell by cell.
     Play,
 }
+
+/// A row of the table of commands.
+#[derive(Clone, Copy)]
+pub(crate) struct VerbRow<'a> {
+    /// The word of the command.
+    pub word: &'a str,
+    /// Its options, in the order of their values.
+    pub options: &'a [OptionForm],
+    /// Whether one or more further words stand, and not none.
+    pub takes_further: bool,
+}
+
+static VERBS: [Verb; 5] = [
+    Verb::Rewire,
+    Verb::Trace,
+    Verb::Check,
+    Verb::Reorder,
+    Verb::Play,
+];
 
 static REWIRE: [OptionForm; 7] = [
     OptionForm {
@@ -133,56 +153,98 @@ static PLAY: [OptionForm; 4] = [
     },
 ];
 
+/// The commands.
+pub(crate) fn verbs<'a>() -> &'a [Verb]
+    ensures { result.now ≡ verbs }
+{
+    VERBS.as_slice()
+}
+
+/// The first of some commands that has the word.
+fn verb_among(verbs: &[Verb], word: &str) -> Option<Verb>
+    ensures { result ≡ verb_among verbs.now word.now }
+{
+    match verbs {
+        [] => None,
+        [verb, others @ ..] => {
+            if verb.is_called(word) {
+                Some(*verb)
+            } else {
+                verb_among(others, word)
+            }
+        }
+    }
+}
+
 impl Verb {
-    #[tactic(auto, unfolding(crate::specs::Orders::verb_of))]
+    /// The command of a word.
+    #[tactic(auto, unfolding(crate::specs::Verbs::verb_of))]
     pub(crate) fn of(word: &str) -> Option<Verb>
         ensures { result ≡ verb_of word.now }
     {
-        if word == "rewire" {
-            Some(Verb::Rewire)
-        } else if word == "trace" {
-            Some(Verb::Trace)
-        } else if word == "check" {
-            Some(Verb::Check)
-        } else if word == "reorder" {
-            Some(Verb::Reorder)
-        } else if word == "play" {
-            Some(Verb::Play)
-        } else {
-            None
+        verb_among(verbs(), word)
+    }
+
+    /// The command's row.
+    fn row<'a>(self) -> VerbRow<'a>
+        ensures word { result.word.now ≡ verb_name self }
+        ensures options { result.options.now ≡ options_of self }
+        ensures further { result.takes_further ≡ takes_further self }
+    {
+        match self {
+            Verb::Rewire => VerbRow {
+                word: "rewire",
+                options: REWIRE.as_slice(),
+                takes_further: true,
+            },
+            Verb::Trace => VerbRow {
+                word: "trace",
+                options: TRACE.as_slice(),
+                takes_further: false,
+            },
+            Verb::Check => VerbRow {
+                word: "check",
+                options: CHECK.as_slice(),
+                takes_further: false,
+            },
+            Verb::Reorder => VerbRow {
+                word: "reorder",
+                options: REORDER.as_slice(),
+                takes_further: false,
+            },
+            Verb::Play => VerbRow {
+                word: "play",
+                options: PLAY.as_slice(),
+                takes_further: false,
+            },
         }
+    }
+
+    /// Whether this is the command's word.
+    fn is_called(self, word: &str) -> bool
+        ensures { result ≡ bytes_eq word.now (verb_name self) }
+    {
+        word == self.name()
     }
 
     /// The word of the command.
     pub(crate) fn name<'a>(self) -> &'a str
         ensures { result.now ≡ verb_name self }
     {
-        match self {
-            Verb::Rewire => "rewire",
-            Verb::Trace => "trace",
-            Verb::Check => "check",
-            Verb::Reorder => "reorder",
-            Verb::Play => "play",
-        }
+        self.row().word
     }
 
     /// The table of the options, in the order of their values.
     pub(crate) fn options<'a>(self) -> &'a [OptionForm]
         ensures { result.now ≡ options_of self }
     {
-        match self {
-            Verb::Rewire => REWIRE.as_slice(),
-            Verb::Trace => TRACE.as_slice(),
-            Verb::Check => CHECK.as_slice(),
-            Verb::Reorder => REORDER.as_slice(),
-            Verb::Play => PLAY.as_slice(),
-        }
+        self.row().options
     }
 
     /// Whether one or more further words stand, and not none.
     pub(crate) fn takes_further(self) -> bool
         ensures { result ≡ takes_further self }
     {
-        matches!(self, Verb::Rewire)
+        self.row().takes_further
     }
 }

@@ -2,13 +2,12 @@ use Rattle.std.proofs.Common.{◌≡◌, ℕ, List, None, Result, Ok, Err, inr, 
 use Rattle.scan_words.specs.declared.order.Order.{Order}
 use Rattle.scan_words.specs.Orders.{order_in}
 use Rattle.scan_words.specs.Written.{Says}
-use Rattle.scan_job.specs.declared.request.Request.{Request}
 use Rattle.scan_job.specs.declared.stop.Stop.{Stop}
 use Rattle.scan_job.specs.declared.stop.Stop.TheVariants.{NoForm, Refused, InputFailed, OutputFailed, NoMemory}
-use Rattle.scan_job.specs.Requests.{Asks, order_of}
+use Rattle.scan_job.specs.Requests.{Request, Asks, order_of}
 use Rattle.scan_job.specs.TopCall.{Slots}
-use Rattle.scan_job.specs.Ended.{HasEnded, HasRun}
-use Rattle.scan_job.proofs.Asked.{asked, pins_apart}
+use Rattle.scan_job.specs.Ended.{HasEnded, HasRunOrder, HasRun}
+use Rattle.scan_job.proofs.Asked.{asked}
 use Rattle.scan_job.proofs.top.run_words.Goals as goal
 
 asks : (words : List (List ℕ)) (order : Order) (request : Request) → Says words order → order_of request ≡ order → Asks words request
@@ -23,24 +22,20 @@ has_run words request old new (Err InputFailed) asks is = (request, asks, is)
 has_run words request old new (Err OutputFailed) asks is = (request, asks, is)
 has_run words request old new (Err NoMemory) asks is = inr (request, asks, is)
 
-pub request_of-requires : goal.request_of-requires
-request_of-requires g c =
-    let order = c.in-Ok-Some.order in
-    record { asked = asked c.args.words.now order ((c.read_words.ensures.form order).1 (sym c.in-Ok-Some.ensures.value ∙ c.in-Ok-Some.field-0-is)) }
+order_run : (words : List (List ℕ)) (order : Order) (old new : Slots) (result : Result (Unit {0}) Stop)
+    → Says words order → HasRunOrder order old new result → HasRun words old new result
+order_run words order old new result says run = has_run words run.request old new result (asks words order run.request says run.is) run.ended
 
-pub run_request-requires-clause-pins : goal.run_request-requires-clause-pins
-run_request-requires-clause-pins g c =
+pub run_order-requires-clause-asked : goal.run_order-requires-clause-asked
+run_order-requires-clause-asked g c =
     let order = c.in-Ok-Some.order in
-    let request = c.in-Ok.request in
-    let says = (c.read_words.ensures.form order).1 (sym c.in-Ok-Some.ensures.value ∙ c.in-Ok-Some.field-0-is) in
-    pins_apart request (asked c.args.words.now (order_of request) (asks c.args.words.now order request says c.in-Ok.ensures.value))
+    asked c.args.words.now order ((c.read_words.ensures.form order).1 (sym c.in-Ok-Some.ensures.value ∙ c.in-Ok-Some.field-0-is))
 
-pub run_request-requires-clause-allowed : goal.run_request-requires-clause-allowed
-run_request-requires-clause-allowed g c =
+pub run_order-requires-clause-allowed : goal.run_order-requires-clause-allowed
+run_order-requires-clause-allowed g c = λ request is.
     let order = c.in-Ok-Some.order in
-    let request = c.in-Ok.request in
     let says = (c.read_words.ensures.form order).1 (sym c.in-Ok-Some.ensures.value ∙ c.in-Ok-Some.field-0-is) in
-    c.requires.allowed request (asks c.args.words.now order request says c.in-Ok.ensures.value)
+    c.requires.allowed request (asks c.args.words.now order request says is)
 
 pub returns-in-Ok-None : goal.returns-in-Ok-None
 returns-in-Ok-None g c = record {
@@ -53,12 +48,8 @@ returns-in-Ok-None g c = record {
   );
 }
 
-pub returns-in-Ok : goal.returns-in-Ok
-returns-in-Ok g c =
+pub returns-in-Ok-Some : goal.returns-in-Ok-Some
+returns-in-Ok-Some g c =
     let order = c.in-Ok-Some.order in
-    let request = c.in-Ok.request in
     let says = (c.read_words.ensures.form order).1 (sym c.in-Ok-Some.ensures.value ∙ c.in-Ok-Some.field-0-is) in
-    let asked = asks c.args.words.now order request says c.in-Ok.ensures.value in
-    let old = g.D.Desk.state c.args.desk.now in
-    let new = g.D.Desk.state c.run_request.new.desk in
-    record { ended = has_run c.args.words.now request old new c.run_request.result asked c.run_request.ensures.ended }
+    record { ended = order_run c.args.words.now order _ _ c.run_order.result says c.run_order.ensures.ended }

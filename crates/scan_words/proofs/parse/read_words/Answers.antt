@@ -2,7 +2,7 @@ use Rattle.std.proofs.Common.{◌∷◌, false, Bool, List, ap, ap₂, sym, ◌�
 use Rattle.scan_words.specs.Form.{Text, have_parts}
 use Rattle.scan_words.specs.declared.table.OptionForm.{OptionForm}
 use Rattle.scan_words.specs.Table.{texts}
-use Rattle.scan_words.specs.Orders.{verb_of}
+use Rattle.scan_words.specs.Verbs.{verb_of}
 use Rattle.scan_words.proofs.Orders.{verb_word, no_order}
 use Rattle.scan_words.proofs.Written.{form}
 use Rattle.scan_words.proofs.parse.read_words.Goals as goal

@@ -1,0 +1,52 @@
+-- The values of a command's options, one by one.
+use Rattle.std.proofs.Common.{◌≡◌, ◌==◌, ℕ, Bool, true, false, cond, ◌&&◌, List, [], ◌∷◌, ◌++◌, Option, Some, None, refl, sym, arith}
+use Rattle.std.proofs.lemmas.Bool.Decides.{nat_tests}
+use Rattle.std.proofs.lemmas.Option.{same_Some}
+use Rattle.scan_words.specs.declared.verb.Verb.{Verb}
+use Rattle.scan_words.specs.declared.table.OptionName.{OptionName}
+use Rattle.scan_words.specs.declared.table.OptionForm.{OptionForm}
+use Rattle.scan_words.specs.Form.{◌>>=◌, Text}
+use Rattle.scan_words.specs.Table.{Values, option_text, value_form, has_form, value_among, value_list, each_value}
+use Rattle.scan_words.specs.Verbs.{needed}
+use Rattle.scan_job.specs.Requests.{IsAsked}
+
+-- the values and the further words of a command's order
+abbrev pub IsMade : Verb → List Text → List Text → Type 0
+IsMade verb values further = IsAsked (record { verb = verb; values = values; further = further })
+
+-- the value of an option that stands, and those behind it
+pub record First (values : Values) (name : OptionName) (table : List OptionForm) (given : List Text) : Type 0 where
+  pub value : Text
+  pub rest : List Text
+  pub is : values (option_text name) ≡ value ∷ []
+  pub formed : has_form (value_form name) value ≡ true
+  pub others : each_value values table ≡ Some rest
+  pub same : given ≡ value ∷ rest
+
+module _ (values : Values) (name : OptionName) (table : List OptionForm) (given : List Text) where
+  by_form : (v : Text) (b : Bool) → has_form (value_form name) v ≡ b → values (option_text name) ≡ v ∷ [] → (others : Option (List Text)) → each_value values table ≡ others
+      → (cond b (Some (Some v)) None >>= λ value. others >>= λ vs. Some (value_list value ++ vs)) ≡ Some given → First values name table given
+  by_form v false formed is others e h = absurd cc
+  by_form v true formed is None e h = absurd cc
+  by_form v true formed is (Some vs) e h = record { value = v; rest = vs; is = is; formed = formed; others = e; same = sym (same_Some _ _ h) }
+
+  by_values : (vs : List Text) → values (option_text name) ≡ vs
+      → (value_among (needed name) values vs >>= λ value. each_value values table >>= λ others. Some (value_list value ++ others)) ≡ Some given → First values name table given
+  by_values [] is h = absurd cc
+  by_values (v ∷ []) is h = by_form v (has_form (value_form name) v) refl is (each_value values table) refl h
+  by_values (v ∷ w ∷ ws) is h = absurd cc
+
+  pub first : each_value values (needed name ∷ table) ≡ Some given → First values name table given
+  unfolding each_value
+  first h = by_values (values (option_text name)) refl h
+
+pub none_left : (values : Values) (given : List Text) → each_value values [] ≡ Some given → given ≡ []
+unfolding each_value
+none_left values given h = sym (same_Some _ _ h)
+
+pub and_right : (a b : Bool) → (a && b) ≡ true → b ≡ true
+and_right true b h = h
+and_right false b h = absurd cc
+
+pub zero_is : (n : ℕ) → (n == 0) ≡ true → n ≡ 0
+zero_is n h = grind (arith, nat_tests)

@@ -1,0 +1,18 @@
+use Rattle.scan_words.specs.declared.verb.Verb.TheVariants as verbs
+use Rattle.scan_job.proofs.Asked.{made_as}
+use Rattle.scan_job.proofs.command.run_order.Goals as goal
+
+pub run_whole-requires-clause-made : goal.run_whole-requires-clause-made
+run_whole-requires-clause-made g c = made_as verbs.Rewire c.args.order.now c.in-Rewire.is c.requires.asked
+
+pub run_whole-requires-in-Trace-clause-made : goal.run_whole-requires-in-Trace-clause-made
+run_whole-requires-in-Trace-clause-made g c = made_as verbs.Trace c.args.order.now c.in-Trace.is c.requires.asked
+
+pub run_whole-requires-in-Check-clause-made : goal.run_whole-requires-in-Check-clause-made
+run_whole-requires-in-Check-clause-made g c = made_as verbs.Check c.args.order.now c.in-Check.is c.requires.asked
+
+pub run_whole-requires-in-Reorder-clause-made : goal.run_whole-requires-in-Reorder-clause-made
+run_whole-requires-in-Reorder-clause-made g c = made_as verbs.Reorder c.args.order.now c.in-Reorder.is c.requires.asked
+
+pub run_play-requires-clause-made : goal.run_play-requires-clause-made
+run_play-requires-clause-made g c = made_as verbs.Play c.args.order.now c.in-Play.is c.requires.asked

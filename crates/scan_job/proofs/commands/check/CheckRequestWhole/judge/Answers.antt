@@ -1,0 +1,15 @@
+use Rattle.desk_io.specs.declared.slot.Slot.TheVariants.{Lef, Verilog, Def}
+use Rattle.scan_job.proofs.commands.check.CheckRequestWhole.judge.Goals as goal
+
+pub check_text-requires-clause-lef : goal.check_text-requires-clause-lef
+check_text-requires-clause-lef c = rw c.text-lef.ensures.value (c.requires.countable Lef tt)
+
+pub check_text-requires-clause-verilog : goal.check_text-requires-clause-verilog
+check_text-requires-clause-verilog c = rw c.text-verilog.ensures.value (c.requires.countable Verilog tt)
+
+pub check_text-requires-clause-def : goal.check_text-requires-clause-def
+check_text-requires-clause-def c = rw c.text-def.ensures.value (c.requires.countable Def tt)
+
+pub returns-clause-no_fault : goal.returns-clause-no_fault
+returns-clause-no_fault c = λ fault is.
+    c.in_ok-console.ensures.no_fault fault (rw (c.text-table.ensures.value, c.text-lef.ensures.value, c.text-verilog.ensures.value, c.text-def.ensures.value) is.holds)
