@@ -85,6 +85,8 @@ def labels(contract):
 DEFINED = re.compile(
     r"^(?:(?:unfoldable|abbrev|pub|mutual|infix[lr]? \d+)\s+)*(?:record |data )?(?P<name>◌?[^\s:(){}]+)\s*(?:\{[^:]*\}\s*|\([^:]*:[^)]*\)\s*)*:", re.M
 )
+# a record or data type, whose parameters may have types with brackets
+TYPE = re.compile(r"^(?:(?:unfoldable|abbrev|pub|mutual)\s+)*(?:record|data) (?P<name>[^\s:(){}]+)", re.M)
 IMPORT = re.compile(r"^(?:ghost |pub )?use Rattle\.(\w+)\.specs\.([\w.]+)\.\{([^}]*)\}", re.M)
 WORD = re.compile(r"[\w◌&▸◂≡+<>≤-]+")
 
@@ -103,7 +105,7 @@ class Spec:
         self.blocks = {}
         for block in re.split(r"\n\s*\n", text):
             code = "\n".join(line for line in block.split("\n") if not line.lstrip().startswith("--") and "use Rattle" not in line)
-            for match in DEFINED.finditer(code):
+            for match in [*TYPE.finditer(code), *DEFINED.finditer(code)]:
                 self.blocks.setdefault(match.group("name"), code)
 
 
