@@ -1,15 +1,12 @@
 -- What is written of checked files for a legal plan is what the contract says.
 use Rattle.std.proofs.Common.{◌≡◌, ◌≤◌, ℕ, true, List, Contains, refl, sym, subst}
-use Rattle.std.specs.Prelude.{Some, None}
-use Rattle.std.proofs.lemmas.List.Elements.{All-contains}
+use Rattle.std.specs.Prelude.{Some}
 use Rattle.base_types.specs.declared.fault.Fault.{Fault}
 use Rattle.netlist_core.specs.declared.netlist.Netlist.{Netlist}
 use Rattle.netlist_core.specs.Netlists.{IsNetlist}
 use Rattle.cell_table.specs.Cells.{Cells}
-use Rattle.cell_table.specs.Entries.{PinsLaw}
 use Rattle.def_reader.specs.declared.design.Design.{Design}
 use Rattle.chain_trace.specs.declared.path.Path.{Path}
-use Rattle.chain_trace.specs.Paths.{IsScanPath}
 use Rattle.chain_trace.specs.Named.{NamesLaw}
 use Rattle.chain_rules.specs.declared.spec.ChainSpec.{ChainSpec}
 use Rattle.chain_rules.specs.declared.plan.Plan.{Plan}
@@ -23,12 +20,11 @@ use Rattle.net_edit.specs.Changes.{changes}
 use Rattle.net_edit.specs.Rearranged.{AreRearranged}
 use Rattle.net_edit.specs.Tails.{freed_between, rewired, AreTailNames}
 use Rattle.net_edit.specs.Agreement.{Placing, AgreeOnPins, AreMoved}
-use Rattle.net_edit.specs.Laws.{HasPath, PinsOnceLaw}
+use Rattle.net_edit.specs.Laws.{HasPath}
 use Rattle.net_edit.specs.Wires.{AreEditsFor, IsErasedAlike, names_of}
 use Rattle.plan_paths.specs.NewPaths.{new_paths}
-use Rattle.plan_paths.specs.Laws.{PlanLaw, ReadOffLaw}
-use Rattle.traced_paths.specs.Asked.{asked_by}
-use Rattle.traced_paths.specs.Traced.{ArePathsOf, NameEntries}
+use Rattle.plan_paths.specs.Laws.{ReadOffLaw}
+use Rattle.traced_paths.specs.Traced.{NameEntries}
 use Rattle.traced_paths.specs.Numbers.{path_specs, all_bits}
 use Rattle.design_elements.specs.Elements.{chain_specs}
 use Rattle.design_places.specs.NetPins.{HoldsInNets}
@@ -43,7 +39,8 @@ use Rattle.def_edit.specs.declared.text.DefOut.{DefOut}
 use Rattle.def_writer.specs.DefTexts.{IsDefText, IsErasedDef, IsPlacedAfter}
 use Rattle.chain_reorder.specs.declared.reorder.Figures.{Figures}
 use Rattle.chain_reorder.specs.Reordered.{is_free_port, IsGoodPlan, IsVerilogOf, IsReadOff, AgreeAfter, AreFigures, IsReordered}
-use Rattle.chain_reorder.proofs.Numbered.{numbers, free_outputs, outputs_apart}
+use Rattle.chain_reorder.specs.PatternPlans.{IsMadeFor}
+use Rattle.chain_reorder.proofs.Numbered.{numbers}
 use Rattle.chain_reorder.proofs.FreeChanges.{changes_free}
 use Rattle.chain_reorder.proofs.SamePaths.{HaveSamePaths, only_plan}
 use Rattle.chain_reorder.proofs.Heads.{heads_kept}
@@ -71,14 +68,6 @@ module _ (t : Texts) (f : DesignFiles) (checked : AreChecked t f) (plan : Plan) 
   abbrev chains : List ChainSpec
   chains = chain_specs n cells d
 
-  are_rearranged : PlanLaw → PinsLaw → PinsOnceLaw → AreRearranged n cells old new
-  are_rearranged plan_law pins_law once_law =
-      plan_law (numbers n cells d) n cells old chains f.rules plan checked.rules legal
-      (λ p there. All-contains (λ (q : Path). IsScanPath n cells q.output q) old p checked.paths.traced.each there)
-      (free_outputs n cells d old)
-      (outputs_apart n cells (asked_by (Some d) None) old checked.paths.traced)
-      (once_law n cells (pins_law t.table cells checked.known.read.cells_are))
-
   all_free : (c : Change) → Contains (changes old new) c → is_free_port n cells d old c.port ≡ true
   all_free c there = changes_free n cells d old chains f.rules plan checked.rules legal c there
 
@@ -87,7 +76,6 @@ module _ (t : Texts) (f : DesignFiles) (checked : AreChecked t f) (plan : Plan) 
     pub rearranged : AreRearranged n cells ps ns
     pub free : (c : Change) → Contains (changes ps ns) c → is_free_port n cells d ps c.port ≡ true
     pub standing : (fault : Fault) → HoldsInNets n cells d ps fault → ⊥
-    pub traced : ArePathsOf n cells (asked_by (Some d) None) ps
     pub entries : NameEntries n cells ps
     pub few : all_bits n cells ps ≤ 262144
     pub chains : cs ≡ chain_specs n cells d
@@ -99,7 +87,6 @@ module _ (t : Texts) (f : DesignFiles) (checked : AreChecked t f) (plan : Plan) 
     rearranged = rearranged;
     free = all_free;
     standing = checked.inside.no_pin;
-    traced = checked.paths.traced;
     entries = checked.paths.entries;
     few = checked.inside.few_bits;
     chains = refl;
@@ -108,8 +95,8 @@ module _ (t : Texts) (f : DesignFiles) (checked : AreChecked t f) (plan : Plan) 
   }
 
   -- so it is with what is computed
-  pub are_ready : PlanLaw → PinsLaw → PinsOnceLaw → (ps ns : List Path) (cs : List ChainSpec) → ps ≡ old → ns ≡ new → cs ≡ chains → AreReady ps ns cs
-  are_ready plan_law pins_law once_law ps ns cs ps_is ns_is cs_is = rw (ps_is, ns_is, cs_is) (ready_here (are_rearranged plan_law pins_law once_law))
+  pub are_ready : AreRearranged n cells old new → (ps ns : List Path) → ps ≡ old → ns ≡ new → AreReady ps ns chains
+  are_ready rearranged ps ns ps_is ns_is = rw (ps_is, ns_is) (ready_here rearranged)
 
   -- what the calls give that make the edits and the texts
   pub record AreWritten (old new : List Path) (edits : Edits) (verilog : List ℕ) (out : DefOut) : Type 0 where
@@ -159,26 +146,27 @@ module _ (t : Texts) (f : DesignFiles) (checked : AreChecked t f) (plan : Plan) 
         let n_ok = checked.sound.is_netlist in
         let w_ok = w.denoted.is.sound in
         let kept = heads_kept n cells names old new written w.denoted.same.wired in
-        let agree = w.agrees (placing n d) (placing n v) w.placed.moved (placing_law n d n_ok checked.paths.agree) in
+        let agree = w.agrees (placing n d) (placing n v) w.placed.moved (placing_law n d n_ok checked.agreed.agree) in
         record {
           agree =
-              agreement_law written v w_ok w.placed.once (components_kept n written d v kept w.placed.components checked.paths.agree.components)
+              agreement_law written v w_ok w.placed.once (components_kept n written d v kept w.placed.components checked.agreed.agree.components)
               (agree_written n cells names old new written v n_ok w.sound w_ok w.denoted.same.wired agree);
           standing = stands n written cells v kept new same.after same.same w.placed.standing;
         }
 
-    pub is_reordered : (effort : Effort) (figures : Figures) → ReadOffLaw → NamesLaw → PlacingLaw → AgreementLaw → IsGoodPlan effort f.rules f.ends plan → AreFigures d f.rules f.ends plan edits figures → figures.nets_cut ≡ out.nets_cut
-        → IsReordered effort t verilog out.text figures
-    is_reordered effort figures read_off_law names_law placing_law agreement_law good figures_are cut =
+    pub is_made : (effort : Effort) (figures : Figures) → ReadOffLaw → NamesLaw → PlacingLaw → AgreementLaw → IsGoodPlan effort f.rules f.ends plan → AreFigures d f.rules f.ends plan edits figures → figures.nets_cut ≡ out.nets_cut
+        → IsMadeFor f plan effort t verilog out.text figures
+    is_made effort figures read_off_law names_law placing_law agreement_law good figures_are cut patterns planned =
         let same = after names_law in
-        record {
+        let is : IsReordered effort t verilog out.text figures = record {
           cells = cells;
           macros = f.macros;
           netlist = n;
           design = d;
+          head = f.head;
           paths = old;
           rules = f.rules;
-          checked = record { read = checked.known.read; traced = checked.paths.traced; rules_are = checked.rules };
+          checked = record { read = checked.known.read; head_is = checked.head.is; traced = checked.paths.traced; rules_are = checked.rules };
           plan = plan;
           good = subst (λ (ends : Ends). IsGoodPlan effort f.rules ends plan) checked.ends good;
           edits = edits;
@@ -194,4 +182,5 @@ module _ (t : Texts) (f : DesignFiles) (checked : AreChecked t f) (plan : Plan) 
           def_erased = w.def_erased;
           read_off = read_off read_off_law same;
           agree = agree_after placing_law agreement_law same;
-        }
+        } in
+        record { reordered = is; planned = planned }

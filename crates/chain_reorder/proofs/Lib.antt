@@ -2,6 +2,8 @@ pub mod Agreed
 pub mod FreeChanges
 pub mod Heads
 pub mod IsMade
+pub mod Movable
+pub mod NewPaths
 pub mod Numbered
 pub mod SamePaths
 pub mod Searchable

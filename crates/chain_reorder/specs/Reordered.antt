@@ -1,6 +1,6 @@
 -- What `reorder` writes: other orders of the units of a placed design's scan chains, in the Verilog and in the DEF, and what these texts
 -- mean beside the read ones.
-use Rattle.std.specs.Prelude.{◌≡◌, ℕ, ◌+◌, ◌≤◌, Bool, ◌==◌, ◌&&◌, List, [], ◌∷◌, length, Some, None}
+use Rattle.std.specs.Prelude.{◌≡◌, ℕ, ◌+◌, ◌≤◌, Bool, ◌==◌, ◌&&◌, List, [], ◌∷◌, length, Option, Some}
 use Rattle.std.specs.List.{list_any}
 use Rattle.base_types.specs.declared.fault.Fault.{Fault}
 use Rattle.netlist_core.specs.declared.netlist.NetId.{NetId}
@@ -38,15 +38,18 @@ use Rattle.traced_paths.specs.Numbers.{path_specs, is_free_output}
 use Rattle.design_elements.specs.Elements.{chain_specs}
 use Rattle.design_places.specs.Ends.{ends_of}
 use Rattle.design_places.specs.NetPins.{HoldsInNets}
-use Rattle.design_files.specs.Files.{Texts, AreRead}
+use Rattle.stil_types.specs.declared.head.StilHead.{StilHead}
+use Rattle.design_files.specs.Files.{Texts, AreRead, IsHeadIn}
 use Rattle.verilog_writer.specs.Wired.{IsWiredText, DeclareBehind}
 use Rattle.def_writer.specs.DefTexts.{IsDefText, IsErasedDef}
 use Rattle.chain_reorder.specs.declared.reorder.Figures.{Figures}
 
--- the read files: what they denote, the paths of the design, and the rules and the places of its chains
-pub record IsChecked (t : Texts) (cells : Cells) (macros : NamedMacros) (n : Netlist) (d : Design) (paths : List Path) (rules : Rules) : Type 0 where
+-- the read files: what they denote, with the head of the patterns where there are some, the paths that are asked for, and the rules and the
+-- places of the design's chains
+pub record IsChecked (t : Texts) (cells : Cells) (macros : NamedMacros) (n : Netlist) (d : Design) (head : Option StilHead) (paths : List Path) (rules : Rules) : Type 0 where
   pub read : AreRead t cells macros n d
-  pub traced : ArePathsOf n cells (asked_by (Some d) None) paths
+  pub head_is : IsHeadIn t.head head
+  pub traced : ArePathsOf n cells (asked_by (Some d) head) paths
   pub rules_are : AreRulesOf (path_specs n cells (Some d) paths) (chain_specs n cells d) rules
 
 -- the plan obeys the rules, no step of the effort makes it shorter, and it is no longer than the plan as read and the nearest one; where only
@@ -103,9 +106,10 @@ pub record IsReordered (effort : Effort) (t : Texts) (verilog def : List ℕ) (f
   pub macros : NamedMacros
   pub netlist : Netlist
   pub design : Design
+  pub head : Option StilHead
   pub paths : List Path
   pub rules : Rules
-  pub checked : IsChecked t cells macros netlist design paths rules
+  pub checked : IsChecked t cells macros netlist design head paths rules
   pub plan : Plan
   pub good : IsGoodPlan effort rules (ends_of netlist cells macros design paths rules) plan
   pub edits : Edits

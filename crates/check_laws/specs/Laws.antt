@@ -1,5 +1,5 @@
 -- What the checks of a design give the planning side: chains that belong to the paths, and rules whose plans can be measured.
-use Rattle.std.specs.Prelude.{◌≡◌, ◌<◌, ◌≤◌, ◌^◌, List, length, Some, None}
+use Rattle.std.specs.Prelude.{◌≡◌, ◌<◌, ◌≤◌, ◌^◌, List, length, Some}
 use Rattle.base_types.specs.declared.fault.Fault.{Fault}
 use Rattle.netlist_core.specs.declared.netlist.Netlist.{Netlist}
 use Rattle.netlist_core.specs.Netlists.{IsNetlist}
@@ -13,19 +13,20 @@ use Rattle.chain_rules.specs.Stretches.{AreChainSpecs}
 use Rattle.chain_rules.specs.Rules.{AreRulesOf}
 use Rattle.wire_cost.specs.declared.ends.Ends.{Ends}
 use Rattle.wire_cost.specs.Lengths.{IsPlanAt}
-use Rattle.traced_paths.specs.Asked.{asked_by}
+use Rattle.traced_paths.specs.Asked.{Asked}
 use Rattle.traced_paths.specs.Traced.{ArePathsOf, NameEntries}
 use Rattle.traced_paths.specs.Numbers.{all_bits, path_specs, step_count}
 use Rattle.design_elements.specs.Elements.{chain_specs}
 use Rattle.design_elements.specs.Faults.{HoldsInElements}
 use Rattle.design_places.specs.Ends.{ends_of}
 
--- a netlist and a design of which the calls refused nothing, with the design's paths
+-- a netlist and a design of which the calls refused nothing, with the paths that are asked for, by the design or by a head
 pub record AreChecked (n : Netlist) (cells : Cells) (macros : NamedMacros) (d : Design) (paths : List Path) : Type 0 where
   pub netlist : IsNetlist n
   pub design : IsSound d
   pub elements : (fault : Fault) → HoldsInElements cells macros d fault → ⊥
-  pub traced : ArePathsOf n cells (asked_by (Some d) None) paths
+  pub asked : List Asked
+  pub traced : ArePathsOf n cells asked paths
   pub entries : NameEntries n cells paths
   pub few_paths : length paths ≤ 256
   pub few_bits : all_bits n cells paths ≤ 262144

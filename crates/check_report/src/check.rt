@@ -33,7 +33,7 @@ pub fn check_text(
     ensures fault { IfFault result (IsFilesFault (texts_of table.now lef.now verilog.now def.now)) }
     ensures no_fault { OnOk result ((fault : Fault) → HoldsInFiles (texts_of table.now lef.now verilog.now def.now) fault → ⊥) }
 {
-    let files = read_design_files(alloc, table, lef, verilog, def)?;
+    let files = read_design_files(alloc, table, lef, verilog, def, None)?;
     match report_of(alloc, &files.design, &files.rules, &files.ends) {
         Ok(text) => Ok(text),
         Err(NoMemory) => Err(ReadFault::NoMemory),

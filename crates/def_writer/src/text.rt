@@ -1,11 +1,10 @@
 //! The DEF text of a design after a plan of its chains.
-ghost use Rattle.std.specs.Prelude.{◌≡◌, ◌<◌, ◌≤◌, ◌^◌, List, length, Some, None, IfOk};
+ghost use Rattle.std.specs.Prelude.{◌≡◌, ◌<◌, ◌≤◌, ◌^◌, List, length, Some, IfOk};
 ghost use Rattle.base_types.specs.declared.fault.Fault.{Fault};
 ghost use Rattle.netlist_core.specs.Netlists.{IsNetlist};
 ghost use Rattle.chain_rules.specs.Legality.{IsLegal};
 ghost use Rattle.chain_rules.specs.Rules.{AreRulesOf};
-ghost use Rattle.traced_paths.specs.Asked.{asked_by};
-ghost use Rattle.traced_paths.specs.Traced.{ArePathsOf, NameEntries};
+ghost use Rattle.traced_paths.specs.Traced.{NameEntries};
 ghost use Rattle.traced_paths.specs.Numbers.{path_specs, all_bits};
 ghost use Rattle.net_edit.specs.Rearranged.{AreRearranged};
 ghost use Rattle.plan_paths.specs.NewPaths.{new_paths};
@@ -46,7 +45,6 @@ pub fn def_text(
     requires netlist { IsNetlist netlist.now }
     requires agree { Agree netlist.now design.now }
     requires standing { (fault : Fault) → HoldsInNets netlist.now table.now design.now paths.now fault → ⊥ }
-    requires traced { ArePathsOf netlist.now table.now (asked_by (Some design.now) None) paths.now }
     requires entries { NameEntries netlist.now table.now paths.now }
     requires few { all_bits netlist.now table.now paths.now ≤ 262144 }
     requires chains { chains.now ≡ chain_specs netlist.now table.now design.now }

@@ -43,8 +43,8 @@ module _ (t : Texts) where
         (cases_order l.number k);
   }
 
-  -- there are ten layers
-  beyond : (j : ℕ) (f : Fault) → 9 < j → Layer t j f → ⊥
+  -- there are thirteen layers
+  beyond : (j : ℕ) (f : Fault) → 12 < j → Layer t j f → ⊥
   beyond zero f lt h = absurd (omega arith)
   beyond (suc zero) f lt h = absurd (omega arith)
   beyond (suc (suc zero)) f lt h = absurd (omega arith)
@@ -55,13 +55,16 @@ module _ (t : Texts) where
   beyond (suc (suc (suc (suc (suc (suc (suc zero))))))) f lt h = absurd (omega arith)
   beyond (suc (suc (suc (suc (suc (suc (suc (suc zero)))))))) f lt h = absurd (omega arith)
   beyond (suc (suc (suc (suc (suc (suc (suc (suc (suc zero))))))))) f lt h = absurd (omega arith)
-  beyond (suc (suc (suc (suc (suc (suc (suc (suc (suc (suc k)))))))))) f lt h = h
+  beyond (suc (suc (suc (suc (suc (suc (suc (suc (suc (suc zero)))))))))) f lt h = absurd (omega arith)
+  beyond (suc (suc (suc (suc (suc (suc (suc (suc (suc (suc (suc zero))))))))))) f lt h = absurd (omega arith)
+  beyond (suc (suc (suc (suc (suc (suc (suc (suc (suc (suc (suc (suc zero)))))))))))) f lt h = absurd (omega arith)
+  beyond (suc (suc (suc (suc (suc (suc (suc (suc (suc (suc (suc (suc (suc k))))))))))))) f lt h = h
 
   -- no fault at all where no layer has one
-  pub none_at_all : NoneBefore 10 → (f : Fault) → HoldsInFiles t f → ⊥
+  pub none_at_all : NoneBefore 13 → (f : Fault) → HoldsInFiles t f → ⊥
   none_at_all none f h =
       let l = layered t f h in
-      elim (cases_order l.number 9) [
+      elim (cases_order l.number 12) [
         | inl same ↦ none l.number f (omega arith) l.here
         | inr far ↦ elim far [ inl below ↦ none l.number f (omega arith) l.here | inr above ↦ beyond l.number f above l.here ]
       ]

@@ -1,13 +1,12 @@
 -- What is known of the files makes the faults of each stage the first of all.
-use Rattle.std.proofs.Common.{◌≡◌, ℕ, zero, suc, ◌<◌, ◌≤◌, List, Result, Ok, Err, inl, inr, sym, ◌∙◌, subst, arith}
-use Rattle.std.specs.Prelude.{Some, None}
+use Rattle.std.proofs.Common.{◌≡◌, ℕ, ◌≤◌, List, Err, inl, inr, sym, ◌∙◌, subst, arith}
+use Rattle.std.specs.Prelude.{Option, Some, IsSomeAnd}
 use Rattle.base_types.specs.declared.fault.Fault.{Fault}
 use Rattle.base_types.specs.declared.fault.ReadFault.{ReadFault}
 use Rattle.base_types.specs.declared.fault.ReadFault.TheVariants as faults
 use Rattle.base_types.specs.FirstFault.{ComesBefore, IsFirstFault, IfFault}
 use Rattle.base_types.proofs.FirstFaults.{itself}
 use Rattle.netlist_core.specs.declared.netlist.Netlist.{Netlist}
-use Rattle.verilog_reader.specs.Denoted.{DenotesNetlist}
 use Rattle.cell_table.specs.Cells.{Cells}
 use Rattle.cell_table.specs.Entries.{HoldsInTable}
 use Rattle.lef_pins.specs.Macros.{NamedMacros}
@@ -18,23 +17,29 @@ use Rattle.def_reader.specs.Faults.{HoldsInDesign}
 use Rattle.def_reader.specs.Denoted.{DenotesDesign}
 use Rattle.def_reader.specs.Agreement.{HoldsInAgreement}
 use Rattle.chain_trace.specs.declared.path.Path.{Path}
-use Rattle.chain_rules.specs.ChainFaults.{IsRefusal}
 use Rattle.traced_paths.specs.Asked.{asked_by, file_of}
 use Rattle.traced_paths.specs.Traced.{ArePathsOf, HoldsInPaths}
-use Rattle.traced_paths.specs.Numbers.{path_specs, all_bits, HaveTooManyBits}
-use Rattle.design_elements.specs.Elements.{chain_specs}
+use Rattle.traced_paths.specs.Numbers.{all_bits, HaveTooManyBits}
 use Rattle.design_elements.specs.Faults.{HoldsInElements}
 use Rattle.design_places.specs.NetPins.{HoldsInNets}
-use Rattle.design_places.specs.Ends.{HoldsInPlaces}
-use Rattle.design_files.specs.Files.{Texts, AreRead}
-use Rattle.design_files.specs.Faults.{ArePathsFor, IsElementFault, IsAgreementFault, IsPathFault, OfBits, OfNets, OfChains, OfPlaces, HoldsInFiles, OfTable, OfLef, OfVerilog, OfDesign, OfElements, OfAgreement, OfPaths, OfTraced, IsFilesFault}
-use Rattle.design_files.specs.Stages.{AreKnown, HavePaths, AreInDesign, HaveNoChainFault}
-use Rattle.design_files.proofs.Layers.{Layer, OnPaths, ChainsOrPlaces}
+use Rattle.head_checks.specs.Heads.{HoldsInChains}
+use Rattle.stil_types.specs.declared.head.StilHead.{StilHead}
+use Rattle.stil_head.specs.Faults.{HoldsInHead}
+use Rattle.design_files.specs.Files.{Texts}
+use Rattle.design_files.specs.Faults.{ArePathsFor, IsElementFault, IsAgreementFault, IsUndeclaredFault, IsPathFault, OfHeads, OfBits, OfNets, OfChains, OfPlaces, HoldsInFiles, OfTable, OfLef, OfVerilog, OfDesign, OfElements, OfAgreement, OfHead, OfDeclared, OfPaths, OfTraced, IsFilesFault}
+use Rattle.design_files.specs.Stages.{AreKnown, IsHeadKnown, DoAgree, HavePaths, AreInDesign}
+use Rattle.design_files.proofs.Layers.{OfPath, Declared, Bits, Nets, ChainsOrPlaces, OnPaths}
 use Rattle.design_files.proofs.Firsts.{NoneBefore, none_before_more, first_at, none_at_all}
 
 -- two faults that are one don't come one before the other
 itself_after : (f g x : Fault) → f ≡ x → g ≡ x → ComesBefore g f → ⊥
 itself_after f g x one other e = itself f (subst (λ (y : Fault). ComesBefore y f) (other ∙ sym one) e)
+
+-- few bits are not too many
+pub no_bits : (n : Netlist) (cells : Cells) (paths : List Path) → all_bits n cells paths ≤ 262144 → (f : Fault) → HaveTooManyBits n cells paths f → ⊥
+no_bits n cells paths few f h =
+    let many = h.many in
+    absurd (omega arith)
 
 module _ (t : Texts) where
   none_zero : NoneBefore t 0
@@ -106,100 +111,128 @@ module _ (t : Texts) (cells : Cells) (macros : NamedMacros) (n : Netlist) (d : D
         first_at t 5 f (OfAgreement here) here before_agreement (λ g h. w.least g (agreement_here g h))
 
     module _ (no_difference : (f : Fault) → HoldsInAgreement n d f → ⊥) where
-      before_paths : NoneBefore t 6
-      before_paths = none_before_more t 5 before_agreement (λ f h. no_difference f (agreement_here f h))
+      before_head : NoneBefore t 6
+      before_head = none_before_more t 5 before_agreement (λ f h. no_difference f (agreement_here f h))
 
-      -- what a fault of the paths of other values is
-      abbrev PathFault : Netlist → Cells → Design → Fault → Type 0
-      PathFault m c x f = HoldsInPaths m c (file_of None) (asked_by (Some x) None) f
+      pub first_head : (text : List ℕ) → t.head ≡ Some text → (f : Fault) → IsFirstFault (HoldsInHead text) f → IsFilesFault t f
+      first_head text is f w =
+          let there : IsFirstFault (λ g. IsSomeAnd t.head (λ bytes. HoldsInHead bytes g)) f =
+          subst (λ (o : Option (List ℕ)). IsFirstFault (λ g. IsSomeAnd o (λ bytes. HoldsInHead bytes g)) f) (sym is) w in
+          first_at t 6 f (OfHead there.holds) there.holds before_head there.least
 
-      path_here : (f : Fault) → IsPathFault t f → PathFault n cells d f
+  module _ (agreed : DoAgree n cells macros d) (head : Option StilHead) (head_known : IsHeadKnown t.head head) where
+    before_declared : NoneBefore t 7
+    before_declared = none_before_more t 6 (before_head agreed.no_element agreed.no_difference) head_known.no_head
+
+    abbrev OfChain : Design → Option StilHead → Fault → Type 0
+    OfChain x h f = IsSomeAnd h (λ one. HoldsInChains x one f)
+
+    declared_here : (f : Fault) → IsUndeclaredFault t f → OfChain d head f
+    declared_here f h =
+        let same = same_design h.cells h.design (known.only_cells h.cells h.read.cells_are) h.read.design_is in
+        subst (λ (x : Option StilHead). OfChain d x f) (head_known.only h.head h.head_is) (subst (λ (x : Design). OfChain x h.head f) same h.holds)
+
+    pub first_declared : (f : Fault) → IsFirstFault (OfChain d head) f → IsFilesFault t f
+    first_declared f w =
+        let here : IsUndeclaredFault t f = record { cells = cells; macros = macros; netlist = n; design = d; head = head; read = known.read; head_is = head_known.is; holds = w.holds } in
+        first_at t 7 f (OfDeclared here) here before_declared (λ g h. w.least g (declared_here g h))
+
+    module _ (no_undeclared : (f : Fault) → OfChain d head f → ⊥) where
+      before_paths : NoneBefore t 8
+      before_paths = none_before_more t 7 before_declared (λ f h. no_undeclared f (declared_here f h))
+
+      abbrev PathFault : Netlist → Cells → Design → Option StilHead → Fault → Type 0
+      PathFault m c x h f = HoldsInPaths m c (file_of h) (asked_by (Some x) h) f
+
+      path_here : (f : Fault) → IsPathFault t f → PathFault n cells d head f
       path_here f h =
           let same_cells = known.only_cells h.cells h.read.cells_are in
           let same = same_design h.cells h.design same_cells h.read.design_is in
           let same_netlist = known.only_netlist h.netlist h.read.netlist_is in
-          subst (λ (m : Netlist). PathFault m cells d f) same_netlist
-          (subst (λ (c : Cells). PathFault h.netlist c d f) same_cells (subst (λ (x : Design). PathFault h.netlist h.cells x f) same h.holds))
+          subst (λ (m : Netlist). PathFault m cells d head f) same_netlist
+          (subst (λ (c : Cells). PathFault h.netlist c d head f) same_cells
+          (subst (λ (x : Design). PathFault h.netlist h.cells x head f) same
+          (subst (λ (x : Option StilHead). PathFault h.netlist h.cells h.design x f) (head_known.only h.head h.head_is) h.holds)))
 
-      pub first_path : (f : Fault) → IsFirstFault (PathFault n cells d) f → IsFilesFault t f
+      pub first_path : (f : Fault) → IsFirstFault (PathFault n cells d head) f → IsFilesFault t f
       first_path f w =
-          let here : IsPathFault t f = record { cells = cells; macros = macros; netlist = n; design = d; read = known.read; holds = w.holds } in
-          first_at t 6 f (OfPaths here) here before_paths (λ g h. w.least g (path_here g h))
+          let here : IsPathFault t f = record { cells = cells; macros = macros; netlist = n; design = d; head = head; read = known.read; head_is = head_known.is; holds = w.holds } in
+          first_at t 8 f (OfPaths here) here before_paths (λ g h. w.least g (path_here g h))
 
-      pub before_bits : ((f : Fault) → PathFault n cells d f → ⊥) → NoneBefore t 7
-      before_bits no_path = none_before_more t 6 before_paths (λ f h. no_path f (path_here f h))
+      before_found : ((f : Fault) → PathFault n cells d head f → ⊥) → NoneBefore t 9
+      before_found no_path = none_before_more t 8 before_paths (λ f h. no_path f (path_here f h))
 
-  module _ (paths : List Path) (have : HavePaths n cells macros d paths) where
-    before_seven : NoneBefore t 7
-    before_seven = before_bits have.no_element have.no_difference have.no_path
+    module _ (paths : List Path) (have : HavePaths n cells d head paths) where
+      before_nine : NoneBefore t 9
+      before_nine = before_found have.no_undeclared have.no_path
 
-    are : ArePathsFor t cells macros n d paths
-    are = record { read = known.read; traced = have.traced }
+      are : ArePathsFor t cells macros n d head paths
+      are = record { read = known.read; head_is = head_known.is; traced = have.traced }
 
-    -- paths of other values are these
-    module _ (Holds : Cells → NamedMacros → Netlist → Design → List Path → Fault → Type 0) where
-      here_of : (f : Fault) → OnPaths t Holds f → Holds cells macros n d paths f
-      here_of f h =
-          let same_cells = known.only_cells h.cells h.are.read.cells_are in
-          let same_macros = known.only_macros h.macros h.are.read.macros_are in
-          let same_netlist = known.only_netlist h.netlist h.are.read.netlist_is in
-          let same = same_design h.cells h.design same_cells h.are.read.design_is in
-          let traced : ArePathsOf n cells (asked_by (Some d) None) h.paths =
-          subst (λ (m : Netlist). ArePathsOf m cells (asked_by (Some d) None) h.paths) same_netlist
-          (subst (λ (c : Cells). ArePathsOf h.netlist c (asked_by (Some d) None) h.paths) same_cells (subst (λ (x : Design). ArePathsOf h.netlist h.cells (asked_by (Some x) None) h.paths) same h.are.traced)) in
-          let same_paths = have.only h.paths traced in
-          subst (λ (c : Cells). Holds c macros n d paths f) same_cells
-          (subst (λ (m : NamedMacros). Holds h.cells m n d paths f) same_macros
-          (subst (λ (m : Netlist). Holds h.cells h.macros m d paths f) same_netlist
-          (subst (λ (x : Design). Holds h.cells h.macros h.netlist x paths f) same (subst (λ (ps : List Path). Holds h.cells h.macros h.netlist h.design ps f) same_paths h.holds))))
+      -- paths of other values are these
+      module _ (Holds : OfPath) where
+        here_of : (f : Fault) → OnPaths t Holds f → Holds cells macros n d head paths f
+        here_of f h =
+            let same_cells = known.only_cells h.cells h.are.read.cells_are in
+            let same_macros = known.only_macros h.macros h.are.read.macros_are in
+            let same_netlist = known.only_netlist h.netlist h.are.read.netlist_is in
+            let same = same_design h.cells h.design same_cells h.are.read.design_is in
+            let same_head = head_known.only h.head h.are.head_is in
+            let traced : ArePathsOf n cells (asked_by (Some d) head) h.paths =
+            subst (λ (m : Netlist). ArePathsOf m cells (asked_by (Some d) head) h.paths) same_netlist
+            (subst (λ (c : Cells). ArePathsOf h.netlist c (asked_by (Some d) head) h.paths) same_cells
+            (subst (λ (x : Design). ArePathsOf h.netlist h.cells (asked_by (Some x) head) h.paths) same
+            (subst (λ (x : Option StilHead). ArePathsOf h.netlist h.cells (asked_by (Some h.design) x) h.paths) same_head h.are.traced))) in
+            let same_paths = have.only h.paths traced in
+            subst (λ (c : Cells). Holds c macros n d head paths f) same_cells
+            (subst (λ (m : NamedMacros). Holds h.cells m n d head paths f) same_macros
+            (subst (λ (m : Netlist). Holds h.cells h.macros m d head paths f) same_netlist
+            (subst (λ (x : Design). Holds h.cells h.macros h.netlist x head paths f) same
+            (subst (λ (x : Option StilHead). Holds h.cells h.macros h.netlist h.design x paths f) same_head
+            (subst (λ (ps : List Path). Holds h.cells h.macros h.netlist h.design h.head ps f) same_paths h.holds)))))
 
-      on_these : (f : Fault) → Holds cells macros n d paths f → OnPaths t Holds f
-      on_these f h = record { cells = cells; macros = macros; netlist = n; design = d; paths = paths; are = are; holds = h }
+        on_these : (f : Fault) → Holds cells macros n d head paths f → OnPaths t Holds f
+        on_these f h = record { cells = cells; macros = macros; netlist = n; design = d; head = head; paths = paths; are = are; holds = h }
 
-    abbrev Bits : Cells → NamedMacros → Netlist → Design → List Path → Fault → Type 0
-    Bits c m x y ps f = HaveTooManyBits x c ps f
+      pub first_other : (f : Fault) → IsFirstFault (Declared cells macros n d head paths) f → IsFilesFault t f
+      first_other f w = first_at t 9 f (OfTraced (OfHeads cells macros n d head paths are w.holds)) (on_these Declared f w.holds) before_nine (λ g h. w.least g (here_of Declared g h))
 
-    abbrev Nets : Cells → NamedMacros → Netlist → Design → List Path → Fault → Type 0
-    Nets c m x y ps f = HoldsInNets x c y ps f
+      module _ (no_other : (f : Fault) → Declared cells macros n d head paths f → ⊥) where
+        before_ten : NoneBefore t 10
+        before_ten = none_before_more t 9 before_nine (λ f h. no_other f (here_of Declared f h))
 
-    -- there is one fault of bits at most
-    pub first_bits : (f : Fault) → HaveTooManyBits n cells paths f → IsFilesFault t f
-    first_bits f h =
-        first_at t 7 f (OfTraced (OfBits cells macros n d paths are h)) (on_these Bits f h) before_seven
-        (λ g w e. let other = here_of Bits g w in itself_after f g _ h.is other.is e)
+        -- there is one fault of bits at most
+        pub first_bits : (f : Fault) → HaveTooManyBits n cells paths f → IsFilesFault t f
+        first_bits f h =
+            first_at t 10 f (OfTraced (OfBits cells macros n d head paths are h)) (on_these Bits f h) before_ten
+            (λ g w e. let other = here_of Bits g w in itself_after f g _ h.is other.is e)
 
-    before_eight : ((f : Fault) → HaveTooManyBits n cells paths f → ⊥) → NoneBefore t 8
-    before_eight no_bits = none_before_more t 7 before_seven (λ f h. no_bits f (here_of Bits f h))
+        module _ (few : all_bits n cells paths ≤ 262144) where
+          before_eleven : NoneBefore t 11
+          before_eleven = none_before_more t 10 before_ten (λ f h. no_bits n cells paths few f (here_of Bits f h))
 
-    module _ (no_bits : (f : Fault) → HaveTooManyBits n cells paths f → ⊥) where
-      pub first_nets : (f : Fault) → IsFirstFault (HoldsInNets n cells d paths) f → IsFilesFault t f
-      first_nets f w =
-          first_at t 8 f (OfTraced (OfNets cells macros n d paths are w.holds)) (on_these Nets f w.holds) (before_eight no_bits) (λ g h. w.least g (here_of Nets g h))
+          pub first_nets : (f : Fault) → IsFirstFault (HoldsInNets n cells d paths) f → IsFilesFault t f
+          first_nets f w =
+              first_at t 11 f (OfTraced (OfNets cells macros n d head paths are w.holds)) (on_these Nets f w.holds) before_eleven (λ g h. w.least g (here_of Nets g h))
 
-      module _ (no_pin : (f : Fault) → HoldsInNets n cells d paths f → ⊥) where
-        before_nine : NoneBefore t 9
-        before_nine = none_before_more t 8 (before_eight no_bits) (λ f h. no_pin f (here_of Nets f h))
+      module _ (inside : AreInDesign n cells d head paths) where
+        before_last : NoneBefore t 12
+        before_last = none_before_more t 11 (before_eleven inside.no_other inside.few_bits) (λ f h. inside.no_pin f (here_of Nets f h))
 
         abbrev Last : Fault → Type 0
-        Last f = ChainsOrPlaces t cells macros n d paths f
+        Last f = ChainsOrPlaces cells macros n d head paths f
 
         holds_last : (f : Fault) → Last f → HoldsInFiles t f
-        holds_last f (inl h) = OfTraced (OfChains cells macros n d paths are h)
-        holds_last f (inr h) = OfTraced (OfPlaces cells macros n d paths are h)
+        holds_last f (inl h) = OfTraced (OfChains cells macros n d head paths are h)
+        holds_last f (inr h) = OfTraced (OfPlaces cells macros n d head paths are h)
 
         pub first_last : (f : Fault) → IsFirstFault Last f → IsFilesFault t f
-        first_last f w = first_at t 9 f (holds_last f w.holds) (on_these (ChainsOrPlaces t) f w.holds) before_nine (λ g h. w.least g (here_of (ChainsOrPlaces t) g h))
+        first_last f w = first_at t 12 f (holds_last f w.holds) (on_these ChainsOrPlaces f w.holds) before_last (λ g h. w.least g (here_of ChainsOrPlaces g h))
 
         pub none_of_all : ((f : Fault) → Last f → ⊥) → (f : Fault) → HoldsInFiles t f → ⊥
-        none_of_all no_last = none_at_all t (none_before_more t 9 before_nine (λ f h. no_last f (here_of (ChainsOrPlaces t) f h)))
+        none_of_all no_last = none_at_all t (none_before_more t 12 before_last (λ f h. no_last f (here_of ChainsOrPlaces f h)))
 
 -- what holds of the fault of a call, of that of another one
 pub carried : (X Y : Type 0) (e : ReadFault) (P Q : Fault → Type 0) → ((f : Fault) → P f → Q f) → IfFault {X = X} (Err e) P → IfFault {X = Y} (Err e) Q
 carried X Y (faults.Fault f) P Q goes h = goes f h
 carried X Y faults.NoMemory P Q goes h = tt
-
--- few bits are not too many
-pub no_bits : (n : Netlist) (cells : Cells) (paths : List Path) → all_bits n cells paths ≤ 262144 → (f : Fault) → HaveTooManyBits n cells paths f → ⊥
-no_bits n cells paths few f h =
-    let many = h.many in
-    absurd (omega arith)

@@ -1,6 +1,6 @@
 -- The numbers of the kinds of each layer's faults.
-use Rattle.std.proofs.Common.{◌≡◌, ◌<◌, ◌≤◌, inl, inr, ℕ, zero, suc, List, ap, arith}
-use Rattle.std.specs.Prelude.{Some, None}
+use Rattle.std.proofs.Common.{◌≡◌, ◌<◌, ◌≤◌, inl, inr, ℕ, zero, suc, List, Option, ap, arith}
+use Rattle.std.specs.Prelude.{Some, None, IsSomeAnd}
 use Rattle.base_types.specs.declared.fault.Fault.{Fault}
 use Rattle.base_types.specs.declared.fault.FileKind.{FileKind}
 use Rattle.base_types.specs.declared.fault.FileKind.TheVariants.{Def, Verilog}
@@ -21,8 +21,12 @@ use Rattle.chain_rules.specs.ChainFaults.{IsFaulty}
 use Rattle.traced_paths.specs.Traced.{HoldsInPaths, OfPort, OfCount, OfTrace, OfCell}
 use Rattle.design_elements.specs.Faults.{HoldsInElements, Unknown, Twice as ElementTwice, Unplaced, Pin, Bits, Macro as NoMacro, TooMany}
 use Rattle.design_places.specs.NetPins.{HoldsInNets, InPin, OutPin, AtPort}
+use Rattle.head_checks.specs.Heads.{HoldsInHeads, OfPort as OfScanIn, OfLength, OfInversion, OfCells, HoldsInChains, Undeclared}
+use Rattle.stil_types.specs.declared.head.StilHead.{StilHead}
+use Rattle.stil_head.specs.Ends.{head_text}
+use Rattle.stil_head.specs.Faults.{HoldsInHead, HoldsInText, Syntax as HeadSyntax, Twice as HeadTwice, Barred}
 use Rattle.design_files.specs.Files.{Texts}
-use Rattle.design_files.proofs.Layers.{least_number, Layer, OnPaths}
+use Rattle.design_files.proofs.Layers.{least_number, Layer}
 
 -- the kind of the fault is one of these
 pub record IsAmong (from to : ℕ) (f : Fault) : Type 0 where
@@ -59,13 +63,26 @@ of_elements cells macros d _ (Bits line is) = record { low = omega arith; high =
 of_elements cells macros d _ (NoMacro line is) = record { low = omega arith; high = omega arith }
 of_elements cells macros d _ (TooMany line is) = record { low = omega arith; high = omega arith }
 
-of_agreement : (n : _) (d : _) (f : Fault) → HoldsInAgreement n d f → IsAmong 40 58 f
+of_agreement : (n : _) (d : _) (f : Fault) → HoldsInAgreement n d f → IsAmong 40 50 f
 of_agreement n d _ (Missing line is) = record { low = omega arith; high = omega arith }
 of_agreement n d _ (Differs line is) = record { low = omega arith; high = omega arith }
 of_agreement n d _ (Split line is) = record { low = omega arith; high = omega arith }
 of_agreement n d _ (Shared line is) = record { low = omega arith; high = omega arith }
 
-of_paths : (n : _) (cells : _) (file : FileKind) (asked : _) (f : Fault) → HoldsInPaths n cells file asked f → IsAmong 58 68 f
+of_text : (text : List ℕ) (f : Fault) → HoldsInText text f → IsAmong 50 53 f
+of_text text _ (HeadSyntax place there) = record { low = omega arith; high = omega arith }
+of_text text _ (HeadTwice place there) = record { low = omega arith; high = omega arith }
+of_text text _ (Barred place there) = record { low = omega arith; high = omega arith }
+
+of_head : (head : Option (List ℕ)) (f : Fault) → IsSomeAnd head (λ text. HoldsInHead text f) → IsAmong 50 53 f
+of_head None f h = absurd h
+of_head (Some text) f h = of_text (head_text text) f h
+
+of_chains : (d : _) (head : Option StilHead) (f : Fault) → IsSomeAnd head (λ h. HoldsInChains d h f) → IsAmong 53 58 f
+of_chains d None f h = absurd h
+of_chains d (Some head) _ (Undeclared line is) = record { low = omega arith; high = omega arith }
+
+of_paths : (n : _) (cells : _) (file : FileKind) (asked : _) (f : Fault) → HoldsInPaths n cells file asked f → IsAmong 58 64 f
 of_paths n cells file asked f (OfPort line is at) = let kind = of_line kinds.NoPort file line f at in record { low = omega arith; high = omega arith }
 of_paths n cells file asked f (OfCount line is at) = let kind = of_line kinds.TooManyPaths file line f at in record { low = omega arith; high = omega arith }
 of_paths n cells file asked f (OfTrace met) =
@@ -73,6 +90,13 @@ of_paths n cells file asked f (OfTrace met) =
     let high = trace_early n cells met.net f met.met in
     record { low = omega arith; high = omega arith }
 of_paths n cells file asked f (OfCell line is at) = let kind = of_line kinds.SharedCell Verilog line f at in record { low = omega arith; high = omega arith }
+
+of_declared : (n : _) (cells : _) (paths : _) (head : Option StilHead) (f : Fault) → IsSomeAnd head (λ h. HoldsInHeads n cells paths h f) → IsAmong 64 68 f
+of_declared n cells paths None f h = absurd h
+of_declared n cells paths (Some head) _ (OfScanIn line is) = record { low = omega arith; high = omega arith }
+of_declared n cells paths (Some head) _ (OfLength line is) = record { low = omega arith; high = omega arith }
+of_declared n cells paths (Some head) _ (OfInversion line is) = record { low = omega arith; high = omega arith }
+of_declared n cells paths (Some head) _ (OfCells line is) = record { low = omega arith; high = omega arith }
 
 of_nets : (n : _) (cells : _) (d : _) (paths : _) (f : Fault) → HoldsInNets n cells d paths f → IsAmong 69 70 f
 of_nets n cells d paths _ (InPin path step there on lacks) = record { low = omega arith; high = omega arith }
@@ -100,12 +124,15 @@ among t (suc (suc zero)) f h = of_verilog t.verilog f h
 among t (suc (suc (suc zero))) f h = of_design t.def f h
 among t (suc (suc (suc (suc zero)))) f h = of_elements h.cells h.macros h.design f h.holds
 among t (suc (suc (suc (suc (suc zero))))) f h = of_agreement h.netlist h.design f h.holds
-among t (suc (suc (suc (suc (suc (suc zero)))))) f h = of_paths h.netlist h.cells _ _ f h.holds
-among t (suc (suc (suc (suc (suc (suc (suc zero))))))) f h = let kind = of_line kinds.TooManyBits Verilog h.netlist.line f h.holds.is in record { low = omega arith; high = omega arith }
-among t (suc (suc (suc (suc (suc (suc (suc (suc zero)))))))) f h = of_nets h.netlist h.cells h.design h.paths f h.holds
-among t (suc (suc (suc (suc (suc (suc (suc (suc (suc zero))))))))) f h =
+among t (suc (suc (suc (suc (suc (suc zero)))))) f h = of_head t.head f h
+among t (suc (suc (suc (suc (suc (suc (suc zero))))))) f h = of_chains h.design h.head f h.holds
+among t (suc (suc (suc (suc (suc (suc (suc (suc zero)))))))) f h = of_paths h.netlist h.cells _ _ f h.holds
+among t (suc (suc (suc (suc (suc (suc (suc (suc (suc zero))))))))) f h = of_declared h.netlist h.cells h.paths h.head f h.holds
+among t (suc (suc (suc (suc (suc (suc (suc (suc (suc (suc zero)))))))))) f h = let kind = of_line kinds.TooManyBits Verilog h.netlist.line f h.holds.is in record { low = omega arith; high = omega arith }
+among t (suc (suc (suc (suc (suc (suc (suc (suc (suc (suc (suc zero))))))))))) f h = of_nets h.netlist h.cells h.design h.paths f h.holds
+among t (suc (suc (suc (suc (suc (suc (suc (suc (suc (suc (suc (suc zero)))))))))))) f h =
     elim h.holds [
       | inl refused ↦ let kind = chain_kind _ _ f.kind refused.chain refused.first.faulty in record { low = kind.low; high = kind.high }
       | inr place ↦ let kind = of_line kinds.PlaceUnknown Verilog _ f place.is in record { low = omega arith; high = omega arith }
     ]
-among t (suc (suc (suc (suc (suc (suc (suc (suc (suc (suc k)))))))))) f h = absurd h
+among t (suc (suc (suc (suc (suc (suc (suc (suc (suc (suc (suc (suc (suc k))))))))))))) f h = absurd h

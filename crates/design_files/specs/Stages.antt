@@ -1,5 +1,5 @@
 -- What is known of the files of a placed design at each stage, as the code goes over them.
-use Rattle.std.specs.Prelude.{◌≡◌, ◌≤◌, ◌⊎◌, List, length, Some, None, ⊤}
+use Rattle.std.specs.Prelude.{◌≡◌, ◌≤◌, ◌⊎◌, ℕ, List, length, Option, Some, IsSomeAnd, ⊤}
 use Rattle.base_types.specs.declared.fault.Fault.{Fault}
 use Rattle.base_types.specs.declared.fault.ReadFault.{ReadFault}
 use Rattle.base_types.specs.declared.fault.ReadFault.TheVariants.{Fault as OfFault, NoMemory as OfMemory}
@@ -32,10 +32,14 @@ use Rattle.design_places.specs.NetPins.{HoldsInNets}
 use Rattle.design_places.specs.Ends.{HoldsInPlaces, ends_of}
 use Rattle.chain_rules.specs.Rules.{AreRulesOf}
 use Rattle.wire_cost.specs.Lengths.{ArePlaced, IsPlanAt}
+use Rattle.head_checks.specs.Heads.{HoldsInHeads, HoldsInChains}
+use Rattle.stil_types.specs.declared.head.StilHead.{StilHead}
+use Rattle.stil_head.specs.Faults.{HoldsInHead}
 use Rattle.design_files.specs.declared.read.DesignFiles.{DesignFiles}
-use Rattle.design_files.specs.Files.{Texts, AreRead}
+use Rattle.design_files.specs.Files.{Texts, AreRead, IsHeadIn}
+use Rattle.design_files.specs.Faults.{IsFilesFault}
 
--- the files denote these and nothing else, and have no fault by themselves
+-- the four files denote these and nothing else, and have no fault by themselves
 pub record AreKnown (t : Texts) (cells : Cells) (macros : NamedMacros) (n : Netlist) (d : Design) : Type 0 where
   pub read : AreRead t cells macros n d
   pub only_cells : (other : Cells) → DenotesCells t.table other → other ≡ cells
@@ -47,25 +51,37 @@ pub record AreKnown (t : Texts) (cells : Cells) (macros : NamedMacros) (n : Netl
   pub no_verilog : (fault : Fault) → HoldsInVerilog t.verilog fault → ⊥
   pub no_design : (fault : Fault) → HoldsInDesign t.def fault → ⊥
 
+-- the text of a head, where there is one, denotes this head and no other, and has no fault by itself
+pub record IsHeadKnown (text : Option (List ℕ)) (head : Option StilHead) : Type 0 where
+  pub is : IsHeadIn text head
+  pub only : (other : Option StilHead) → IsHeadIn text other → other ≡ head
+  pub no_head : (fault : Fault) → IsSomeAnd text (λ bytes. HoldsInHead bytes fault) → ⊥
+
 -- what the readers give besides
 pub record AreSound (macros : NamedMacros) (n : Netlist) (d : Design) : Type 0 where
   pub measured : AreMeasured macros
   pub is_netlist : IsNetlist n
   pub is_sound : IsSound d
 
--- the elements, the agreement and the paths of a design have no fault, so netlist and design agree, and these are its paths
-pub record HavePaths (n : Netlist) (cells : Cells) (macros : NamedMacros) (d : Design) (paths : List Path) : Type 0 where
+-- the elements and the agreement of a design have no fault, so netlist and design agree
+pub record DoAgree (n : Netlist) (cells : Cells) (macros : NamedMacros) (d : Design) : Type 0 where
   pub no_element : (fault : Fault) → HoldsInElements cells macros d fault → ⊥
   pub no_difference : (fault : Fault) → HoldsInAgreement n d fault → ⊥
   pub agree : Agree n d
-  pub no_path : (fault : Fault) → HoldsInPaths n cells (file_of None) (asked_by (Some d) None) fault → ⊥
-  pub traced : ArePathsOf n cells (asked_by (Some d) None) paths
-  pub only : (other : List Path) → ArePathsOf n cells (asked_by (Some d) None) other → other ≡ paths
+
+-- these are the paths that the head asks for, or else the design. They have no fault, and where there is a head it declares the ports of the
+-- design's chains
+pub record HavePaths (n : Netlist) (cells : Cells) (d : Design) (head : Option StilHead) (paths : List Path) : Type 0 where
+  pub no_undeclared : (fault : Fault) → IsSomeAnd head (λ h. HoldsInChains d h fault) → ⊥
+  pub no_path : (fault : Fault) → HoldsInPaths n cells (file_of head) (asked_by (Some d) head) fault → ⊥
+  pub traced : ArePathsOf n cells (asked_by (Some d) head) paths
+  pub only : (other : List Path) → ArePathsOf n cells (asked_by (Some d) head) other → other ≡ paths
   pub entries : NameEntries n cells paths
   pub few : length paths ≤ 256
 
--- the paths are in the design: their bits are few, and their pins stand in its nets
-pub record AreInDesign (n : Netlist) (cells : Cells) (d : Design) (paths : List Path) : Type 0 where
+-- the paths are as the head declares them, where there is one, and in the design: their bits are few, and their pins stand in its nets
+pub record AreInDesign (n : Netlist) (cells : Cells) (d : Design) (head : Option StilHead) (paths : List Path) : Type 0 where
+  pub no_other : (fault : Fault) → IsSomeAnd head (λ h. HoldsInHeads n cells paths h fault) → ⊥
   pub few_bits : all_bits n cells paths ≤ 262144
   pub no_pin : (fault : Fault) → HoldsInNets n cells d paths fault → ⊥
 
@@ -81,14 +97,20 @@ IsFirstOf n macros d paths fault (OfFault first) =
     (specs : List PathSpec) (chains : List ChainSpec) → IsRefusal specs chains fault → IsFirstFault (λ f. IsRefusal specs chains f ⊎ HoldsInPlaces n macros d paths f) first
 IsFirstOf n macros d paths fault OfMemory = ⊤
 
+-- the fault is the first of any files of which this is known
+abbrev pub IsFirstOfKnown : Cells → NamedMacros → Netlist → Design → Option StilHead → Fault → Type 0
+IsFirstOfKnown cells macros n d head fault = (t : Texts) → AreKnown t cells macros n d → IsHeadKnown t.head head → IsFilesFault t fault
+
 -- the files as they are read and checked: what they denote, the chains and the paths of the design, the rules that these make, for which the
 -- plan as read is legal, and where they begin and end
 pub record AreChecked (t : Texts) (f : DesignFiles) : Type 0 where
   pub known : AreKnown t f.table f.macros f.netlist f.design
+  pub head : IsHeadKnown t.head f.head
   pub sound : AreSound f.macros f.netlist f.design
+  pub agreed : DoAgree f.netlist f.table f.macros f.design
   pub chains : f.chains.items ≡ chain_specs f.netlist f.table f.design
-  pub paths : HavePaths f.netlist f.table f.macros f.design f.paths.items
-  pub inside : AreInDesign f.netlist f.table f.design f.paths.items
+  pub paths : HavePaths f.netlist f.table f.design f.head f.paths.items
+  pub inside : AreInDesign f.netlist f.table f.design f.head f.paths.items
   pub none : HaveNoChainFault f.netlist f.table f.macros f.design f.paths.items
   pub rules : AreRulesOf (path_specs f.netlist f.table (Some f.design) f.paths.items) (chain_specs f.netlist f.table f.design) f.rules
   pub legal : IsLegal f.rules f.rules.read

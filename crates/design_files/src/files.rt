@@ -1,7 +1,7 @@
 //! The files of a placed design, as they are read.
-ghost use Rattle.std.specs.Prelude.{◌<◌, ◌^◌, length, IfOk};
+ghost use Rattle.std.specs.Prelude.{ℕ, ◌<◌, ◌^◌, List, length, Option, IfOk};
 ghost use Rattle.base_types.specs.FirstFault.{IfFault};
-ghost use Rattle.design_files.specs.Files.{texts_of};
+ghost use Rattle.design_files.specs.Files.{texts_with};
 ghost use Rattle.design_files.specs.Faults.{IsFilesFault};
 ghost use Rattle.design_files.specs.Stages.{AreKnown, AreSound};
 
@@ -22,7 +22,7 @@ pub(crate) struct Files {
     pub(crate) design: Design,
 }
 
-/// Reads the files, or answers their first fault.
+/// Reads the files, or answers their first fault, which is that of any patterns' head beside them too.
 pub(crate) fn read_files(
     alloc: Global,
     table: &[u8],
@@ -33,9 +33,9 @@ pub(crate) fn read_files(
     requires lef { length lef.now < 2 ^ 32 }
     requires verilog { length verilog.now < 2 ^ 32 }
     requires def { length def.now < 2 ^ 32 }
-    ensures known { IfOk result (λ f. AreKnown (texts_of table.now lef.now verilog.now def.now) f.table f.macros f.netlist f.design) }
+    ensures known { IfOk result (λ f. (head : Option (List ℕ)) → AreKnown (texts_with table.now lef.now verilog.now def.now head) f.table f.macros f.netlist f.design) }
     ensures sound { IfOk result (λ f. AreSound f.macros f.netlist f.design) }
-    ensures fault { IfFault result (IsFilesFault (texts_of table.now lef.now verilog.now def.now)) }
+    ensures fault { IfFault result (λ fault. (head : Option (List ℕ)) → IsFilesFault (texts_with table.now lef.now verilog.now def.now head) fault) }
 {
     let table = read_table(alloc, table)?;
     let macros = read_macros(alloc, lef)?;

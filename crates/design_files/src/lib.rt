@@ -1,11 +1,13 @@
-//! The files of a placed design (cell table, LEF, Verilog, DEF), read and checked beside each other.
+//! The files of a placed design (cell table, LEF, Verilog, DEF) and the head of its patterns, read and checked beside each other.
 //!
 //! Floor: paths, on netlist_core, cell_table, lef_pins, verilog_checks, verilog_reader, def_syntax, def_reader,
-//! chain_trace, chain_rules, wire_cost, design_elements, traced_paths, design_places, check_laws and base_types.
+//! chain_trace, chain_rules, wire_cost, design_elements, traced_paths, design_places, check_laws, head_checks,
+//! stil_types, stil_head and base_types.
 //! Contract: `read_design_files` gives what `specs/Stages.antt` says of the files, or the first fault of `specs/Faults.antt`.
 #![tactic(auto)]
 
 mod files;
+mod head;
 mod read;
 mod ruled;
 mod traced;

@@ -1,5 +1,5 @@
 //! The rules and the places of the files' chains.
-ghost use Rattle.std.specs.Prelude.{◌≡◌, ◌≢◌, true, false, IfOk, OnOk, Some};
+ghost use Rattle.std.specs.Prelude.{◌≡◌, ◌≢◌, true, false, IfOk, OnOk, IsSomeAnd, Some};
 ghost use Rattle.base_types.specs.declared.fault.Fault.{Fault as ghost_fault};
 ghost use Rattle.base_types.specs.FirstFault.{IfFault, IsFirstFault};
 ghost use Rattle.chain_rules.specs.Stretches.{AreChainSpecs};
@@ -7,11 +7,10 @@ ghost use Rattle.chain_rules.specs.Legality.{IsLegal};
 ghost use Rattle.chain_rules.specs.Rules.{AreRulesOf};
 ghost use Rattle.wire_cost.specs.Lengths.{ArePlaced, IsPlanAt};
 ghost use Rattle.traced_paths.specs.Numbers.{path_specs};
+ghost use Rattle.head_checks.specs.Heads.{HoldsInHeads};
 ghost use Rattle.design_elements.specs.Elements.{chain_specs};
 ghost use Rattle.design_places.specs.Ends.{HoldsInPlaces, ends_of};
-ghost use Rattle.design_files.specs.Files.{Texts};
-ghost use Rattle.design_files.specs.Faults.{IsFilesFault};
-ghost use Rattle.design_files.specs.Stages.{AreKnown, AreSound, HavePaths, AreInDesign, HaveNoChainFault, IsFirstOf};
+ghost use Rattle.design_files.specs.Stages.{AreSound, DoAgree, HavePaths, AreInDesign, HaveNoChainFault, IsFirstOf, IsFirstOfKnown};
 
 use crate::files::Files;
 use crate::traced::Traced;
@@ -19,6 +18,7 @@ use base_types::{Fault, Kind, ReadFault};
 use chain_rules::{PathSpec, Rules, units_of};
 use check_laws::{chains_law, measured_law};
 use design_places::{check_nets, check_places, ends_of};
+use head_checks::check_heads;
 use std::alloc::Global;
 use traced_paths::{check_bits, path_specs};
 use wire_cost::Ends;
@@ -68,15 +68,16 @@ pub(crate) fn rules_beside(
     traced: &Traced,
     specs: &[PathSpec],
 ) -> Result<Rules, ReadFault>
-    requires paths { HavePaths files.now.netlist files.now.table files.now.macros files.now.design traced.now.paths.items }
-    requires inside { AreInDesign files.now.netlist files.now.table files.now.design traced.now.paths.items }
+    requires agreed { DoAgree files.now.netlist files.now.table files.now.macros files.now.design }
+    requires paths { HavePaths files.now.netlist files.now.table files.now.design traced.now.head traced.now.paths.items }
+    requires inside { AreInDesign files.now.netlist files.now.table files.now.design traced.now.head traced.now.paths.items }
     requires chains { traced.now.chains.items ≡ chain_specs files.now.netlist files.now.table files.now.design }
     requires specs { specs.now ≡ path_specs files.now.netlist files.now.table (Some files.now.design) traced.now.paths.items }
     requires belong { AreChainSpecs specs.now traced.now.chains.items }
     ensures rules { IfOk result (AreRulesOf specs.now traced.now.chains.items) }
     ensures legal { IfOk result (λ rules. IsLegal rules rules.read) }
     ensures none { IfOk result (λ rules. HaveNoChainFault files.now.netlist files.now.table files.now.macros files.now.design traced.now.paths.items) }
-    ensures fault { IfFault result (λ fault. (t : Texts) → AreKnown t files.now.table files.now.macros files.now.netlist files.now.design → IsFilesFault t fault) }
+    ensures fault { IfFault result (IsFirstOfKnown files.now.table files.now.macros files.now.netlist files.now.design traced.now.head) }
 {
     match units_of(alloc, specs, &traced.chains) {
         Ok(rules) => {
@@ -95,12 +96,25 @@ pub(crate) struct Ruled {
     pub(crate) ends: Ends,
 }
 
-/// Whether the paths have few bits, and their pins stand in the design's nets.
-fn check_paths(alloc: Global, files: &Files, traced: &Traced) -> Result<(), ReadFault>
-    requires paths { HavePaths files.now.netlist files.now.table files.now.macros files.now.design traced.now.paths.items }
-    ensures inside { OnOk result (AreInDesign files.now.netlist files.now.table files.now.design traced.now.paths.items) }
-    ensures fault { IfFault result (λ fault. (t : Texts) → AreKnown t files.now.table files.now.macros files.now.netlist files.now.design → IsFilesFault t fault) }
+/// Whether the paths are as the head declares them, where there is one.
+fn check_declared(alloc: Global, files: &Files, traced: &Traced) -> Result<(), ReadFault>
+    ensures fault { IfFault result (IsFirstFault (λ f. IsSomeAnd traced.now.head (λ h. HoldsInHeads files.now.netlist files.now.table traced.now.paths.items h f))) }
+    ensures no_fault { OnOk result ((fault : ghost_fault) → IsSomeAnd traced.now.head (λ h. HoldsInHeads files.now.netlist files.now.table traced.now.paths.items h fault) → ⊥) }
 {
+    match &traced.head {
+        Some(head) => check_heads(alloc, &files.netlist, &files.table, &traced.paths, head),
+        None => Ok(()),
+    }
+}
+
+/// Whether the paths are as the head declares them and have few bits, and their pins stand in the design's nets.
+fn check_paths(alloc: Global, files: &Files, traced: &Traced) -> Result<(), ReadFault>
+    requires agreed { DoAgree files.now.netlist files.now.table files.now.macros files.now.design }
+    requires paths { HavePaths files.now.netlist files.now.table files.now.design traced.now.head traced.now.paths.items }
+    ensures inside { OnOk result (AreInDesign files.now.netlist files.now.table files.now.design traced.now.head traced.now.paths.items) }
+    ensures fault { IfFault result (IsFirstOfKnown files.now.table files.now.macros files.now.netlist files.now.design traced.now.head) }
+{
+    check_declared(alloc, files, traced)?;
     if let Err(fault) = check_bits(&files.netlist, &files.table, &traced.paths) {
         return Err(ReadFault::Fault(fault));
     }
@@ -113,20 +127,21 @@ fn check_paths(alloc: Global, files: &Files, traced: &Traced) -> Result<(), Read
     )
 }
 
-/// The rules and the places of the chains, or the first fault: of the paths in the design, of the chains beside them, of the places of their
-/// cells.
+/// The rules and the places of the chains, or the first fault: of the paths beside the head and in the design, of the chains beside them, of
+/// the places of their cells.
 pub(crate) fn ruled_in(alloc: Global, files: &Files, traced: &Traced) -> Result<Ruled, ReadFault>
     requires sound { AreSound files.now.macros files.now.netlist files.now.design }
     requires chains { traced.now.chains.items ≡ chain_specs files.now.netlist files.now.table files.now.design }
-    requires paths { HavePaths files.now.netlist files.now.table files.now.macros files.now.design traced.now.paths.items }
-    ensures inside { IfOk result (λ r. AreInDesign files.now.netlist files.now.table files.now.design traced.now.paths.items) }
+    requires agreed { DoAgree files.now.netlist files.now.table files.now.macros files.now.design }
+    requires paths { HavePaths files.now.netlist files.now.table files.now.design traced.now.head traced.now.paths.items }
+    ensures inside { IfOk result (λ r. AreInDesign files.now.netlist files.now.table files.now.design traced.now.head traced.now.paths.items) }
     ensures none { IfOk result (λ r. HaveNoChainFault files.now.netlist files.now.table files.now.macros files.now.design traced.now.paths.items) }
     ensures rules { IfOk result (λ r. AreRulesOf (path_specs files.now.netlist files.now.table (Some files.now.design) traced.now.paths.items) (chain_specs files.now.netlist files.now.table files.now.design) r.rules) }
     ensures legal { IfOk result (λ r. IsLegal r.rules r.rules.read) }
     ensures ends { IfOk result (λ r. r.ends ≡ ends_of files.now.netlist files.now.table files.now.macros files.now.design traced.now.paths.items r.rules) }
     ensures placed { IfOk result (λ r. ArePlaced r.ends) }
     ensures plan { IfOk result (λ r. IsPlanAt r.ends r.rules.read) }
-    ensures fault { IfFault result (λ fault. (t : Texts) → AreKnown t files.now.table files.now.macros files.now.netlist files.now.design → IsFilesFault t fault) }
+    ensures fault { IfFault result (IsFirstOfKnown files.now.table files.now.macros files.now.netlist files.now.design traced.now.head) }
 {
     check_paths(alloc, files, traced)?;
     let specs = path_specs(

@@ -57,6 +57,10 @@ with_unread unread slot = record slot { unread = unread }
 abbrev pub SameElsewhere : Slot → (Slot → SlotState) → (Slot → SlotState) → Type 0
 SameElsewhere slot old new = (other : Slot) → other ≢ slot → new other ≡ old other
 
+-- no slot changed
+abbrev pub SameSlots : (Slot → SlotState) → (Slot → SlotState) → Type 0
+SameSlots old new = (slot : Slot) → new slot ≡ old slot
+
 -- the same names are allowed at the same slots
 abbrev pub SameNames : (Slot → List ℕ → Bool) → (Slot → List ℕ → Bool) → Type 0
 SameNames old new = (slot : Slot) (name : List ℕ) → new slot name ≡ old slot name

@@ -25,9 +25,9 @@ saying text = record { verilog = []; def = []; stil = []; console = text }
 abbrev pub turn : Slot → ℕ
 turn slot = turn_in (way_of slot)
 
--- no output was opened yet
-abbrev pub OutputsUnopened : (Slot → SlotState) → Type 0
-OutputsUnopened slots = (slot : Slot) → IsOutput slot → IsUnopened (slots slot)
+-- none of the named outputs was opened yet
+abbrev pub OutputsUnopened : Names → (Slot → SlotState) → Type 0
+OutputsUnopened names slots = (slot : Slot) → IsOutput slot → IsNamed names slot → IsUnopened (slots slot)
 
 -- the named outputs whose turn is below were put, and no other slot is changed
 pub record HasPutOutputs (names : Names) (outputs : Outputs) (below : ℕ) (old new : Slot → SlotState) : Type 0 where

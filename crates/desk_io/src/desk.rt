@@ -1,7 +1,7 @@
 ghost use Rattle.std.specs.Prelude.{◌≡◌, ◌<◌, List, ℕ, Bool, IsTrue, length, [], OnOk, OnErr, IfOk};
 ghost use Rattle.desk_io.specs.declared.slot.Slot.{Slot};
 ghost use Rattle.desk_io.specs.declared.slot.Slot.TheVariants.{Console};
-ghost use Rattle.desk_io.specs.Desk.{SlotState, IsInput, IsOutput, IsUnopened, IsOpen, opened, closed, SameElsewhere, SameNames};
+ghost use Rattle.desk_io.specs.Desk.{SlotState, IsInput, IsOutput, IsUnopened, IsOpen, opened, closed, SameElsewhere, SameSlots, SameNames};
 ghost use Rattle.desk_io.specs.Causes.{HasFailed};
 ghost use Rattle.desk_io.specs.Prefixes.{HasRead, HasWritten};
 
@@ -58,5 +58,10 @@ pub trait Desk {
         ensures ok { OnOk result (state self.new slot ≡ closed (state self.old slot)) }
         ensures failed { OnErr result (HasFailed (state self.old slot) (state self.new slot)) }
         ensures elsewhere { SameElsewhere slot (state self.old) (state self.new) }
+        ensures names { SameNames (allows self.old) (allows self.new) };
+
+    /// Tells the user a line that belongs to no output, as a warning. It touches no slot, and whether it is heard is nobody's fault.
+    fn note(&mut self, line: &str)
+        ensures slots { SameSlots (state self.old) (state self.new) }
         ensures names { SameNames (allows self.old) (allows self.new) };
 }

@@ -192,4 +192,6 @@ impl Desk for MemoryDesk {
         part.set_stage(Stage::Closed);
         Ok(())
     }
+
+    fn note(&mut self, _line: &str) {}
 }

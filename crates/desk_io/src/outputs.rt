@@ -69,7 +69,7 @@ fn output_slot(at: usize) -> Slot
 ///
 /// After the first call that fails no other is made. It takes no memory.
 pub fn put_outputs<D: Desk>(names: &Names, outputs: &Outputs, desk: &mut D) -> Result<(), PutFault>
-    requires unopened { OutputsUnopened (D.state desk.old) }
+    requires unopened { OutputsUnopened names.now (D.state desk.old) }
     requires allowed { AllowsNames names.now (D.allows desk.old) }
 
     ensures ok { OnOk result (HasPutOutputs names.now outputs.now OUTPUTS (D.state desk.old) (D.state desk.new)) }

@@ -80,4 +80,6 @@ impl Desk for SureDesk {
         self.stages[slot.number()] = Stage::Closed;
         Ok(())
     }
+
+    fn note(&mut self, _line: &str) {}
 }

@@ -72,7 +72,7 @@ inside n cells steps b h =
     let f = flat_from (step_bits n cells) steps b h in
     subst (λ (i : ℕ). i < length n.instances) (sym (bit_of n cells f.member b f.gives).instance) (placed n cells f.member b f.gives)
 
-name_at : (xs : List Instance) (i : ℕ) → slice_index_or (map (λ instance. instance.name) xs) i [] ≡ name_of (slice_get xs i)
+pub name_at : (xs : List Instance) (i : ℕ) → slice_index_or (map (λ instance. instance.name) xs) i [] ≡ name_of (slice_get xs i)
 name_at [] i = refl
 name_at (x ∷ xs) zero = refl
 name_at (x ∷ xs) (suc i) = name_at xs i

@@ -173,7 +173,7 @@ are_chains n cells number count paths stand some numbering =
           let r = in_map number bits cell h in let lt = numbering.within r.0 (contains bits r.0 r.1) in omega (arith, lt, r.2)));
     }
 
-to_bits : (n : Netlist) (cells : Cells) (old new : List Path) → ((step : Step) → Contains (steps_of new) step → Contains (steps_of old) step) → (b : BitId) → Contains (bits_of_paths n cells new) b → Contains (bits_of_paths n cells old) b
+pub to_bits : (n : Netlist) (cells : Cells) (old new : List Path) → ((step : Step) → Contains (steps_of new) step → Contains (steps_of old) step) → (b : BitId) → Contains (bits_of_paths n cells new) b → Contains (bits_of_paths n cells old) b
 to_bits n cells old new steps b c =
     let h = subst (λ (xs : List BitId). Has xs b) (all_of_steps n cells new) (has (bits_of_paths n cells new) b c) in
     let f = flat_from (step_bits n cells) (steps_of new) b h in

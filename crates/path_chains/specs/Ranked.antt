@@ -15,7 +15,7 @@ use Rattle.chain_trace.specs.Paths.{StandOnce}
 use Rattle.net_edit.specs.Rearranged.{steps_of}
 use Rattle.cell_table.specs.Cells.{Cells}
 use Rattle.stil_tester.specs.declared.chains.Chains.{Chains}
-use Rattle.path_chains.specs.Numbered.{IsNumbering, chain_of, bits_of_paths}
+use Rattle.path_chains.specs.Numbered.{IsNumbering, bits_along, chain_of, bits_of_paths}
 
 -- the name of an instance that may be there
 abbrev pub name_of : Option Instance → List ℕ
@@ -49,6 +49,10 @@ bits_of_all paths = flat_map (λ path. path.bits) paths
 -- the chains of paths' bits, each bit numbered by its rank among all of them
 abbrev pub ranked_chains : Netlist → List PathBits → Chains
 ranked_chains n paths = record { chains = map (chain_of (rank_of n (bits_of_all paths))) paths; cells = length (bits_of_all paths) }
+
+-- the scan chains along paths, their cells numbered by the names of the instances, then by scan path and bit
+abbrev pub chains_along : Netlist → Cells → List Path → Chains
+chains_along n cells paths = ranked_chains n (map (bits_along n cells) paths)
 
 -- the bits of paths whose steps stand once are numbered by their ranks
 abbrev pub RankLaw : Type 0

@@ -1,7 +1,6 @@
 pub mod Chains
 pub mod FaultKinds
 pub mod Faults
-pub mod Heads
 pub mod Lengths
 pub mod Played
 pub mod Sayings

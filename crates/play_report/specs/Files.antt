@@ -1,5 +1,5 @@
 -- What the files of `play` denote: the cells, the netlist, the head of the patterns, and the scan chains that it declares.
-use Rattle.std.specs.Prelude.{◌≡◌, ℕ, List, map, take, Some, None}
+use Rattle.std.specs.Prelude.{◌≡◌, ℕ, List, take, Some, None}
 use Rattle.netlist_core.specs.declared.netlist.Netlist.{Netlist}
 use Rattle.cell_table.specs.Cells.{Cells}
 use Rattle.cell_table.specs.Entries.{DenotesCells}
@@ -7,12 +7,11 @@ use Rattle.verilog_reader.specs.Denoted.{DenotesNetlist}
 use Rattle.chain_trace.specs.declared.path.Path.{Path}
 use Rattle.traced_paths.specs.Asked.{asked_by}
 use Rattle.traced_paths.specs.Traced.{ArePathsOf}
-use Rattle.path_chains.specs.Numbered.{bits_along}
-use Rattle.path_chains.specs.Ranked.{ranked_chains}
+-- the scan chains along paths
+pub use Rattle.path_chains.specs.Ranked.{chains_along}
 use Rattle.stil_types.specs.declared.head.StilHead.{StilHead}
 use Rattle.stil_parts.specs.Heads.{head_len}
 use Rattle.stil_head.specs.Heads.{DenotesHead}
-use Rattle.stil_tester.specs.declared.chains.Chains.{Chains}
 use Rattle.stil_reader.specs.Sayings.{told_whole}
 use Rattle.play_report.specs.declared.device.DeviceKind.{DeviceKind}
 use Rattle.play_report.specs.Plays.{play_text}
@@ -33,10 +32,6 @@ pub record AreRead (table verilog text : List ℕ) (cells : Cells) (n : Netlist)
 pub record AreTraced (table verilog text : List ℕ) (cells : Cells) (n : Netlist) (head : StilHead) (paths : List Path) : Type 0 where
   pub read : AreRead table verilog text cells n head
   pub paths_are : ArePathsOf n cells (asked_by None (Some head)) paths
-
--- the scan chains along paths, their cells numbered by the names of the instances, then by scan path and bit
-abbrev pub chains_along : Netlist → Cells → List Path → Chains
-chains_along n cells paths = ranked_chains n (map (bits_along n cells) paths)
 
 -- what `play` says of these files
 pub record IsPlayText (table verilog stil : List ℕ) (device : DeviceKind) (said : List ℕ) : Type 0 where

@@ -10,3 +10,5 @@ pub mod Values
 pub mod FullStrings
 pub mod Moved
 pub mod Retargeted
+pub mod Standing
+pub mod MovedCalls

@@ -23,11 +23,11 @@ use Rattle.retarget.proofs.Accepted.{long_enough, quiet_from, bits_are}
 
 -- ---- the characters
 
-load_is : (string : Option (List ℕ)) (place : ℕ) → load_character string place ≡ get_or (reverse (text_of string)) place 78
+pub load_is : (string : Option (List ℕ)) (place : ℕ) → load_character string place ≡ get_or (reverse (text_of string)) place 78
 load_is None place = refl
 load_is (Some text) place = refl
 
-compare_is : (string : Option (List ℕ)) (index : ℕ) → compare_character string index ≡ get_or (text_of string) index 88
+pub compare_is : (string : Option (List ℕ)) (index : ℕ) → compare_character string index ≡ get_or (text_of string) index 88
 compare_is None index = refl
 compare_is (Some text) index = refl
 
@@ -121,14 +121,14 @@ strings_from : (test : ℕ → Bool) (strings : List (Option (List ℕ))) → ((
 strings_from test strings each c d l = subst (λ (s : Option (List ℕ)). IsStringOf test s) (get_or_default strings c None d l) (each c l)
 
 -- the bit at a place is that of a cell, which stands in the old chains too
-record HasPlaces (old new : Chains) (d j : ℕ) : Type 0 where
-  cell : ℕ
-  c : ℕ
-  i : ℕ
-  here : StandsAt old cell c i
-  there : StandsAt new cell d j
+pub record HasPlaces (old new : Chains) (d j : ℕ) : Type 0 where
+  pub cell : ℕ
+  pub c : ℕ
+  pub i : ℕ
+  pub here : StandsAt old cell c i
+  pub there : StandsAt new cell d j
 
-places_of : (old new : Chains) → HaveSameCells old new → (d j : ℕ) → d < length new.chains → j < bits_at new d → HasPlaces old new d j
+pub places_of : (old new : Chains) → HaveSameCells old new → (d j : ℕ) → d < length new.chains → j < bits_at new d → HasPlaces old new d j
 places_of old new same d j l m =
     let v : ℕ = get_or (chain_bits new d).cells j 0 in
     let there : StandsAt new v d j = record { is_chain = l; is_place = m; is_there = refl } in
@@ -164,7 +164,7 @@ written_compares_valid old new call written same each keeps d k l =
 
 -- ---- the lengths
 
-some_longest : (strings : List (Option (List ℕ))) → 0 < longest_string strings → (d : ℕ) × (d < length strings) × IsSome (get_or strings d None)
+pub some_longest : (strings : List (Option (List ℕ))) → 0 < longest_string strings → (d : ℕ) × (d < length strings) × IsSome (get_or strings d None)
 some_longest [] h = absurd (omega arith)
 some_longest (None ∷ strings) h =
     let rest : (d : ℕ) × (d < length strings) × IsSome (get_or strings d None) = some_longest strings (omega arith) in
@@ -210,33 +210,31 @@ written_shifts old new call written shifts same fits some loads compares =
     omega (arith, least_longest written.compares shifts one.0 ((compares.each one.0 l).stands.1 (inl one.2)) (full.compares one.0)))
     (cases_lt 0 (longest_string call.loads))
 
-pub retargeted : (old new : Route) (shifts : ℕ) (call written : ScanCall) → IsMap old new shifts → IsCallFor old.chains call → IsAccepted old.chains call → 0 < call.shifts → written.shifts ≡ shifts
-    → AreMoved Load old.chains new.chains shifts call.loads written.loads → AreMoved Compare old.chains new.chains shifts call.compares written.compares → IsRetargeted old.chains new.chains call written
-retargeted old new shifts call written map fits accepted some e loads compares =
-    let a : Chains = old.chains in
-    let b : Chains = new.chains in
+pub retargeted : (a b : Chains) (shifts : ℕ) (call written : ScanCall) → HaveSameCells a b → shifts ≡ longest b → IsCallFor a call → IsAccepted a call → 0 < call.shifts → written.shifts ≡ shifts
+    → AreMoved Load a b shifts call.loads written.loads → AreMoved Compare a b shifts call.compares written.compares → IsRetargeted a b call written
+retargeted a b shifts call written same long fits accepted some e loads compares =
     let keeps : KeepsLoads a b call written = keeps_loads a b call written shifts loads in
     let keeps' : KeepsCompares a b call written = keeps_compares a b call written shifts compares in
     let well_formed : IsCallFor b written = record {
       loads = loads.long ∙ sym (length-bit_counts b);
       compares = compares.long ∙ sym (length-bit_counts b);
-      load_characters = strings_from is_load_character written.loads (λ d l. load_string (get_or written.loads d None) (λ j. written_loads_valid a b call written map.same fits.load_characters keeps d j (omega (arith, loads.long))));
-      compare_characters = strings_from is_compare_character written.compares (λ d l. compare_string (get_or written.compares d None) (λ k. written_compares_valid a b call written map.same fits.compare_characters keeps' d k (omega (arith, compares.long))));
-      shifts = e ∙ written_shifts a b call written shifts map.same fits some loads compares;
+      load_characters = strings_from is_load_character written.loads (λ d l. load_string (get_or written.loads d None) (λ j. written_loads_valid a b call written same fits.load_characters keeps d j (omega (arith, loads.long))));
+      compare_characters = strings_from is_compare_character written.compares (λ d l. compare_string (get_or written.compares d None) (λ k. written_compares_valid a b call written same fits.compare_characters keeps' d k (omega (arith, compares.long))));
+      shifts = e ∙ written_shifts a b call written shifts same fits some loads compares;
     } in
     record {
-      meaning = same_call a b call written map.same fits well_formed (long_enough a call accepted.not_short some) (omega (arith, e, map.longest_new)) (quiet_from a call accepted.not_long) keeps keeps';
+      meaning = same_call a b call written same fits well_formed (long_enough a call accepted.not_short some) (omega (arith, e, long)) (quiet_from a call accepted.not_long) keeps keeps';
       well_formed = well_formed;
       accepted = record {
-        not_short = λ short. omega (arith, short.short, e, map.longest_new);
-        not_long = λ long.
-            let l : long.chain < length b.chains = omega (arith, length-bit_counts b, long.is_chain) in
-            let past : bits_at b long.chain ≤ long.index = omega (arith, bits_are b long.chain l, long.beyond) in
-            false≢true (sym (ap is_expectation (keeps'.others long.chain long.index l past)) ∙ long.stands);
+        not_short = λ short. omega (arith, short.short, e, long);
+        not_long = λ past_bits.
+            let l : past_bits.chain < length b.chains = omega (arith, length-bit_counts b, past_bits.is_chain) in
+            let past : bits_at b past_bits.chain ≤ past_bits.index = omega (arith, bits_are b past_bits.chain l, past_bits.beyond) in
+            false≢true (sym (ap is_expectation (keeps'.others past_bits.chain past_bits.index l past)) ∙ past_bits.stands);
       };
       loads = keeps;
       compares = keeps';
-      full = subst (λ (n : ℕ). AreFull written n) map.longest_new (are_full a b call written shifts loads compares);
+      full = subst (λ (n : ℕ). AreFull written n) long (are_full a b call written shifts loads compares);
     }
 
 -- a call that doesn't shift is well-formed beside the new chains too, and accepted
@@ -259,7 +257,7 @@ still_accepted old new call fits e = record {
   not_long = λ long. false≢true (sym (ap is_expectation (compare_past (get_or call.compares long.chain None) long.index (omega (arith, string_within call.compares long.chain, fits.shifts)))) ∙ long.stands);
 }
 
-some_shifts : (n : ℕ) → (n ≡ 0 → ⊥) → 0 < n
+pub some_shifts : (n : ℕ) → (n ≡ 0 → ⊥) → 0 < n
 some_shifts n h = omega arith
 
 -- the same of a call that may have refused, where the map is seen as a pair of chains
@@ -272,7 +270,7 @@ pub retargeted_if_ok : {E : Type 0} (old new : Route) (shifts : ℕ) (call : Sca
 retargeted_if_ok old new shifts call chains (Err refused) seen map fits accepted some e loads compares = tt
 retargeted_if_ok old new shifts call chains (Ok written) seen map fits accepted some e loads compares =
     subst (λ (m : Chains × Chains). IsRetargeted m.0 m.1 call written) seen
-    (retargeted old new shifts call written map
+    (retargeted old.chains new.chains shifts call written map.same map.longest_new
     (subst (λ (m : Chains × Chains). IsCallFor m.0 call) (sym seen) fits)
     (subst (λ (m : Chains × Chains). IsAccepted m.0 call) (sym seen) accepted)
     (some_shifts call.shifts some) e loads compares)

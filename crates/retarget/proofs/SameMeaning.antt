@@ -91,7 +91,7 @@ same_comparison true false ch x = ap (λ e. meets e x) (expect_of-flip_character
 same_comparison false true ch x = ap (λ e. meets e (flip x)) (expect_of-flip_character ch) ∙ meets-flip (expect_of ch) x
 same_comparison false false ch x = refl
 
-same_verdict : (a b : Bool) → (a ≡ true → b ≡ true) → (b ≡ true → a ≡ true) → a ≡ b
+pub same_verdict : (a b : Bool) → (a ≡ true → b ≡ true) → (b ≡ true → a ≡ true) → a ≡ b
 same_verdict true b f g = sym (f refl)
 same_verdict false true f g = g refl
 same_verdict false false f g = refl

@@ -1,4 +1,5 @@
 pub mod Judging
+pub mod Moved
 pub mod Places
 pub mod Retargeting
 pub mod Sides

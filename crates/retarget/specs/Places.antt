@@ -1,5 +1,5 @@
 -- Where the cells stand in the chains, and the parities before and behind them (IEEE 1450-1999, ScanStructures).
-use Rattle.std.specs.Prelude.{◌≡◌, ℕ, ◌+◌, ◌<◌, Bool, false, not, List, [], ◌∷◌, length, take, drop, slice_index_or}
+use Rattle.std.specs.Prelude.{◌≡◌, ℕ, ◌+◌, ◌<◌, ◌==◌, nat_lt, if◌then◌else◌, suc, Bool, false, not, List, [], ◌∷◌, length, take, drop, slice_index_or}
 use Rattle.std.specs.Bool.{beq}
 use Rattle.stil_tester.specs.declared.chains.ChainBits.{ChainBits}
 use Rattle.stil_tester.specs.declared.chains.Chains.{Chains}
@@ -40,6 +40,24 @@ pub record StandsAt (chains : Chains) (cell number place : ℕ) : Type 0 where
   pub is_chain : number < length chains.chains
   pub is_place : place < bits_at chains number
   pub is_there : slice_index_or (chain_bits chains number).cells place 0 ≡ cell
+
+-- the first place of a cell among some cells; how many they are where it isn't one of them
+abbrev pub place_in : ℕ → List ℕ → ℕ
+place_in cell [] = 0
+place_in cell (other ∷ others) = if cell == other then 0 else suc (place_in cell others)
+
+-- the number of the first chain that has a cell
+abbrev pub number_in : ℕ → List ChainBits → ℕ
+number_in cell [] = 0
+number_in cell (chain ∷ chains) = if nat_lt (place_in cell chain.cells) (length chain.cells) then 0 else suc (number_in cell chains)
+
+-- the number of a cell's chain
+abbrev pub chain_of : Chains → ℕ → ℕ
+chain_of chains cell = number_in cell chains.chains
+
+-- the place of a cell in its chain
+abbrev pub place_of : Chains → ℕ → ℕ
+place_of chains cell = place_in cell (chain_bits chains (chain_of chains cell)).cells
 
 -- the bits of the longest chain
 abbrev pub longest : Chains → ℕ

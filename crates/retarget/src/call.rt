@@ -4,6 +4,7 @@ ghost use Rattle.stil_tester.specs.Shifting.{HasCells, IsCallFor, scan_call};
 ghost use Rattle.retarget.specs.declared.side.Side.TheVariants.{Load, Compare};
 ghost use Rattle.retarget.specs.Places.{longest};
 ghost use Rattle.retarget.specs.Judging.{IsAccepted};
+ghost use Rattle.retarget.specs.Moved.{moved_call};
 ghost use Rattle.retarget.specs.Retargeting.{KeepsLoads, KeepsCompares, WritesLoads, WritesCompares, AreFull};
 ghost use Rattle.retarget.specs.Sides.{IsMap, AreMoved};
 
@@ -31,7 +32,8 @@ pub fn retarget_call(alloc: Global, map: &Map, call: &ScanCall) -> Result<ScanCa
     ensures well_formed { IfOk result (IsCallFor map.now.1) }
     ensures accepted { IfOk result (IsAccepted map.now.1) }
 
-    // How it is written.
+    // Which call it is, and how it is written.
+    ensures value { IfOk result (λ written. written ≡ moved_call map.now.0 map.now.1 call.now) }
     ensures unchanged { IfOk result (λ written. call.now.shifts ≡ 0 → written ≡ call.now) }
     ensures shifts { IfOk result (λ written. 0 < call.now.shifts → written.shifts ≡ longest map.now.1) }
     ensures loads { IfOk result (λ written. 0 < call.now.shifts → KeepsLoads map.now.0 map.now.1 call.now written) }

@@ -2,11 +2,13 @@
 //!
 //! Floor: patterns, on lane_kernels, stil_types, stil_tester and base_types.
 //! Contract: what `retarget_call` writes does on the new chains what the read call does on the old
-//! ones, for whatever the cells hold before. Begin with `specs/Retargeting.antt`.
+//! ones, for whatever the cells hold before. Begin with `specs/Retargeting.antt`; `specs/Moved.antt`
+//! says which call that is.
 #![tactic(auto)]
 
 mod call;
 mod judge;
+mod laws;
 mod map;
 mod route;
 mod side;
@@ -14,4 +16,5 @@ mod strings;
 
 pub use call::retarget_call;
 pub use judge::judge_call;
+pub use laws::moved_law;
 pub use map::{Map, map_of};

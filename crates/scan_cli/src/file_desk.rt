@@ -153,4 +153,9 @@ impl Desk for FileDesk {
         self.stages[at] = Stage::Closed;
         Ok(())
     }
+
+    fn note(&mut self, line: &str) {
+        // What standard error doesn't take is lost, and that is nobody's fault.
+        let _told = self.rt.eprintln(line);
+    }
 }

@@ -1,5 +1,5 @@
 -- Words that say an order say a request, and one at most; and a request looks at its inputs alone.
-use Rattle.std.proofs.Common.{◌≡◌, Bool, true, false, List, length, codes, Option, Some, None, refl, sym, ap, ◌∙◌, subst}
+use Rattle.std.proofs.Common.{◌≡◌, ◌⊎◌, inl, inr, Bool, true, false, List, length, codes, Option, Some, None, refl, sym, ap, ◌∙◌, subst, arith}
 use Rattle.std.proofs.lemmas.Option.{same_Some}
 use Rattle.base_types.specs.declared.fault.Fault.{Fault}
 use Rattle.desk_io.specs.declared.outputs.Outputs.{Outputs}
@@ -15,6 +15,7 @@ use Rattle.scan_job.specs.declared.commands.rewire.RewireRequest.{RewireRequest}
 use Rattle.scan_job.specs.declared.commands.trace.TraceRequest.{TraceRequest}
 use Rattle.scan_job.specs.declared.commands.check.CheckRequest.{CheckRequest}
 use Rattle.scan_job.specs.declared.commands.reorder.ReorderRequest.{ReorderRequest}
+use Rattle.scan_job.specs.declared.commands.patterns.PatternsRequest.{PatternsRequest}
 use Rattle.scan_job.specs.declared.commands.play.PlayRequest.{PlayRequest}
 use Rattle.scan_job.specs.Commands.{Files}
 use Rattle.scan_job.specs.Requests as requests
@@ -26,7 +27,8 @@ use Rattle.scan_job.proofs.Options.{IsMade}
 use Rattle.scan_job.proofs.RewireLaws.{rewire_by, rewire_back, made_rewire, rewire_fault_same, rewire_texts_same}
 use Rattle.scan_job.proofs.TraceLaws.{trace_by, trace_back, made_trace, trace_fault_same, trace_texts_same}
 use Rattle.scan_job.proofs.CheckLaws.{check_by, check_back, made_check, check_fault_same, check_texts_same}
-use Rattle.scan_job.proofs.ReorderLaws.{reorder_by, reorder_back, made_reorder, reorder_fault_same, reorder_texts_same}
+use Rattle.scan_job.proofs.ReorderLaws.{reorder_by, reorder_back, patterns_back, made_reorder, reorder_fault_same, reorder_texts_same}
+use Rattle.scan_job.proofs.PatternsLaws.{patterns_fault_same, patterns_texts_same}
 use Rattle.scan_job.proofs.PlayLaws.{play_by, play_back, made_play, play_fault_same, play_texts_same}
 
 -- the request of a command, its values and the further words, and some request where they are no such values
@@ -43,6 +45,7 @@ request_back (requests.Rewire r) other = rewire_back r other
 request_back (requests.Trace r) other = trace_back r other
 request_back (requests.Check r) other = check_back r other
 request_back (requests.Reorder r) other = reorder_back r other
+request_back (requests.ReorderPatterns r) other = patterns_back r other
 request_back (requests.Play r) other = play_back r other
 
 -- an order is that of one request at most
@@ -63,35 +66,48 @@ abbrev pub MadeBy : Verb → Order → Type 0
 MadeBy verbs.Rewire order = (r : RewireRequest) × (order_of (requests.Rewire r) ≡ order)
 MadeBy verbs.Trace order = (r : TraceRequest) × (order_of (requests.Trace r) ≡ order)
 MadeBy verbs.Check order = (r : CheckRequest) × (order_of (requests.Check r) ≡ order)
-MadeBy verbs.Reorder order = (r : ReorderRequest) × (order_of (requests.Reorder r) ≡ order)
+MadeBy verbs.Reorder order = ((r : ReorderRequest) × (order_of (requests.Reorder r) ≡ order)) ⊎ ((r : PatternsRequest) × (order_of (requests.ReorderPatterns r) ≡ order))
 MadeBy verbs.Play order = (r : PlayRequest) × (order_of (requests.Play r) ≡ order)
 
 made_request : (request : Request) → MadeBy (order_of request).verb (order_of request)
 made_request (requests.Rewire r) = (r, refl)
 made_request (requests.Trace r) = (r, refl)
 made_request (requests.Check r) = (r, refl)
-made_request (requests.Reorder r) = (r, refl)
+made_request (requests.Reorder r) = inl (r, refl)
+made_request (requests.ReorderPatterns r) = inr (r, refl)
 made_request (requests.Play r) = (r, refl)
 
 pub made_as : (verb : Verb) (order : Order) → order.verb ≡ verb → IsAsked order → MadeBy verb order
 made_as verb order is asked =
     subst (λ (v : Verb). MadeBy v order) is (subst (λ (o : Order). MadeBy o.verb o) asked.order_is (made_request asked.request))
 
+-- an order of `reorder` asks for the design alone, or for patterns too, as many values as it has
+
+pub made_design : (order : Order) → MadeBy verbs.Reorder order → length order.values ≡ 7 → (r : ReorderRequest) × (order_of (requests.Reorder r) ≡ order)
+made_design order (inl made) seven = made
+made_design order (inr made) seven = let nine = ap (λ (o : Order). length o.values) made.1 in absurd (omega (arith, seven, nine))
+
+pub made_patterns : (order : Order) → MadeBy verbs.Reorder order → (length order.values ≡ 7 → ⊥) → (r : PatternsRequest) × (order_of (requests.ReorderPatterns r) ≡ order)
+made_patterns order (inl made) other = absurd (other (sym (ap (λ (o : Order). length o.values) made.1)))
+made_patterns order (inr made) other = made
+
 -- a request looks at its inputs alone
 
 pub command_same : (request : Request) (one other : Files) (fault : Fault) → AgreeAt request one other → IsCommandFault request one fault → IsCommandFault request other fault
-command_same (requests.Rewire r) = rewire_fault_same r
-command_same (requests.Trace r) = trace_fault_same r
-command_same (requests.Check r) = check_fault_same r
-command_same (requests.Reorder r) = reorder_fault_same r
-command_same (requests.Play r) = play_fault_same r
+command_same (requests.Rewire r) one other fault agree is = rewire_fault_same r one other fault agree is
+command_same (requests.Trace r) one other fault agree is = trace_fault_same r one other fault agree is
+command_same (requests.Check r) one other fault agree is = check_fault_same r one other fault agree is
+command_same (requests.Reorder r) one other fault agree is = reorder_fault_same r one other fault agree is
+command_same (requests.ReorderPatterns r) one other fault agree is = patterns_fault_same r one other agree fault is
+command_same (requests.Play r) one other fault agree is = play_fault_same r one other fault agree is
 
 pub texts_same : (request : Request) (one other : Files) (outputs : Outputs) → AgreeAt request one other → AreTexts request one outputs → AreTexts request other outputs
-texts_same (requests.Rewire r) = rewire_texts_same r
-texts_same (requests.Trace r) = trace_texts_same r
-texts_same (requests.Check r) = check_texts_same r
-texts_same (requests.Reorder r) = reorder_texts_same r
-texts_same (requests.Play r) = play_texts_same r
+texts_same (requests.Rewire r) one other outputs agree are = rewire_texts_same r one other outputs agree are
+texts_same (requests.Trace r) one other outputs agree are = trace_texts_same r one other outputs agree are
+texts_same (requests.Check r) one other outputs agree are = check_texts_same r one other outputs agree are
+texts_same (requests.Reorder r) one other outputs agree are = reorder_texts_same r one other outputs agree are
+texts_same (requests.ReorderPatterns r) one other outputs agree are = patterns_texts_same r one other agree outputs are
+texts_same (requests.Play r) one other outputs agree are = play_texts_same r one other outputs agree are
 
 abbrev further_in : Values → List Text
 further_in values = values (codes "further")

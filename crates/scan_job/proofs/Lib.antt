@@ -1,10 +1,10 @@
-pub mod Values
 pub mod Agreeing
 pub mod Options
 pub mod RewireLaws
 pub mod TraceLaws
 pub mod CheckLaws
 pub mod ReorderLaws
+pub mod PatternsLaws
 pub mod PlayLaws
 pub mod Asked
 pub mod Sizes
@@ -12,5 +12,13 @@ pub mod Phases
 pub mod PlayKinds
 pub mod Played
 pub mod PlayPhases
+pub mod Streamed
+pub mod Retargeted
+pub mod PutSteps
+pub mod Figures
+pub mod PlanTaken
+pub mod PatternSteps
+pub mod PatternFrames
+pub mod PatternPhases
 pub mod TopClauses
 pub mod OneFault

@@ -7,18 +7,19 @@ use Rattle.desk_io.specs.declared.slot.Slot.TheVariants.{Table, OutVerilog, OutD
 use Rattle.desk_io.specs.declared.outputs.Outputs.{Outputs}
 use Rattle.desk_io.specs.Number.{number}
 use Rattle.desk_io.specs.Desk.{SlotState, SameElsewhere, IsInput, IsOutput, IsUnopened, IsOpen, IsClosed, AllUnopened}
-use Rattle.desk_io.specs.Causes.{HasRisen, SameCounts}
+use Rattle.desk_io.specs.Causes.{HasRisen, SameCounts, SomeRose}
 use Rattle.desk_io.specs.Prefixes.{IsAtEnd, IsAppended, HasTakenFile, IsTooLarge, HasFailedToTake, HasRunOut, HoldsPrefix}
 use Rattle.desk_io.specs.Names.{name_at}
 use Rattle.desk_io.specs.Inputs.{limit_of, input_at, HasTakenInputs, HasStoppedAt}
 use Rattle.desk_io.specs.Outputs.{output_at, turn}
 use Rattle.scan_job.specs.declared.stop.Stop.{Stop}
 use Rattle.scan_job.specs.declared.stop.Stop.TheVariants.{NoForm, Refused, InputFailed, OutputFailed, NoMemory}
-use Rattle.scan_job.specs.Requests.{Request, command_of, names_of}
+use Rattle.scan_words.specs.declared.order.Order.{Order}
+use Rattle.scan_job.specs.Requests.{Request, order_of, command_of, names_of}
 use Rattle.scan_job.specs.Faults.{size_fault, IsOver, AreSmall, IsCommandFault, HasNoCommandFault, IsRunFault, HasNoFault, IsFoundWriting}
 use Rattle.scan_job.specs.Texts.{AreOutputsOf, AreOutputsBefore}
 use Rattle.scan_job.specs.TopCall.{Slots, IsUsed, Reads, SameEverywhere, SameUnused, SameOutputs, SameDesign, AreFilesRefused}
-use Rattle.scan_job.specs.Ended.{IsDone, IsRefused, IsInputFailed, IsOutputFailed, IsOutOfMemory, HasEnded}
+use Rattle.scan_job.specs.Ended.{IsDone, IsRefused, IsInputFailed, IsOutputFailed, IsOutOfMemory, HasEnded, HasRunOrder}
 use Rattle.scan_job.specs.Phases.{HasPutLine, HasFailedAtLine, HasSaid, AreCountable, AreJudged, HasPutAll, HasPutSome, HasFinished}
 use Rattle.desk_io.proofs.Slots.{below_cases, slot_cases, input_or_output, not_both, at_slot, apart, low_number, early_turn}
 use Rattle.scan_job.proofs.Asked.{command_same, texts_same}
@@ -59,7 +60,7 @@ appended_none (Some w) = ap Some (sym (append-nil w))
 pub nothing_held : (bytes : List ℕ) (old new : SlotState) → new ≡ old → HoldsPrefix bytes old new
 nothing_held bytes old new same = record { front = []; rest = bytes; prefix = refl; appended = ap (λ (s : SlotState). s.written) same ∙ appended_none old.written }
 
-all_held : (bytes : List ℕ) (old new : SlotState) → IsAppended bytes old new → HoldsPrefix bytes old new
+pub all_held : (bytes : List ℕ) (old new : SlotState) → IsAppended bytes old new → HoldsPrefix bytes old new
 all_held bytes old new appended = record { front = bytes; rest = []; prefix = sym (append-nil bytes); appended = appended }
 
 pub prefix_since : (bytes : List ℕ) (a b c : SlotState) → b ≡ a → HoldsPrefix bytes b c → HoldsPrefix bytes a c
@@ -119,6 +120,28 @@ module _ (request : Request) (texts : List (Option (List ℕ))) (a b : Slots) (t
 
 pub before_of : (request : Request) (files : Slot → List ℕ) (outputs : Outputs) → AreOutputsOf request files outputs → AreOutputsBefore request files outputs
 before_of request files outputs are = record { no_fault = λ fault is. absurd (are.no_fault fault is); texts = are.texts }
+
+-- no output was touched, nor anything said
+
+pub design_kept : (a c : Slots) → SameOutputs a c → SameDesign a c
+design_kept a c same = record { verilog = same OutVerilog tt; def = same OutDef tt }
+
+pub failed_untouched : (request : Request) (a c : Slots) → SameUnused request a c → SomeRose IsInput a c → SameOutputs a c → IsInputFailed request a c
+failed_untouched request a c unused rose same = record {
+  unused = unused;
+  rose = rose;
+  outputs = λ slot output. ap (λ (s : SlotState). s.faults) (same slot output);
+  design = design_kept a c same;
+  silent = same Console tt;
+  prefixes = λ files holds. inl same;
+}
+
+pub ran_out_untouched : (request : Request) (a c : Slots) → SameUnused request a c → SameCounts a c → SameOutputs a c → IsOutOfMemory request a c
+ran_out_untouched request a c unused counts same = record { unused = unused; counts = counts; design = design_kept a c same; silent = same Console tt; prefixes = λ files holds. inl same }
+
+-- there was no memory before anything was done
+pub no_memory : (request : Request) (order : Order) (a : Slots) → order_of request ≡ order → HasRunOrder order a a (Err NoMemory)
+no_memory request order a is = record { request = request; is = is; ended = ran_out_untouched request a a (λ slot unused. refl) (λ slot. refl) (λ slot output. refl) }
 
 -- a fault was found before any output was touched
 
@@ -187,11 +210,8 @@ module _ (request : Request) (fault : Fault) (a b c : Slots) (early : IsFoundWri
   }
 
   pub ran_out : SameEverywhere b c → IsOutOfMemory request a c
-  ran_out same = record {
-    unused = λ slot unused. same slot ∙ f.unused slot unused;
-    counts = λ slot. ap (λ (s : SlotState). s.faults) (same slot) ∙ f.counts slot;
-    outputs = λ slot output. same slot ∙ f.outputs slot output;
-  }
+  ran_out same = ran_out_untouched request a c (λ slot unused. same slot ∙ f.unused slot unused) (λ slot. ap (λ (s : SlotState). s.faults) (same slot) ∙ f.counts slot)
+      (λ slot output. same slot ∙ f.outputs slot output)
 
   pub said_ended : (ended : Result (Unit {0}) Stop) → HasSaid (names_of request) fault b c ended → HasEnded request a c ended
   said_ended (Ok done) said = absurd said
@@ -291,18 +311,15 @@ module _ (request : Request) (slot : Slot) (a b : Slots) (unopened : AllUnopened
 -- an input failed, or memory ran out
 
 pub input_failed : (request : Request) (slot : Slot) (a b : Slots) → HasStoppedAt (names_of request) slot a b HasFailedToTake → IsInputFailed request a b
-input_failed request slot a b stopped = record {
-  unused = unused_as_was request slot a b HasFailedToTake stopped;
-  rose = record { slot = slot; is = stopped.input; risen = risen_since _ (a slot) (stopped.between slot) (here_kept request slot a b HasFailedToTake stopped) stopped.here.risen };
-  outputs = output_as_was request slot a b HasFailedToTake stopped;
-}
+input_failed request slot a b stopped =
+    failed_untouched request a b (unused_as_was request slot a b HasFailedToTake stopped)
+    (record { slot = slot; is = stopped.input; risen = risen_since _ (a slot) (stopped.between slot) (here_kept request slot a b HasFailedToTake stopped) stopped.here.risen })
+    (output_as_was request slot a b HasFailedToTake stopped)
 
 pub inputs_ran_out : (request : Request) (slot : Slot) (a b : Slots) → HasStoppedAt (names_of request) slot a b HasRunOut → IsOutOfMemory request a b
-inputs_ran_out request slot a b stopped = record {
-  unused = unused_as_was request slot a b HasRunOut stopped;
-  counts = count_as_was request slot a b HasRunOut stopped stopped.here.faults;
-  outputs = output_as_was request slot a b HasRunOut stopped;
-}
+inputs_ran_out request slot a b stopped =
+    ran_out_untouched request a b (unused_as_was request slot a b HasRunOut stopped) (count_as_was request slot a b HasRunOut stopped stopped.here.faults)
+    (output_as_was request slot a b HasRunOut stopped)
 
 -- all inputs were taken, and then the command finished
 
@@ -396,14 +413,11 @@ module _ (request : Request) (texts : List (Option (List ℕ))) (a b c : Slots) 
   finished (Err InputFailed) f = absurd f
   finished (Err OutputFailed) (inl p) = put_some p
   finished (Err OutputFailed) (inr f) = failed_at_line request f.fault a b c (early f.fault.kind) (found_own f.fault f.first) f.then_did
-  finished (Err NoMemory) same = record {
-    unused = λ slot unused. same slot ∙ unused_kept request texts a b taken slot unused;
-    counts = λ slot. ap (λ (s : SlotState). s.faults) (same slot) ∙ counts_kept request texts a b taken slot;
-    outputs = λ slot output. same slot ∙ kept slot output;
-  }
+  finished (Err NoMemory) same = ran_out_untouched request a c (λ slot unused. same slot ∙ unused_kept request texts a b taken slot unused)
+      (λ slot. ap (λ (s : SlotState). s.faults) (same slot) ∙ counts_kept request texts a b taken slot) (λ slot output. same slot ∙ kept slot output)
 
 -- no file of an input is longer than its limit
-limit_small : (slot : Slot) → limit_of slot < 2 ^ 32
+pub limit_small : (slot : Slot) → limit_of slot < 2 ^ 32
 limit_small Table = omega arith
 limit_small slot = omega arith
 

@@ -39,6 +39,7 @@ use Rattle.stil_calls.specs.declared.judging.Judging.TheVariants.{Lengths}
 use Rattle.stil_calls.specs.Faults.{kind_of, is_pattern_syntax, is_pattern_unsupported, is_scan_character, is_foreign_data, is_short_load, is_long_compare, is_too_many_shifts, fault_or, body_fault, inner_fault, fault_by, fault_in}
 use Rattle.stil_calls.specs.Parts.{opening_kind, passing_kind, passing_in, opened_in, judge_by, judge_of}
 use Rattle.stil_reader.specs.Sayings.{told_before, told_whole, beginning}
+use Rattle.scan_job.specs.Commands.Patterns.{IsPatternKind}
 use Rattle.play_report.specs.Faults.{HoldsBeforePatterns, OfTable, OfVerilog, OfHead, OfPaths, OfDeclarations, OfBits}
 
 -- the kind's number is below that of the first kind of patterns
@@ -81,12 +82,12 @@ before_early table verilog text f (OfBits cells n head paths traced h) = let kin
 -- the fault, if there is one, is of a kind of patterns
 abbrev IsLate : Option PartFault → Type 0
 IsLate None = Unit {0}
-IsLate (Some f) = 80 ≤ number_of f.kind
+IsLate (Some f) = IsPatternKind f.kind
 
 -- so is the kind, if there is one
 abbrev IsLateKind : Option Kind → Type 0
 IsLateKind None = Unit {0}
-IsLateKind (Some kind) = 80 ≤ number_of kind
+IsLateKind (Some kind) = IsPatternKind kind
 
 if_late : (b : Bool) (kind : Kind) (more : Option Kind) → IsLateKind (Some kind) → IsLateKind more → IsLateKind (cond b (Some kind) more)
 if_late true kind more one other = one
@@ -94,13 +95,13 @@ if_late false kind more one other = other
 
 late_kind : (head : StilHead) (shape : Shape) → IsLateKind (kind_of Lengths head shape)
 late_kind head shape =
-    if_late (is_pattern_syntax shape) kinds.PatternSyntax _ (omega arith)
-    (if_late (is_pattern_unsupported shape) kinds.PatternUnsupported _ (omega arith)
-    (if_late (is_scan_character head shape) kinds.ScanCharacter _ (omega arith)
-    (if_late (is_foreign_data head shape) kinds.ForeignData _ (omega arith)
-    (if_late (is_short_load head shape) kinds.ShortLoad _ (omega arith)
-    (if_late (is_long_compare head shape) kinds.LongCompare _ (omega arith)
-    (if_late (is_too_many_shifts head shape) kinds.TooManyShifts None (omega arith) tt))))))
+    if_late (is_pattern_syntax shape) kinds.PatternSyntax _ (omega arith, omega arith)
+    (if_late (is_pattern_unsupported shape) kinds.PatternUnsupported _ (omega arith, omega arith)
+    (if_late (is_scan_character head shape) kinds.ScanCharacter _ (omega arith, omega arith)
+    (if_late (is_foreign_data head shape) kinds.ForeignData _ (omega arith, omega arith)
+    (if_late (is_short_load head shape) kinds.ShortLoad _ (omega arith, omega arith)
+    (if_late (is_long_compare head shape) kinds.LongCompare _ (omega arith, omega arith)
+    (if_late (is_too_many_shifts head shape) kinds.TooManyShifts None (omega arith, omega arith) tt))))))
 
 late_or : (kind : Option Kind) (line : ℕ) (more : Option PartFault) → IsLateKind kind → IsLate more → IsLate (fault_or kind line more)
 late_or None line more one other = other
@@ -121,22 +122,22 @@ late_statement head line text =
     late_or (kind_of Lengths head shape) line _ (late_kind head shape) (late_inner head line text shape)
 
 late_opening : (name : Option (List ℕ)) → IsLateKind (opening_kind name)
-late_opening None = omega arith
+late_opening None = (omega arith, omega arith)
 late_opening (Some name) = tt
 
 late_ann : (b : Bool) → IsLateKind (cond b None (Some kinds.PatternUnsupported))
 late_ann true = tt
-late_ann false = omega arith
+late_ann false = (omega arith, omega arith)
 
 late_passing : (ts : List Token) → IsLateKind (passing_kind ts)
-late_passing [] = omega arith
-late_passing (t ∷ ts) = if_late (not (is_word t.text) || bytes_eq t.text (codes "Pattern")) kinds.PatternSyntax _ (omega arith) (late_ann (bytes_eq t.text (codes "Ann")))
+late_passing [] = (omega arith, omega arith)
+late_passing (t ∷ ts) = if_late (not (is_word t.text) || bytes_eq t.text (codes "Pattern")) kinds.PatternSyntax _ (omega arith, omega arith) (late_ann (bytes_eq t.text (codes "Ann")))
 
 late_top : (text : List ℕ) → IsLateKind (passing_in text)
 unfolding passing_in
 late_top text =
     let ts = tokens_in text in
-    if_late (not (is_closed ts) || closes_nothing 0 ts) kinds.PatternSyntax _ (omega arith) (late_passing (behind_labels ts))
+    if_late (not (is_closed ts) || closes_nothing 0 ts) kinds.PatternSyntax _ (omega arith, omega arith) (late_passing (behind_labels ts))
 
 late_part : (head : StilHead) (p : Point) (part : Part) (text : List ℕ) → IsLate (judge_of head p part text)
 unfolding judge_by
@@ -146,7 +147,7 @@ late_part head p (Passes n) text = late_or (passing_in text) p.line None (late_t
 
 -- a turn that refuses does so by a kind of patterns
 abbrev IsLateTurn : Turn → Type 0
-IsLateTurn (Refused f) = 80 ≤ number_of f.kind
+IsLateTurn (Refused f) = IsPatternKind f.kind
 IsLateTurn (Taken n es q) = Unit {0}
 
 abbrev IsLateNext : Option Turn → Type 0
@@ -163,8 +164,8 @@ if_next false one other first second = second
 
 late_sized : (p : Point) (n : ℕ) (turn : Turn) → IsLateTurn turn → IsLateTurn (sized p n turn)
 late_sized p n turn late =
-    if_turn (nat_lt largest n) (Refused (fault_at kinds.StatementSize p.line)) _ (omega arith)
-    (if_turn (nat_lt most (p.given + n)) (Refused (fault_at kinds.PatternSize p.line)) turn (omega arith) late)
+    if_turn (nat_lt largest n) (Refused (fault_at kinds.StatementSize p.line)) _ (omega arith, omega arith)
+    (if_turn (nat_lt most (p.given + n)) (Refused (fault_at kinds.PatternSize p.line)) turn (omega arith, omega arith) late)
 
 late_judged : (f : Option PartFault) (n : ℕ) (es : List Event) (q : Point) → IsLate f → IsLateTurn (judged f n es q)
 late_judged None n es q late = tt
@@ -172,13 +173,13 @@ late_judged (Some f) n es q late = late
 
 late_in : (head : StilHead) (p : Point) (bs : List ℕ) (part : Option Part) → IsLateNext (turn_in (judge_of head) true p bs part)
 late_in head p bs None =
-    if_next (nat_lt largest (length bs)) (Some (Refused (fault_at kinds.StatementSize p.line))) _ (omega arith)
+    if_next (nat_lt largest (length bs)) (Some (Refused (fault_at kinds.StatementSize p.line))) _ (omega arith, omega arith)
     (if_next (nat_lt 0 (length bs)) (Some (sized p (length bs) (Refused (fault_at kinds.PatternSyntax p.line)))) None
-    (late_sized p (length bs) (Refused (fault_at kinds.PatternSyntax p.line)) (omega arith)) tt)
+    (late_sized p (length bs) (Refused (fault_at kinds.PatternSyntax p.line)) (omega arith, omega arith)) tt)
 late_in head p bs (Some part) = late_sized p (part_len part) _ (late_judged _ _ _ _ (late_part head p part (take (part_len part) bs)))
 
 late_gap : (p : Point) (bs : List ℕ) (g : Gap) → IsLateTurn (gap_turn p bs g)
-late_gap p bs g = if_turn (nat_lt most (p.given + g.len)) (Refused (fault_at kinds.PatternSize p.line)) _ (omega arith) tt
+late_gap p bs g = if_turn (nat_lt most (p.given + g.len)) (Refused (fault_at kinds.PatternSize p.line)) _ (omega arith, omega arith) tt
 
 late_next : (head : StilHead) (p : Point) (bs : List ℕ) → IsLateNext (next_turn (judge_of head) true p bs)
 unfolding next_turn
@@ -188,7 +189,7 @@ late_next head p bs =
 
 late_ending : (place : Place) → IsLate (ending place).fault
 late_ending AtTop = tt
-late_ending (Pattern line) = omega arith
+late_ending (Pattern line) = (omega arith, omega arith)
 
 -- what comes by its first turn
 come_none : (judge : Judge) (p : Point) (b : ℕ) (bs : List ℕ) → next_turn judge true p (b ∷ bs) ≡ None → to_come judge p 0 (b ∷ bs) ≡ ending p.place
@@ -228,7 +229,7 @@ late_come head (b ∷ bs) p zero = by_turn (next_turn (judge_of head) true p (b 
     by_turn (Some (Taken n es q)) e late more = late_same _ _ (come_taken (judge_of head) p b bs n es q e) (more q (n - 1))
 
 -- a fault of the patterns, which come where the head's end shows
-pub pattern_late : (head : StilHead) (stil : List ℕ) (n : ℕ) (f : PartFault) → head_len stil ≡ Some n → (told_whole head stil).fault ≡ Some f → 80 ≤ number_of f.kind
+pub pattern_late : (head : StilHead) (stil : List ℕ) (n : ℕ) (f : PartFault) → head_len stil ≡ Some n → (told_whole head stil).fault ≡ Some f → IsPatternKind f.kind
 pattern_late head stil n f shows says =
     let whole : (told_whole head stil).fault ≡ (told_before head beginning stil (Some n)).fault = ap (λ (o : Option ℕ). (told_before head beginning stil o).fault) shows in
     let late : IsLate (told_before head beginning stil (Some n)).fault = late_come head (drop n stil) (moved beginning (take n stil) AtTop Outside) 0 in

@@ -26,7 +26,7 @@ use Rattle.scan_job.specs.Playing.{IsPlayed, IsPlayFault}
 use Rattle.scan_job.specs.PlayPhases.{HasReadStil, HasFailedAtStil, HasRunOutAtStil, HasFinishedPlay}
 use Rattle.desk_io.proofs.Slots.{input_or_output, slot_cases, at_slot, apart}
 use Rattle.scan_job.proofs.Sizes.{IsWhole, small_of, size_first, size_none}
-use Rattle.scan_job.proofs.Phases.{text_is, state_same, unused_apart, used_or_not, appended_since, prefix_since, risen_since, not_open_closed, not_open_unopened, Found, put_line, failed_at_line, before_of, here_kept, output_as_was, unused_as_was, count_as_was, found_closed}
+use Rattle.scan_job.proofs.Phases.{text_is, state_same, unused_apart, used_or_not, appended_since, prefix_since, risen_since, not_open_closed, not_open_unopened, Found, put_line, failed_at_line, failed_untouched, ran_out_untouched, before_of, here_kept, output_as_was, unused_as_was, count_as_was, found_closed}
 
 -- the table and the netlist are what is taken before the STIL slot is opened
 
@@ -324,18 +324,14 @@ module _ (r : PlayRequest) (texts : List (Option (List ℕ))) (a b : Slots) (uno
       }
 
   stil_failed : (c : Slots) → HasFailedAtStil b c → IsInputFailed request a c
-  stil_failed c failed = record {
-    unused = unused_as_was request Stil a c nothing (stopped c failed.elsewhere);
-    rose = record { slot = Stil; is = tt; risen = risen_since _ (a Stil) (b Stil) stil_kept failed.risen };
-    outputs = output_as_was request Stil a c nothing (stopped c failed.elsewhere);
-  }
+  stil_failed c failed =
+      failed_untouched request a c (unused_as_was request Stil a c nothing (stopped c failed.elsewhere))
+      (record { slot = Stil; is = tt; risen = risen_since _ (a Stil) (b Stil) stil_kept failed.risen }) (output_as_was request Stil a c nothing (stopped c failed.elsewhere))
 
   stil_ran_out : (c : Slots) → HasRunOutAtStil b c → IsOutOfMemory request a c
-  stil_ran_out c out = record {
-    unused = unused_as_was request Stil a c nothing (stopped c out.elsewhere);
-    counts = count_as_was request Stil a c nothing (stopped c out.elsewhere) out.faults;
-    outputs = output_as_was request Stil a c nothing (stopped c out.elsewhere);
-  }
+  stil_ran_out c out =
+      ran_out_untouched request a c (unused_as_was request Stil a c nothing (stopped c out.elsewhere)) (count_as_was request Stil a c nothing (stopped c out.elsewhere) out.faults)
+      (output_as_was request Stil a c nothing (stopped c out.elsewhere))
 
   pub play_finished : (c : Slots) (ended : Result (Unit {0}) Stop) → HasFinishedPlay r texts b c ended → HasEnded request a c ended
   play_finished c (Ok done) p = put_out p.between p.read c p.then_did.elsewhere p.said p.at_end p.then_did.put p.is

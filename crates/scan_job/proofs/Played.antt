@@ -85,11 +85,11 @@ head_kept (saying ∷ says) p = head_kept says (after_saying saying p) ∙ head_
 abbrev told_with : Option PartFault → List Saying → Told
 told_with fault says = record { says = says; fault = fault }
 
-after_both : (one other : List Saying) (o : Option Told) → option_map (after one) (option_map (after other) o) ≡ option_map (after (one ++ other)) o
+pub after_both : (one other : List Saying) (o : Option Told) → option_map (after one) (option_map (after other) o) ≡ option_map (after (one ++ other)) o
 after_both one other None = refl
 after_both one other (Some told) = ap Some (ap (told_with told.fault) (sym (append_assoc one other told.says)))
 
-none_after : (o : Option Told) → o ≡ option_map (after []) o
+pub none_after : (o : Option Told) → o ≡ option_map (after []) o
 none_after None = refl
 none_after (Some told) = refl
 
@@ -177,7 +177,7 @@ come_none p s old draws behind = record { said = []; comes = none_after (coming 
 -- a whole text
 
 -- a head that says nothing
-abbrev any_head : StilHead
+abbrev pub any_head : StilHead
 any_head = record { chains = []; procedures = []; macros = []; keywords = []; marks = false; end = 0 }
 
 -- nothing is said
@@ -211,7 +211,7 @@ module _ (head : StilHead) (stil : List ℕ) where
 pub head_shows : (stil text : List ℕ) → IsHeadText stil text → head_len stil ≢ None
 head_shows stil text is none = let shows = is.ends in absurd cc
 
-one_text : (stil one other : List ℕ) → IsHeadText stil one → IsHeadText stil other → other ≡ one
+pub one_text : (stil one other : List ℕ) → IsHeadText stil one → IsHeadText stil other → other ≡ one
 one_text stil one other first second =
     let same : Some second.len ≡ Some first.len = sym second.ends ∙ first.ends in
     let len = same_Some _ _ same in
@@ -225,7 +225,7 @@ module _ (table verilog stil text : List ℕ) (shown : IsHeadText stil text) whe
       least g (Before other is held) sooner = first.least g (subst (λ (t : List ℕ). HoldsBeforePatterns table verilog t g) (one_text stil text other shown is) held) sooner
       least g (OfPatterns other is met) sooner =
           let low = before_early table verilog text f first.holds in
-          let high = pattern_late met.head stil is.len met.found is.ends met.says in
+          let high = (pattern_late met.head stil is.len met.found is.ends met.says).0 in
           let kind : number_of g.kind ≡ number_of met.found.kind = ap (λ (x : Fault). number_of x.kind) met.is in
           later f g (omega (arith, low, high, kind)) sooner
 
@@ -254,12 +254,12 @@ module _ (table verilog stil text : List ℕ) (shown : IsHeadText stil text) whe
     none_at_all sound f (OfPatterns other is met) = let found : None ≡ Some met.found = sym sound ∙ met_at f other is met in absurd cc
 
 -- what holds of the bytes that a slot tells
-told_if : (P : List ℕ → Type 0) (u : Option (List ℕ)) → ((stil : List ℕ) → u ≡ Some stil → P stil) → IfSome u P
+pub told_if : (P : List ℕ → Type 0) (u : Option (List ℕ)) → ((stil : List ℕ) → u ≡ Some stil → P stil) → IfSome u P
 told_if P None holds = tt
 told_if P (Some stil) holds = holds stil refl
 
 -- what comes of a whole text
-comes_whole : (head : StilHead) (s : Streaming) (slot : SlotState) (stil : List ℕ) → s ≡ fresh → slot.unread ≡ Some stil → coming head s slot ≡ Some (told_whole head stil)
+pub comes_whole : (head : StilHead) (s : Streaming) (slot : SlotState) (stil : List ℕ) → s ≡ fresh → slot.unread ≡ Some stil → coming head s slot ≡ Some (told_whole head stil)
 comes_whole head s slot stil is told = ap (option_map (told_of head s)) told ∙ ap (λ (z : Streaming). Some (told_of head z stil)) is
 
 -- no head was found

@@ -1,5 +1,5 @@
 -- The clauses of the top call, from how its run ended.
-use Rattle.std.proofs.Common.{◌≡◌, ◌⊎◌, ℕ, List, [], Result, Ok, Err, sym, ◌∙◌, subst, append-nil, arith, inl, inr}
+use Rattle.std.proofs.Common.{◌≡◌, ◌<◌, ◌⊎◌, ℕ, List, [], Result, Ok, Err, sym, ◌∙◌, ap, subst, append-nil, arith, inl, inr}
 use Rattle.std.proofs.lemmas.Option.{same_Some}
 use Rattle.base_types.specs.declared.fault.Fault.{Fault}
 use Rattle.desk_io.specs.declared.slot.Slot.{Slot}
@@ -13,10 +13,10 @@ use Rattle.scan_job.specs.declared.stop.Stop.{Stop}
 use Rattle.scan_job.specs.declared.stop.Stop.TheVariants.{NoForm, Refused, InputFailed, OutputFailed, NoMemory}
 use Rattle.scan_job.specs.Requests.{Request, Asks, order_of}
 use Rattle.scan_job.specs.Faults.{IsRunFault, HasNoFault}
-use Rattle.scan_job.specs.TopCall.{Slots, SaysNothing, SameEverywhere, SameDesign, Reads, NoneRose, HasDone, HasRefused, HasWritten, AllClosed, AllRead}
+use Rattle.scan_job.specs.TopCall.{Slots, SaysNothing, SameEverywhere, SameUnused, SameDesign, Reads, NoneRose, HasDone, HasRefused, HasWritten, AllClosed, AllRead}
 use Rattle.scan_job.proofs.Asked.{order_once}
 use Rattle.scan_job.proofs.Phases.{before_of}
-use Rattle.scan_job.specs.Ended.{IsDone, IsRefused, IsOutputFailed, HasRun, status_of}
+use Rattle.scan_job.specs.Ended.{IsDone, IsRefused, IsInputFailed, IsOutputFailed, IsOutOfMemory, HasRun, status_of}
 
 -- the words say one order at most
 pub says_one : (words : List (List ℕ)) (one other : Order) → Says words one → Says words other → one ≡ other
@@ -56,23 +56,42 @@ module _ (words : List (List ℕ)) (old new : Slots) where
       → (status ≡ 1) ⊎ (status ≡ 2) ⊎ (status ≡ 3) ⊎ (status ≡ 5) → SameDesign old new
   untouched (Err NoForm) status is run one = same_design (λ slot output. run.1 slot)
   untouched (Err NoMemory) status is (inl same) one = same_design (λ slot output. same slot)
-  untouched (Err NoMemory) status is (inr run) one = same_design run.2.outputs
+  untouched (Err NoMemory) status is (inr run) one = run.2.design
   untouched (Ok done) status is run one = absurd (omega arith)
   untouched (Err Refused) status is run one = run.2.design
-  untouched (Err InputFailed) status is run one = same_design run.2.outputs
+  untouched (Err InputFailed) status is run one = run.2.design
   untouched (Err OutputFailed) status is run one = absurd (omega arith)
 
   pub silent : (ended : Result (Unit {0}) Stop) (status : ℕ) → status ≡ status_of ended → HasRun words old new ended
       → (status ≡ 1) ⊎ (status ≡ 3) ⊎ (status ≡ 5) → new Console ≡ old Console
   silent (Err NoForm) status is run one = run.1 Console
   silent (Err NoMemory) status is (inl same) one = same Console
-  silent (Err NoMemory) status is (inr run) one = run.2.outputs Console tt
+  silent (Err NoMemory) status is (inr run) one = run.2.silent
   silent (Ok done) status is run one = absurd (omega arith)
   silent (Err Refused) status is run one = absurd (omega arith)
-  silent (Err InputFailed) status is run one = run.2.outputs Console tt
+  silent (Err InputFailed) status is run one = run.2.silent
   silent (Err OutputFailed) status is run one = absurd (omega arith)
 
+  -- an output's count rose: that was answered, or memory ran out at words
+  pub output_answered : (ended : Result (Unit {0}) Stop) (status : ℕ) → status ≡ status_of ended → HasRun words old new ended
+      → (slot : Slot) → IsOutput slot → (old slot).faults < (new slot).faults → (status ≡ 4) ⊎ (status ≡ 5)
+  output_answered (Ok done) status is run slot output rose = let same = run.2.counts slot in absurd (omega (arith, same, rose))
+  output_answered (Err NoForm) status is run slot output rose = let same = ap (λ (s : SlotState). s.faults) (run.1 slot) in absurd (omega (arith, same, rose))
+  output_answered (Err NoMemory) status is run slot output rose = inr is
+  output_answered (Err Refused) status is run slot output rose = let same = run.2.counts slot in absurd (omega (arith, same, rose))
+  output_answered (Err InputFailed) status is run slot output rose = let same = run.2.outputs slot output in absurd (omega (arith, same, rose))
+  output_answered (Err OutputFailed) status is run slot output rose = inl is
+
   module _ (request : Request) (says : Asks words request) where
+    pub unused : (ended : Result (Unit {0}) Stop) → HasRun words old new ended → SameUnused request old new
+    unused (Ok done) run = (for_request words (λ r. IsDone r old new) run.0 request run.1 says run.2).unused
+    unused (Err NoForm) run = λ slot none. run.1 slot
+    unused (Err NoMemory) (inl same) = λ slot none. same slot
+    unused (Err NoMemory) (inr run) = (for_request words (λ r. IsOutOfMemory r old new) run.0 request run.1 says run.2).unused
+    unused (Err Refused) run = (for_request words (λ r. IsRefused r old new) run.0 request run.1 says run.2).unused
+    unused (Err InputFailed) run = (for_request words (λ r. IsInputFailed r old new) run.0 request run.1 says run.2).unused
+    unused (Err OutputFailed) run = (for_request words (λ r. IsOutputFailed r old new) run.0 request run.1 says run.2).unused
+
     pub closed : (ended : Result (Unit {0}) Stop) (status : ℕ) → status ≡ status_of ended → HasRun words old new ended → status ≡ 0 → AllClosed request new
     closed (Ok done) status is run zero = (for_request words (λ r. IsDone r old new) run.0 request run.1 says run.2).closed
     closed (Err NoForm) status is run zero = absurd (omega arith)
@@ -137,8 +156,8 @@ module _ (words : List (List ℕ)) (old new : Slots) where
       pub prefixes : (ended : Result (Unit {0}) Stop) → HasRun words old new ended → HasWritten request files old new
       prefixes (Err NoForm) run = absurd (run.0 (order_of request) says)
       prefixes (Err NoMemory) (inl same) = inl (λ slot output. same slot)
-      prefixes (Err NoMemory) (inr run) = inl run.2.outputs
+      prefixes (Err NoMemory) (inr run) = (for_request words (λ r. IsOutOfMemory r old new) run.0 request run.1 says run.2).prefixes files holds
       prefixes (Ok done) run = begun ((for_request words (λ r. IsDone r old new) run.0 request run.1 says run.2).done files holds)
       prefixes (Err Refused) run = begun_refusing ((for_request words (λ r. IsRefused r old new) run.0 request run.1 says run.2).refused files holds)
-      prefixes (Err InputFailed) run = inl run.2.outputs
+      prefixes (Err InputFailed) run = (for_request words (λ r. IsInputFailed r old new) run.0 request run.1 says run.2).prefixes files holds
       prefixes (Err OutputFailed) run = (for_request words (λ r. IsOutputFailed r old new) run.0 request run.1 says run.2).prefixes files holds

@@ -10,6 +10,7 @@ pub mod Rewire
 pub mod Trace
 pub mod Check
 pub mod Reorder
+pub mod Patterns
 pub mod Play
 
 -- the texts of the inputs, by their slots

@@ -1,13 +1,14 @@
 -- How a run ended, case by case.
 use Rattle.std.specs.Prelude.{◌≡◌, ◌⊎◌, ℕ, List, Result, Ok, Err}
 use Rattle.desk_io.specs.declared.slot.Slot.{Slot}
+use Rattle.desk_io.specs.declared.slot.Slot.TheVariants.{Console}
 use Rattle.desk_io.specs.Desk.{IsInput, IsOutput}
 use Rattle.desk_io.specs.Causes.{SomeRose, SameCounts}
 use Rattle.scan_words.specs.declared.order.Order.{Order}
 use Rattle.scan_job.specs.Requests.{Request, Asks, order_of}
 use Rattle.scan_job.specs.declared.stop.Stop.{Stop}
 use Rattle.scan_job.specs.declared.stop.Stop.TheVariants.{NoForm, Refused, InputFailed, OutputFailed, NoMemory}
-use Rattle.scan_job.specs.TopCall.{Slots, SaysNothing, SameEverywhere, SameUnused, NoneOpen, AllClosed, AllRead, Reads, SameOutputs, SameDesign, HasRefused, HasDone, HasWritten}
+use Rattle.scan_job.specs.TopCall.{Slots, SaysNothing, SameEverywhere, SameUnused, NoneOpen, AllClosed, AllRead, Reads, SameDesign, HasRefused, HasDone, HasWritten}
 
 -- all was done
 pub record IsDone (request : Request) (old new : Slots) : Type 0 where
@@ -26,11 +27,14 @@ pub record IsRefused (request : Request) (old new : Slots) : Type 0 where
   pub design : SameDesign old new
   pub refused : (files : Slot → List ℕ) → Reads request files old → HasRefused request files old new
 
--- an input failed: no output was touched
+-- an input failed: no output had, neither the Verilog nor the DEF output was touched, and nothing was said
 pub record IsInputFailed (request : Request) (old new : Slots) : Type 0 where
   pub unused : SameUnused request old new
   pub rose : SomeRose IsInput old new
-  pub outputs : SameOutputs old new
+  pub outputs : (slot : Slot) → IsOutput slot → (new slot).faults ≡ (old slot).faults
+  pub design : SameDesign old new
+  pub silent : new Console ≡ old Console
+  pub prefixes : (files : Slot → List ℕ) → Reads request files old → HasWritten request files old new
 
 -- an output failed: no input had
 pub record IsOutputFailed (request : Request) (old new : Slots) : Type 0 where
@@ -39,11 +43,13 @@ pub record IsOutputFailed (request : Request) (old new : Slots) : Type 0 where
   pub inputs : (slot : Slot) → IsInput slot → (new slot).faults ≡ (old slot).faults
   pub prefixes : (files : Slot → List ℕ) → Reads request files old → HasWritten request files old new
 
--- there was no memory: nothing had failed, and nothing was written
+-- there was no memory: nothing had failed, neither the Verilog nor the DEF output was touched, and nothing was said
 pub record IsOutOfMemory (request : Request) (old new : Slots) : Type 0 where
   pub unused : SameUnused request old new
   pub counts : SameCounts old new
-  pub outputs : SameOutputs old new
+  pub design : SameDesign old new
+  pub silent : new Console ≡ old Console
+  pub prefixes : (files : Slot → List ℕ) → Reads request files old → HasWritten request files old new
 
 -- a run of a request ended so, with this result
 abbrev pub HasEnded : Request → Slots → Slots → Result (Unit {0}) Stop → Type 0

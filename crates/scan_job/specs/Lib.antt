@@ -7,3 +7,5 @@ pub mod Ended
 pub mod Phases
 pub mod Playing
 pub mod PlayPhases
+pub mod Retargeting
+pub mod PatternPhases

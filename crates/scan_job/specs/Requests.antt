@@ -7,12 +7,14 @@ use Rattle.scan_job.specs.declared.commands.rewire.RewireRequest.{RewireRequest}
 use Rattle.scan_job.specs.declared.commands.trace.TraceRequest.{TraceRequest}
 use Rattle.scan_job.specs.declared.commands.check.CheckRequest.{CheckRequest}
 use Rattle.scan_job.specs.declared.commands.reorder.ReorderRequest.{ReorderRequest}
+use Rattle.scan_job.specs.declared.commands.patterns.PatternsRequest.{PatternsRequest}
 use Rattle.scan_job.specs.declared.commands.play.PlayRequest.{PlayRequest}
 use Rattle.scan_job.specs.Commands.{Command}
 use Rattle.scan_job.specs.Commands.Rewire.{rewire}
 use Rattle.scan_job.specs.Commands.Trace.{trace}
 use Rattle.scan_job.specs.Commands.Check.{check}
 use Rattle.scan_job.specs.Commands.Reorder.{reorder}
+use Rattle.scan_job.specs.Commands.Patterns.{reorder_patterns}
 use Rattle.scan_job.specs.Commands.Play.{play}
 
 -- what the words ask for: a command, with its values by the names of its options
@@ -21,6 +23,7 @@ pub data Request : Type 0 where
   Trace : TraceRequest → Request
   Check : CheckRequest → Request
   Reorder : ReorderRequest → Request
+  ReorderPatterns : PatternsRequest → Request
   Play : PlayRequest → Request
 
 -- what is asked for, as a command
@@ -29,6 +32,7 @@ command_of (Rewire r) = rewire r
 command_of (Trace r) = trace r
 command_of (Check r) = check r
 command_of (Reorder r) = reorder r
+command_of (ReorderPatterns r) = reorder_patterns r
 command_of (Play r) = play r
 
 -- the order whose values a request gives names

@@ -8,6 +8,7 @@ use crate::commands::check::CheckRequest;
 use crate::commands::reorder::ReorderRequest;
 use crate::commands::rewire::RewireRequest;
 use crate::commands::trace::TraceRequest;
+use crate::patterns::run_patterns;
 use crate::play::run_play;
 use crate::stop::Stop;
 use crate::whole::run_whole;
@@ -26,7 +27,10 @@ pub(crate) fn run_order<D: Desk>(alloc: Global, order: &Order, desk: &mut D) -> 
         Verb::Rewire => run_whole::<RewireRequest, D>(alloc, order, desk),
         Verb::Trace => run_whole::<TraceRequest, D>(alloc, order, desk),
         Verb::Check => run_whole::<CheckRequest, D>(alloc, order, desk),
-        Verb::Reorder => run_whole::<ReorderRequest, D>(alloc, order, desk),
+        Verb::Reorder if order.values.as_slice().len() == 7 => {
+            run_whole::<ReorderRequest, D>(alloc, order, desk)
+        }
+        Verb::Reorder => run_patterns(alloc, order, desk),
         Verb::Play => run_play(alloc, order, desk),
     }
 }

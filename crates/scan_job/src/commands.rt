@@ -14,6 +14,7 @@ use scan_words::Order;
 use std::alloc::Global;
 
 pub(crate) mod check;
+pub(crate) mod patterns;
 pub(crate) mod play;
 pub(crate) mod reorder;
 pub(crate) mod rewire;

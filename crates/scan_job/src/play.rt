@@ -23,7 +23,7 @@ use std::alloc::Global;
 use stil_input::StilStop;
 
 /// Closes the STIL slot.
-fn close_stil<D: Desk>(desk: &mut D) -> Result<(), Stop>
+pub(crate) fn close_stil<D: Desk>(desk: &mut D) -> Result<(), Stop>
     requires open { IsOpen (D.state desk.old Stil) }
     ensures closed { OnOk result (D.state desk.new Stil ≡ closed (D.state desk.old Stil)) }
     ensures failed { OnErr result (HasFailed (D.state desk.old Stil) (D.state desk.new Stil)) }

@@ -25,7 +25,7 @@ fn finish<C: Whole, D: Desk>(
     requires named { names.now ≡ names_of (C.request command.now) }
     requires sound { IsSound (C.request command.now) }
     requires countable { AreCountable inputs.now }
-    requires unopened { OutputsUnopened (D.state desk.old) }
+    requires unopened { OutputsUnopened names.now (D.state desk.old) }
     requires allowed { AllowsNames (names_of (C.request command.now)) (D.allows desk.old) }
     ensures ended { HasFinished (C.request command.now) inputs.now (D.state desk.old) (D.state desk.new) result }
 {

@@ -176,7 +176,7 @@ found_sub : (verb : Verb) (words : List Text) (parts : List Part) → parts_from
 found_sub Rewire words parts read = no_defaults (shape Rewire).rules _ (refl, (refl, (refl, (refl, (refl, (refl, (refl, (refl, tt)))))))) ∙ (goes Rewire words parts read).rows
 found_sub Trace words parts read = no_defaults (shape Trace).rules _ (refl, (refl, (refl, tt))) ∙ (goes Trace words parts read).rows
 found_sub Check words parts read = no_defaults (shape Check).rules _ (refl, (refl, (refl, (refl, tt)))) ∙ (goes Check words parts read).rows
-found_sub Reorder words parts read = no_defaults (shape Reorder).rules _ (refl, (refl, (refl, (refl, (refl, (refl, (refl, tt))))))) ∙ (goes Reorder words parts read).rows
+found_sub Reorder words parts read = no_defaults (shape Reorder).rules _ (refl, (refl, (refl, (refl, (refl, (refl, (refl, (refl, (refl, tt))))))))) ∙ (goes Reorder words parts read).rows
 found_sub Play words parts read = no_defaults (shape Play).rules _ (refl, (refl, (refl, (refl, tt)))) ∙ (goes Play words parts read).rows
 
 named : (verb : Verb) (words : List Text) → entered (built program) (Some (verb_name verb, words)) ≡ Some (verb_name verb, rows_after (shape verb).rules [] words)

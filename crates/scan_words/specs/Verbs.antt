@@ -3,7 +3,7 @@ use Rattle.std.specs.Prelude.{Bool, true, false, if◌then◌else◌, List, [], 
 use Rattle.std.specs.Str.{bytes_eq}
 use Rattle.scan_words.specs.declared.table.OptionName.{OptionName}
 use Rattle.scan_words.specs.declared.table.OptionName.TheVariants as options
-use Rattle.scan_words.specs.declared.table.Need.TheVariants.{Needed}
+use Rattle.scan_words.specs.declared.table.Need.TheVariants.{Needed, Optional, With}
 use Rattle.scan_words.specs.declared.table.OptionForm.{OptionForm}
 use Rattle.scan_words.specs.declared.verb.Verb.{Verb}
 use Rattle.scan_words.specs.declared.verb.Verb.TheVariants.{Rewire, Trace, Check, Reorder, Play}
@@ -19,6 +19,14 @@ pub record VerbRow : Type 0 where
 -- an option that stands
 abbrev pub needed : OptionName → OptionForm
 needed name = record { name = name; need = Needed }
+
+-- an option that may be left out
+abbrev pub optional : OptionName → OptionForm
+optional name = record { name = name; need = Optional }
+
+-- an option that stands exactly where another one does
+abbrev pub beside : OptionName → OptionName → OptionForm
+beside other name = record { name = name; need = With other }
 
 -- the commands
 abbrev pub verbs : List Verb
@@ -43,7 +51,8 @@ verb_row Check = record {
 }
 verb_row Reorder = record {
   word = codes "reorder";
-  options = needed options.Table ∷ needed options.Lef ∷ needed options.Verilog ∷ needed options.Def ∷ needed options.OutVerilog ∷ needed options.OutDef ∷ needed options.Effort ∷ [];
+  options = needed options.Table ∷ needed options.Lef ∷ needed options.Verilog ∷ needed options.Def ∷ needed options.OutVerilog ∷ needed options.OutDef ∷ needed options.Effort
+      ∷ optional options.Stil ∷ beside options.Stil options.OutStil ∷ [];
   takes_further = false;
 }
 verb_row Play = record {

@@ -13,7 +13,8 @@ pub enum Verb {
     Trace,
     /// Tells whether a placed design, its scan chains and its netlist agree, and the chains' lengths.
     Check,
-    /// Puts the units of the scan chains of a placed design into another order, by which they are shorter.
+    /// Puts the units of the scan chains of a placed design into another order, by which they are shorter, and retargets its patterns where it
+    /// is given some.
     Reorder,
     /// Plays patterns on the scan chains of a netlist, cell by cell.
     Play,
@@ -103,7 +104,7 @@ static CHECK: [OptionForm; 4] = [
     },
 ];
 
-static REORDER: [OptionForm; 7] = [
+static REORDER: [OptionForm; 9] = [
     OptionForm {
         name: OptionName::Table,
         need: Need::Needed,
@@ -131,6 +132,14 @@ static REORDER: [OptionForm; 7] = [
     OptionForm {
         name: OptionName::Effort,
         need: Need::Needed,
+    },
+    OptionForm {
+        name: OptionName::Stil,
+        need: Need::Optional,
+    },
+    OptionForm {
+        name: OptionName::OutStil,
+        need: Need::With(OptionName::Stil),
     },
 ];
 

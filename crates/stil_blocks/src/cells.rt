@@ -9,7 +9,7 @@ use stil_syntax::{NameText, Stretch};
 
 /// What stands in ScanCells.
 #[derive(Drop)]
-pub(crate) enum Cell<'a> {
+pub enum Cell<'a> {
     /// A `!`.
     Mark,
     /// A name.
@@ -18,9 +18,9 @@ pub(crate) enum Cell<'a> {
 
 /// The names of ScanCells, and whether a `!` stands among them.
 #[derive(Drop)]
-pub(crate) struct CellList {
-    pub(crate) names: Rows<Name>,
-    pub(crate) marks: bool,
+pub struct CellList {
+    pub names: Rows<Name>,
+    pub marks: bool,
 }
 
 impl CellList {

@@ -15,13 +15,13 @@ use stil_types::ScanChainDecl;
 
 /// What the statements of a ScanChain say.
 #[derive(Drop)]
-pub(crate) struct ChainParts {
-    pub(crate) length: Option<(u32, Span)>,
-    pub(crate) scan_in: Option<Name>,
-    pub(crate) scan_out: Option<Name>,
-    pub(crate) inversion: Option<(bool, Span)>,
-    pub(crate) cells: Option<(CellList, Span)>,
-    pub(crate) out_length: bool,
+pub struct ChainParts {
+    pub length: Option<(u32, Span)>,
+    pub scan_in: Option<Name>,
+    pub scan_out: Option<Name>,
+    pub inversion: Option<(bool, Span)>,
+    pub cells: Option<(CellList, Span)>,
+    pub out_length: bool,
 }
 
 /// A chain that is declared.

@@ -15,7 +15,7 @@ use token_forms::Lexeme;
 
 /// What a statement in a ScanChain says.
 #[derive(Drop)]
-pub(crate) enum Clause {
+pub enum Clause {
     /// ScanLength, and where its number stands.
     Length(u32, Span),
     /// ScanIn.

@@ -17,5 +17,7 @@ pub use block::{
     behind_word, has_word, is_whole, is_worded, opens_maybe_named, start_of, take_text,
 };
 pub use callee::{ReadCallee, begins_shift, holds_shift, is_callee, read_callees, shift_begins};
-pub use chain::{ReadChain, chain_at, read_chains};
+pub use cells::{Cell, CellList};
+pub use chain::{ChainParts, ReadChain, chain_at, read_chains};
+pub use clause::Clause;
 pub use keywords::read_keywords;

@@ -1,8 +1,8 @@
-mod Accepted
+pub mod Accepted
 mod Answered
 mod Examples
 mod Reaches
 mod Placed
-mod Refusals
+pub mod Refusals
 mod Sorted
-mod Stated
+pub mod Stated

@@ -22,4 +22,5 @@ mod twice;
 pub use judging::Judging;
 pub use laws::size_law;
 pub use part::{judge_part, opened_name};
+pub use repeats::{Escape, Repeat, Side};
 pub use statement::{read_statement, read_statement_by};

@@ -9,14 +9,14 @@ use std::alloc::Global;
 
 /// A character so many times.
 #[derive(Clone, Copy)]
-pub(crate) struct Repeat {
-    pub(crate) times: u64,
-    pub(crate) character: u8,
+pub struct Repeat {
+    pub times: u64,
+    pub character: u8,
 }
 
 /// Where a place of data stands.
 #[derive(Clone, Copy)]
-pub(crate) enum Escape {
+pub enum Escape {
     /// A character may begin.
     Outside,
     /// Behind a backslash.
@@ -31,7 +31,7 @@ pub(crate) enum Escape {
 
 /// What data are for: to be shifted in, or compared with what is shifted out.
 #[derive(Clone, Copy)]
-pub(crate) enum Side {
+pub enum Side {
     Load,
     Compare,
 }

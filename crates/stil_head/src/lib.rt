@@ -23,3 +23,4 @@ mod unsupported;
 
 pub use ends::head_len;
 pub use head::read_head;
+pub use shift::InShift;

@@ -11,7 +11,7 @@ use stil_syntax::{Stretch, begins_behind, body_statement};
 
 /// Where a token stands that may begin a Shift.
 #[derive(Clone, Copy)]
-pub(crate) enum InShift {
+pub enum InShift {
     /// Outside every Shift.
     Outside,
     /// In a Shift, in front of its block.

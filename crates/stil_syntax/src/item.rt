@@ -75,7 +75,7 @@ impl<'a> Model for DataToken<'a> {
 
 /// An item, or an empty one.
 #[derive(Drop)]
-pub(crate) enum Entry {
+pub enum Entry {
     Empty,
     Given(Item),
 }

@@ -21,7 +21,7 @@ mod stretch;
 mod words;
 
 pub use digits::{count_from, counted, is_digit};
-pub use item::{Data, Item, Items};
+pub use item::{Data, Entry, Item, Items};
 pub use labels::{begins_behind, behind_labels, closes_nothing};
 pub use laws::form_law;
 pub use loops::{body_statement, in_block};

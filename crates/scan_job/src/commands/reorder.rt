@@ -32,7 +32,7 @@ pub struct ReorderRequest {
 }
 
 /// The effort of a word; a word that is no effort's counts as `full`.
-fn effort_of(word: &Word) -> Effort
+pub(crate) fn effort_of(word: &Word) -> Effort
     ensures order { bytes_eq word.now (codes "order") ≡ true → result ≡ Effort.Order }
     ensures full { bytes_eq word.now (codes "order") ≡ false → result ≡ Effort.Full }
 {
@@ -44,7 +44,12 @@ fn effort_of(word: &Word) -> Effort
 }
 
 /// Appends the line of a figure.
-fn push_figure(alloc: Global, text: &mut Vec<u8>, word: &[u8], number: u64) -> Result<(), NoMemory>
+pub(crate) fn push_figure(
+    alloc: Global,
+    text: &mut Vec<u8>,
+    word: &[u8],
+    number: u128,
+) -> Result<(), NoMemory>
     ensures value { OnOk result (text.new.items ≡ text.old.items ++ figure_line word.now number) }
 {
     let number = format!(in alloc; "{number}")?;
@@ -55,19 +60,34 @@ fn push_figure(alloc: Global, text: &mut Vec<u8>, word: &[u8], number: u64) -> R
     Ok(())
 }
 
-/// What `reorder` says: a line for each figure, its word, a blank and its number.
-fn figure_lines(alloc: Global, figures: &Figures) -> Result<Text, NoMemory>
-    ensures value { IfOk result (λ text. text ≡ figures_text figures.now) }
+/// What `reorder` says of the design: a line for each figure, its word, a blank and its number.
+pub(crate) fn figure_lines(alloc: Global, figures: &Figures) -> Result<Vec<u8>, NoMemory>
+    ensures value { IfOk result (λ text. text.items ≡ figures_text figures.now) }
 {
     let mut text = Vec::new(alloc);
-    push_figure(alloc, &mut text, b"chains", figures.chains)?;
-    push_figure(alloc, &mut text, b"units", figures.units)?;
-    push_figure(alloc, &mut text, b"length_read", figures.length_read)?;
-    push_figure(alloc, &mut text, b"length_nearest", figures.length_nearest)?;
-    push_figure(alloc, &mut text, b"length_written", figures.length_written)?;
-    push_figure(alloc, &mut text, b"pins_moved", figures.pins_moved)?;
-    push_figure(alloc, &mut text, b"nets_cut", figures.nets_cut)?;
-    Ok(Text::of(text))
+    push_figure(alloc, &mut text, b"chains", figures.chains as u128)?;
+    push_figure(alloc, &mut text, b"units", figures.units as u128)?;
+    push_figure(
+        alloc,
+        &mut text,
+        b"length_read",
+        figures.length_read as u128,
+    )?;
+    push_figure(
+        alloc,
+        &mut text,
+        b"length_nearest",
+        figures.length_nearest as u128,
+    )?;
+    push_figure(
+        alloc,
+        &mut text,
+        b"length_written",
+        figures.length_written as u128,
+    )?;
+    push_figure(alloc, &mut text, b"pins_moved", figures.pins_moved as u128)?;
+    push_figure(alloc, &mut text, b"nets_cut", figures.nets_cut as u128)?;
+    Ok(text)
 }
 
 impl Command for ReorderRequest {
@@ -109,12 +129,12 @@ impl Whole for ReorderRequest {
         let lef = inputs.text(Slot::Lef);
         let verilog = inputs.text(Slot::Verilog);
         let def = inputs.text(Slot::Def);
-        let made = reorder_texts(alloc, table, lef, verilog, def, self.effort)?;
+        let made = reorder_texts(alloc, table, lef, verilog, def, None, self.effort)?;
         Ok(Outputs {
             verilog: made.verilog,
             def: made.def,
             stil: Text::of(Vec::new(alloc)),
-            console: figure_lines(alloc, &made.figures)?,
+            console: Text::of(figure_lines(alloc, &made.figures)?),
         })
     }
 

@@ -1,17 +1,11 @@
-use Rattle.std.proofs.lemmas.Result.{err_from_is_err_and}
-use Rattle.design_files.specs.Files.{texts_of}
-use Rattle.chain_reorder.proofs.Searchable.{are_searchable}
+use Rattle.std.proofs.Common.{List, option_map, subst}
+use Rattle.chain_trace.specs.declared.path.Path.{Path}
+use Rattle.chain_reorder.specs.PatternPlans.{ArePatternsPlanned}
 use Rattle.chain_reorder.proofs.reorder.reorder_texts.Goals as goal
 
-pub search_plan-requires : goal.search_plan-requires
-search_plan-requires c = record { searchable = are_searchable (texts_of c.args.table.now c.args.lef.now c.args.verilog.now c.args.def.now) c.in_ok-files.files c.in_ok-files.ensures.files }
-
-pub returns-in_err-found-clause-fault : goal.returns-in_err-found-clause-fault
-returns-in_err-found-clause-fault c =
-    let p = err_from_is_err_and c.from_residual-in_err-found.result c.from_residual-in_err-found.ensures.1 in
-    rw (p.1, p.2) tt
-
-pub returns-in_err-texts_for-clause-fault : goal.returns-in_err-texts_for-clause-fault
-returns-in_err-texts_for-clause-fault c =
-    let p = err_from_is_err_and c.from_residual-in_err-texts_for.result c.from_residual-in_err-texts_for.ensures.1 in
-    rw (p.1, p.2) tt
+pub returns-clause-reordered : goal.returns-clause-reordered
+returns-clause-reordered c =
+    let p = c.in_ok-planned.planned in
+    let e = c.in_ok-planned.ensures in
+    let planned : List Path → Type 0 = λ new. ArePatternsPlanned p.files.netlist p.files.table p.files.paths.items new (option_map (λ text. text.now) c.args.head) p.files.head c.in_ok-patterns.patterns in
+    e.made c.in_ok-patterns.patterns (subst planned e.new.are (subst planned c.as_slice.ensures.value c.in_ok-patterns.ensures.planned))

@@ -1,48 +1,37 @@
-use Rattle.std.proofs.Common.{List, refl, ap, ◌∙◌}
+use Rattle.std.proofs.Common.{List, subst, sym}
 use Rattle.chain_trace.specs.declared.path.Path.{Path}
-use Rattle.plan_paths.specs.NewPaths.{new_paths}
-use Rattle.design_elements.specs.Elements.{chain_specs}
-use Rattle.design_files.specs.Files.{Texts, texts_of}
+use Rattle.net_edit.specs.Rearranged.{AreRearranged}
+use Rattle.design_files.specs.Files.{Texts, texts_with}
 use Rattle.chain_reorder.specs.Reordered.{is_free_port}
-use Rattle.chain_reorder.proofs.IsMade.{are_ready, AreWritten, as_read, is_reordered}
+use Rattle.chain_reorder.proofs.IsMade.{are_ready, AreWritten, as_read, is_made}
 use Rattle.chain_reorder.proofs.reorder.texts_for.Goals as goal
 
 pub verilog_text-requires-clause-edits : goal.verilog_text-requires-clause-edits
 verilog_text-requires-clause-edits c =
     let f = c.args.files.now in
-    let plan = c.args.found.now.plan in
-    let t : Texts = texts_of c.requires.checked.0 c.requires.checked.1 c.args.verilog.now c.args.def.now in
     let ps = c.as_slice-paths.result.now in
-    let ns = c.as_slice-new.result.now in
-    let ps_is = c.as_slice-paths.ensures.value in
-    let ns_is = c.as_slice-new.ensures.value ∙ c.in_ok-after.ensures.value ∙ ap (λ (l : List Path). new_paths l f.rules plan) ps_is in
-    let ready =
-    are_ready t f c.requires.checked.2 plan c.requires.legal c.plan_law.ensures.plan c.pins_law.ensures.table c.edits_law.ensures.pins ps ns (chain_specs f.netlist f.table f.design) ps_is ns_is refl
-    in
-    record { old = ps; new = ns; are = c.in_ok-edits.ensures.value ready.rearranged; rearranged = ready.rearranged }
+    let r : AreRearranged f.netlist f.table ps c.args.new.now =
+    subst (λ (l : List Path). AreRearranged f.netlist f.table l c.args.new.now) (sym c.as_slice-paths.ensures.value) c.requires.new.rearranged in
+    record { old = ps; new = c.args.new.now; are = c.in_ok-edits.ensures.value r; rearranged = r }
 
 pub def_text-requires-clause-rearranged : goal.def_text-requires-clause-rearranged
 def_text-requires-clause-rearranged c =
     let f = c.args.files.now in
-    let plan = c.args.found.now.plan in
-    let t : Texts = texts_of c.requires.checked.0 c.requires.checked.1 c.args.verilog.now c.args.def.now in
-    let ps_is = c.as_slice-paths.ensures.value in
-    let ns_is = c.as_slice-new.ensures.value ∙ c.in_ok-after.ensures.value ∙ ap (λ (l : List Path). new_paths l f.rules plan) ps_is in
-    (are_ready t f c.requires.checked.2 plan c.requires.legal c.plan_law.ensures.plan c.pins_law.ensures.table c.edits_law.ensures.pins c.as_slice-paths.result.now c.as_slice-new.result.now (chain_specs f.netlist f.table f.design) ps_is ns_is
-    refl).rearranged
+    subst (λ (l : List Path). AreRearranged f.netlist f.table l c.args.new.now) (sym c.as_slice-paths.ensures.value) c.requires.new.rearranged
 
 pub returns : goal.returns
 returns c = record {
-  reordered = λ effort table lef checked good.
+  reordered = λ effort table lef head checked good.
       let f = c.args.files.now in
       let plan = c.args.found.now.plan in
       let legal = c.requires.legal in
-      let t : Texts = texts_of table lef c.args.verilog.now c.args.def.now in
+      let t : Texts = texts_with table lef c.args.verilog.now c.args.def.now head in
       let ps = c.as_slice-paths.result.now in
-      let ns = c.as_slice-new.result.now in
+      let ns = c.args.new.now in
       let ps_is = c.as_slice-paths.ensures.value in
-      let ns_is = c.as_slice-new.ensures.value ∙ c.in_ok-after.ensures.value ∙ ap (λ (l : List Path). new_paths l f.rules plan) ps_is in
-      let ready = are_ready t f checked plan legal c.plan_law.ensures.plan c.pins_law.ensures.table c.edits_law.ensures.pins ps ns (chain_specs f.netlist f.table f.design) ps_is ns_is refl in
+      let ns_is = c.requires.new.are in
+      let here = subst (λ (l : List Path). AreRearranged f.netlist f.table f.paths.items l) ns_is c.requires.new.rearranged in
+      let ready = are_ready t f checked plan legal here ps ns ps_is ns_is in
       let r = ready.rearranged in
       let edits = c.in_ok-edits.edits in
       let are = c.in_ok-edits.ensures.value r in
@@ -64,6 +53,6 @@ returns c = record {
         def_erased = c.in_ok-moved.ensures.erased;
         placed = c.in_ok-moved.ensures.denoted;
       } in
-      is_reordered t f checked plan legal edits text out (as_read t f checked plan legal ps ns edits text out ps_is ns_is w) effort c.figures_of-figures.result c.plan_law.ensures.read_off c.names_law.ensures.same
+      is_made t f checked plan legal edits text out (as_read t f checked plan legal ps ns edits text out ps_is ns_is w) effort c.figures_of-figures.result c.plan_law.ensures.read_off c.names_law.ensures.same
       c.placing_law.ensures.law c.agreement_law.ensures.agree good c.figures_of-figures.ensures.figures c.figures_of-figures.ensures.cut;
 }

@@ -4,6 +4,7 @@ use Rattle.chain_trace.specs.declared.path.Path.{Path}
 use Rattle.chain_rules.specs.declared.spec.ChainSpec.{ChainSpec}
 use Rattle.chain_rules.specs.declared.spec.PathSpec.{PathSpec}
 use Rattle.chain_rules.specs.Stretches.{AreChainSpecs}
+use Rattle.traced_paths.specs.Asked.{asked_by}
 use Rattle.traced_paths.specs.Numbers.{path_specs, step_count}
 use Rattle.design_elements.specs.Elements.{chain_specs}
 use Rattle.check_laws.specs.Laws.{AreChecked}
@@ -18,7 +19,8 @@ rules_beside-requires-clause-belong c =
     let checked : AreChecked f.netlist f.table f.macros f.design ps = record {
       netlist = c.requires.sound.is_netlist;
       design = c.requires.sound.is_sound;
-      elements = c.requires.paths.no_element;
+      elements = c.requires.agreed.no_element;
+      asked = asked_by (Some f.design) c.args.traced.now.head;
       traced = c.requires.paths.traced;
       entries = c.requires.paths.entries;
       few_paths = c.requires.paths.few;

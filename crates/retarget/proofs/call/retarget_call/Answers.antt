@@ -7,11 +7,21 @@ use Rattle.stil_tester.specs.Shifting.{HasCells, IsCallFor, scan_call}
 use Rattle.retarget.specs.Places.{longest}
 use Rattle.retarget.specs.Retargeting.{KeepsLoads, KeepsCompares, AreFull}
 use Rattle.retarget.proofs.Retargeted.{IsRetargeted, retargeted_if_ok, still_if_ok}
+use Rattle.retarget.proofs.MovedCalls.{value_if_ok, still_value}
 use Rattle.retarget.proofs.call.retarget_call.Goals as goal
 
 pub returns-then-call-eq0-clause-accepted : goal.returns-then-call-eq0-clause-accepted
 returns-then-call-eq0-clause-accepted c =
     still_if_ok c.args.map.now.0 c.args.map.now.1 c.args.call.now c.copy_of_call.result c.requires.call c.if-call-eq0.true c.copy_of_call.ensures
+
+pub returns-then-call-eq0-clause-value : goal.returns-then-call-eq0-clause-value
+returns-then-call-eq0-clause-value c =
+    still_value c.args.map.now.0 c.args.map.now.1 c.args.call.now c.copy_of_call.result c.if-call-eq0.true c.copy_of_call.ensures
+
+pub returns-clause-value : goal.returns-clause-value
+returns-clause-value c =
+    value_if_ok c.map.inside.old c.map.inside.new c.map.inside.shifts c.args.call.now c.args.map.now c.moved_call.result c.map.view_is c.map.invariant c.if-call-eq0.false
+    c.moved_call.ensures.shifts c.moved_call.ensures.loads c.moved_call.ensures.compares
 
 -- what the clauses of a call that shifts say, in one
 retargeted : (c : goal.After-moved_call) → IfOk c.moved_call.result (λ (w : ScanCall). IsRetargeted c.args.map.now.0 c.args.map.now.1 c.args.call.now w)

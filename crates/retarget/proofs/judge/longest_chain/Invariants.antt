@@ -1,4 +1,4 @@
-use Rattle.std.proofs.Common.{◌≡◌, List, max, drop, length, map}
+use Rattle.std.proofs.Common.{◌≡◌, max, drop, length, map}
 use Rattle.stil_types.specs.Calls.{most_bits}
 use Rattle.stil_tester.specs.declared.chains.ChainBits.{ChainBits}
 use Rattle.retarget.specs.Places.{longest}

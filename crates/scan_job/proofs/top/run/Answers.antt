@@ -31,3 +31,15 @@ returns-clause-complete g c request files says holds = top.complete _ _ _ reques
 
 pub returns-clause-done : goal.returns-clause-done
 returns-clause-done g c zero request files says holds = top.all_done _ _ _ request says files holds _ _ c.status_of.ensures.value c.run_words.ensures.ended zero
+
+pub returns-clause-slots : goal.returns-clause-slots
+returns-clause-slots g c request says = top.unused _ _ _ request says _ c.run_words.ensures.ended
+
+pub returns-clause-closed : goal.returns-clause-closed
+returns-clause-closed g c zero request says = top.closed _ _ _ request says _ _ c.status_of.ensures.value c.run_words.ensures.ended zero
+
+pub returns-clause-read : goal.returns-clause-read
+returns-clause-read g c zero request says = top.read _ _ _ request says _ _ c.status_of.ensures.value c.run_words.ensures.ended zero
+
+pub returns-clause-output_fault_answered : goal.returns-clause-output_fault_answered
+returns-clause-output_fault_answered g c slot output rose = top.output_answered _ _ _ _ _ c.status_of.ensures.value c.run_words.ensures.ended slot output rose

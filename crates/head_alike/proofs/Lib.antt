@@ -1,0 +1,17 @@
+pub mod Words
+pub mod Ends
+pub mod Cuts
+pub mod Rows
+pub mod Names
+pub mod Statements
+pub mod Chains
+pub mod Empties
+pub mod Plain
+pub mod Barred
+pub mod Syntax
+pub mod Items
+pub mod Heads
+pub mod Trees
+pub mod Clauses
+pub mod Cells
+pub mod Turning

@@ -1,0 +1,4 @@
+pub mod Laws
+pub mod Mixes
+pub mod Ready
+pub mod Written

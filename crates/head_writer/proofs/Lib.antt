@@ -1,0 +1,3 @@
+pub mod CellNames
+pub mod EditPlaces
+pub mod Firsts

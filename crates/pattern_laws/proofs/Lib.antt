@@ -1,0 +1,16 @@
+pub mod Blocks
+pub mod Bodies
+pub mod Cuts
+pub mod Enclosed
+pub mod Forms
+pub mod Headings
+pub mod Loops
+pub mod Moves
+pub mod Parts
+pub mod Ports
+pub mod Scans
+pub mod Shifts
+pub mod Still
+pub mod Sums
+pub mod Texts
+pub mod Truncated

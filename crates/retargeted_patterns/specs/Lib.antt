@@ -1,0 +1,3 @@
+pub mod Figures
+pub mod Progress
+pub mod Texts

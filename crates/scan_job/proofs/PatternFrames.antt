@@ -1,0 +1,197 @@
+-- What a run of `reorder` with patterns leaves at the slots, before the other outputs are put.
+use Rattle.std.proofs.Common.{◌≡◌, ◌≢◌, ◌<◌, ◌⊎◌, ℕ, List, length, Option, IfSome, refl, sym, ◌∙◌, ap, subst, arith, inl, inr}
+use Rattle.base_types.specs.declared.fault.Fault.{Fault}
+use Rattle.base_types.specs.FirstFault.{IsFirstFault}
+use Rattle.desk_io.specs.declared.slot.Slot.{Slot}
+use Rattle.desk_io.specs.declared.slot.Slot.TheVariants.{Table, Lef, Verilog, Def, Stil, OutVerilog, OutDef, OutStil, Console}
+use Rattle.desk_io.specs.declared.outputs.Outputs.{Outputs}
+use Rattle.desk_io.specs.Number.{number}
+use Rattle.desk_io.specs.Desk.{SlotState, IsInput, IsOutput, IsOpen, IsClosed, AllUnopened}
+use Rattle.desk_io.specs.Prefixes.{IsAtEnd}
+use Rattle.desk_io.specs.Inputs.{input_at, HasTakenInputs}
+use Rattle.desk_io.specs.Names.{IsNamed}
+use Rattle.design_files.specs.Files.{Texts}
+use Rattle.scan_job.specs.declared.commands.patterns.PatternsRequest.{PatternsRequest}
+use Rattle.scan_job.specs.Requests.{Request, ReorderPatterns, names_of}
+use Rattle.scan_job.specs.Commands.Check.{design_in}
+use Rattle.scan_job.specs.Commands.Patterns.{AreRetargeted, HoldsInRetargeting, IsPatternKind, first_names, last_names}
+use Rattle.scan_job.specs.Faults.{IsOver, IsSizeFault, IsRunFault, HasNoFault, HasNoFaultBefore}
+use Rattle.scan_job.specs.TopCall.{Slots, IsUsed, Reads, SameUnused, SameDesign}
+use Rattle.scan_job.specs.Retargeting.{SameBut, IsRetargetingFault}
+use Rattle.scan_job.specs.PatternPhases.{design_of, HasReadPatterns}
+use Rattle.desk_io.proofs.Slots.{input_or_output, slot_cases, at_slot, apart}
+use Rattle.scan_job.proofs.Agreeing.{design_same}
+use Rattle.scan_job.proofs.Sizes.{size_first, size_none}
+use Rattle.scan_job.proofs.Phases.{state_same, unused_apart, used_or_not, not_open_closed, not_open_unopened, output_as_was, unused_as_was, count_as_was}
+use Rattle.scan_job.proofs.Streamed.{AreFirst, stopped_at, stil_kept, file_is, of_file, small_at, all_small}
+use Rattle.scan_job.proofs.Played.{head_shows}
+
+-- the files of the design are what is taken before the STIL slot is opened
+
+named_first : (r : PatternsRequest) (slot : Slot) → IsInput slot → number slot < 4 → IsUsed (ReorderPatterns r) slot → IsNamed (first_names r) slot
+named_first r Table input low named = refl
+named_first r Lef input low named = refl
+named_first r Verilog input low named = refl
+named_first r Def input low named = refl
+named_first r Stil input low named = absurd (omega (arith, low))
+named_first r OutVerilog input low named = absurd input
+named_first r OutDef input low named = absurd input
+named_first r OutStil input low named = absurd input
+named_first r Console input low named = absurd input
+
+-- each slot is used
+pub all_used : (r : PatternsRequest) (slot : Slot) → IsUsed (ReorderPatterns r) slot
+all_used r Table = refl
+all_used r Lef = refl
+all_used r Verilog = refl
+all_used r Def = refl
+all_used r Stil = refl
+all_used r OutVerilog = refl
+all_used r OutDef = refl
+all_used r OutStil = refl
+all_used r Console = refl
+
+first_low : (r : PatternsRequest) (slot : Slot) → IsInput slot → IsNamed (first_names r) slot → number slot < 4
+first_low r Table input named = omega arith
+first_low r Lef input named = omega arith
+first_low r Verilog input named = omega arith
+first_low r Def input named = omega arith
+first_low r Stil input named = absurd cc
+first_low r OutVerilog input named = absurd input
+first_low r OutDef input named = absurd input
+first_low r OutStil input named = absurd input
+first_low r Console input named = absurd input
+
+pub are_first : (r : PatternsRequest) → AreFirst (ReorderPatterns r) (first_names r)
+are_first r = record { named = named_first r; used = λ slot named. all_used r slot; low = first_low r; stil = refl }
+
+-- an output is that of the patterns, or is put behind them
+pub stil_or_last : (r : PatternsRequest) (slot : Slot) → IsOutput slot → (slot ≡ OutStil) ⊎ IsNamed (last_names r) slot
+stil_or_last r OutStil output = inl refl
+stil_or_last r OutVerilog output = inr refl
+stil_or_last r OutDef output = inr refl
+stil_or_last r Console output = inr refl
+stil_or_last r Table output = absurd output
+stil_or_last r Lef output = absurd output
+stil_or_last r Verilog output = absurd output
+stil_or_last r Def output = absurd output
+stil_or_last r Stil output = absurd output
+
+low_input : (slot : Slot) → IsInput slot → slot ≢ Stil → number slot < 4
+low_input Table input ne = omega arith
+low_input Lef input ne = omega arith
+low_input Verilog input ne = omega arith
+low_input Def input ne = omega arith
+low_input Stil input ne = absurd (ne refl)
+low_input OutVerilog input ne = absurd input
+low_input OutDef input ne = absurd input
+low_input OutStil input ne = absurd input
+low_input Console input ne = absurd input
+
+abbrev nothing : SlotState → SlotState → Type 0
+nothing old new = Unit {0}
+
+module _ (r : PatternsRequest) (texts : List (Option (List ℕ))) (a b : Slots) (unopened : AllUnopened a) (taken : HasTakenInputs (names_of (ReorderPatterns r)) 4 texts a b) where
+  abbrev request : Request
+  request = ReorderPatterns r
+
+  pub b_out : (slot : Slot) → IsOutput slot → b slot ≡ a slot
+  b_out = output_as_was request Stil a b nothing (stopped_at request refl texts a b taken b (λ other ne. refl))
+
+  pub b_count : (slot : Slot) → (b slot).faults ≡ (a slot).faults
+  b_count = count_as_was request Stil a b nothing (stopped_at request refl texts a b taken b (λ other ne. refl)) refl
+
+  pub b_stil : b Stil ≡ a Stil
+  b_stil = stil_kept request refl texts a b taken
+
+  b_closed : (slot : Slot) → IsInput slot → slot ≢ Stil → IsClosed (b slot)
+  b_closed slot input ne = (taken.taken slot input (all_used r slot) (low_input slot input ne)).closed
+
+  b_end : (slot : Slot) → IsInput slot → slot ≢ Stil → IsAtEnd (b slot)
+  b_end slot input ne = (taken.taken slot input (all_used r slot) (low_input slot input ne)).at_end
+
+  -- what the files are
+
+  module _ (files : Slot → List ℕ) (holds : Reads request files a) where
+    design_is : design_of texts ≡ design_in files
+    design_is = design_same (input_at texts) files (at Table tt (omega arith)) (at Lef tt (omega arith)) (at Verilog tt (omega arith)) (at Def tt (omega arith))
+      where
+        at : (slot : Slot) → IsInput slot → number slot < 4 → input_at texts slot ≡ files slot
+        at slot input low = file_is request refl texts a b taken files holds slot input (all_used r slot) low
+
+    -- what holds of the texts that were taken and of the bytes of the STIL slot holds of the files
+    pub of_files : (P : Texts → List ℕ → Type 0) → IfSome (b Stil).unread (λ stil. P (design_of texts) stil) → P (design_in files) (files Stil)
+    of_files P held = subst (λ (t : Texts). P t (files Stil)) design_is (of_file request refl texts a b taken files holds (λ stil. P (design_of texts) stil) held)
+
+    -- a fault that was found is that of the run
+    pub run_fault : (fault : Fault) → IsRetargetingFault (design_in files) (files Stil) fault → IsRunFault request files fault
+    run_fault fault (inl none) =
+        inl (subst (λ (f : Fault). IsFirstFault (IsSizeFault request files) f) (sym none.1)
+        (size_first request files Stil tt refl none.0 (λ other input lt used. small_at request refl texts a b taken files holds other input lt used)))
+    run_fault fault (inr first) = inr (all_small request refl texts a b taken files holds first.0, first.1)
+
+    module _ (outputs : Outputs) (are : AreRetargeted r (design_in files) (files Stil) outputs) where
+      shows : IsOver request Stil (files Stil) → ⊥
+      shows over = head_shows (files Stil) are.text are.head_is over
+
+      -- a fault of the run is one of the files
+      own_fault : (fault : Fault) → IsRunFault request files fault → IsRetargetingFault (design_in files) (files Stil) fault
+      own_fault fault (inl large) = absurd (size_none request files (all_small request refl texts a b taken files holds shows) fault large.holds)
+      own_fault fault (inr own) = inr (shows, own.1)
+
+      pub none_is : ((fault : Fault) → IsRetargetingFault (design_in files) (files Stil) fault → ⊥) → HasNoFault request files
+      none_is none fault is = none fault (own_fault fault is)
+
+      pub none_before : ((fault : Fault) → IsRetargetingFault (design_in files) (files Stil) fault → IsPatternKind fault.kind) → HasNoFaultBefore request files
+      none_before late fault is = late fault (own_fault fault is)
+
+  -- what stands where no slot changed but both of STIL
+
+  module _ (e : Slots) (elsewhere : SameBut Stil OutStil b e) where
+    pub e_unused : SameUnused request a e
+    e_unused slot unused = absurd (unused (all_used r slot))
+
+    pub e_out : (slot : Slot) → IsOutput slot → slot ≢ OutStil → e slot ≡ a slot
+    e_out slot output ne = elsewhere slot (λ is. apart Stil slot tt output (sym is)) ne ∙ b_out slot output
+
+    pub e_in : (slot : Slot) → IsInput slot → slot ≢ Stil → e slot ≡ b slot
+    e_in slot input ne = elsewhere slot ne (λ is. apart slot OutStil input tt is)
+
+    pub e_design : SameDesign a e
+    e_design = record { verilog = e_out OutVerilog tt (λ is. cc); def = e_out OutDef tt (λ is. cc) }
+
+    pub e_count : (e Stil).faults ≡ (b Stil).faults → (e OutStil).faults ≡ (b OutStil).faults → (slot : Slot) → (e slot).faults ≡ (a slot).faults
+    e_count stil out slot = elim (slot_cases slot Stil) [
+      | inl is ↦ at_slot (λ s. (e s).faults ≡ (a s).faults) Stil slot (sym is) (stil ∙ b_count Stil)
+      | inr ne ↦ elim (slot_cases slot OutStil) [
+        | inl is ↦ at_slot (λ s. (e s).faults ≡ (a s).faults) OutStil slot (sym is) (out ∙ b_count OutStil)
+        | inr other ↦ ap (λ (s : SlotState). s.faults) (elsewhere slot ne other) ∙ b_count slot
+      ]
+    ]
+
+    pub in_count : (e Stil).faults ≡ (b Stil).faults → (slot : Slot) → IsInput slot → (e slot).faults ≡ (a slot).faults
+    in_count stil slot input = elim (slot_cases slot Stil) [
+      | inl is ↦ at_slot (λ s. (e s).faults ≡ (a s).faults) Stil slot (sym is) (stil ∙ b_count Stil)
+      | inr ne ↦ ap (λ (s : SlotState). s.faults) (e_in slot input ne) ∙ b_count slot
+    ]
+
+    pub e_closed : IsClosed (e Stil) → (slot : Slot) → IsInput slot → IsClosed (e slot)
+    e_closed stil slot input = elim (slot_cases slot Stil) [
+      | inl is ↦ at_slot (λ s. IsClosed (e s)) Stil slot (sym is) stil
+      | inr ne ↦ state_same IsClosed (e slot) (b slot) (e_in slot input ne) (b_closed slot input ne)
+    ]
+
+    pub e_end : IsAtEnd (e Stil) → (slot : Slot) → IsInput slot → IsAtEnd (e slot)
+    e_end stil slot input = elim (slot_cases slot Stil) [
+      | inl is ↦ at_slot (λ s. IsAtEnd (e s)) Stil slot (sym is) stil
+      | inr ne ↦ state_same IsAtEnd (e slot) (b slot) (e_in slot input ne) (b_end slot input ne)
+    ]
+
+    pub e_open : IsClosed (e Stil) → (IsOpen (e OutStil) → ⊥) → (slot : Slot) → IsOpen (e slot) → ⊥
+    e_open stil out slot open_now = elim (input_or_output slot) [
+      | inl input ↦ not_open_closed (e slot) (e_closed stil slot input) open_now
+      | inr output ↦ elim (slot_cases slot OutStil) [
+        | inl is ↦ out (at_slot (λ s. IsOpen (e s)) slot OutStil is open_now)
+        | inr ne ↦ not_open_unopened (a slot) (unopened slot) (state_same IsOpen (a slot) (e slot) (sym (e_out slot output ne)) open_now)
+      ]
+    ]

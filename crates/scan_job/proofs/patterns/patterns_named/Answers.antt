@@ -1,0 +1,102 @@
+use Rattle.std.proofs.Common.{◌≡◌, ◌<◌, ◌≤◌, ℕ, List, Option, Result, Err, refl, subst, inr, arith}
+use Rattle.base_types.specs.declared.fault.Fault.{Fault}
+use Rattle.desk_io.specs.declared.slot.Slot.{Slot}
+use Rattle.desk_io.specs.declared.slot.Slot.TheVariants.{Lef, Verilog, Def}
+use Rattle.desk_io.specs.Number.{number}
+use Rattle.desk_io.specs.Names.{Names}
+use Rattle.desk_io.specs.Desk.{SlotState, AllUnopened}
+use Rattle.desk_io.specs.Prefixes.{IsTooLarge, HasFailedToTake, HasRunOut}
+use Rattle.desk_io.specs.declared.inputs.InputsFault.{InputsFault}
+use Rattle.desk_io.specs.Inputs.{limit_of, HasTakenInputs, HasStoppedAt, HasStopped}
+use Rattle.scan_job.specs.declared.commands.patterns.PatternsRequest.{PatternsRequest}
+use Rattle.scan_job.specs.declared.stop.Stop.{Stop}
+use Rattle.scan_job.specs.Requests.{ReorderPatterns, names_of}
+use Rattle.scan_job.specs.Commands.Patterns.{first_names}
+use Rattle.scan_job.specs.Faults.{size_fault}
+use Rattle.scan_job.specs.TopCall.{Slots}
+use Rattle.scan_job.specs.Ended.{HasEnded}
+use Rattle.scan_job.specs.Phases.{HasSaid}
+use Rattle.scan_job.proofs.Phases.{input_failed, inputs_ran_out, found_large, said_ended}
+use Rattle.scan_job.proofs.Streamed.{before_stil, taken_first, stopped_first, small_text}
+use Rattle.scan_job.proofs.PatternFrames.{all_used, are_first}
+use Rattle.scan_job.proofs.PatternPhases.{patterns_finished}
+use Rattle.scan_job.proofs.patterns.patterns_named.Goals as goal
+
+taken_four : (names : Names) (r : PatternsRequest) (texts : List (Option (List ℕ))) (a b : Slots) → names ≡ first_names r
+    → HasTakenInputs names 5 texts a b → HasTakenInputs (names_of (ReorderPatterns r)) 4 texts a b
+taken_four names r texts a b are taken =
+    taken_first (ReorderPatterns r) (first_names r) (are_first r) 5 4 texts a b (omega arith) (omega arith) (inr (omega arith)) (subst (λ (n : Names). HasTakenInputs n 5 texts a b) are taken)
+
+at_first : (names : Names) (r : PatternsRequest) (slot : Slot) (a b : Slots) (did : SlotState → SlotState → Type 0) → names ≡ first_names r
+    → HasStoppedAt names slot a b did → HasStoppedAt (first_names r) slot a b did
+at_first names r slot a b did are stopped = subst (λ (n : Names). HasStoppedAt n slot a b did) are stopped
+
+-- an input was too large, and its fault was said
+large_ended : (r : PatternsRequest) (slot : Slot) (a b after : Slots) → AllUnopened a
+    → HasStoppedAt (first_names r) slot a b (IsTooLarge (limit_of slot)) → (ended : Result (Unit {0}) Stop) → HasSaid (names_of (ReorderPatterns r)) (size_fault slot) b after ended → HasEnded (ReorderPatterns r) a after ended
+large_ended r slot a b after unopened stopped ended said =
+    let low = (are_first r).low slot stopped.input stopped.named in
+    let whole : (other : Slot) → number other ≤ number slot → number other < 4 = λ other le. omega (arith, low, le) in
+    said_ended (ReorderPatterns r) (size_fault slot) a b after (λ late. let low = late.0 in absurd (omega (arith, low)))
+    (found_large (ReorderPatterns r) slot a b unopened (λ other le. before_stil (ReorderPatterns r) other (whole other le)) (stopped_first (ReorderPatterns r) (first_names r) (are_first r) slot a b (IsTooLarge (limit_of slot)) stopped)) ended said
+
+pub patterns_taken-requires-clause-lef : goal.patterns_taken-requires-clause-lef
+patterns_taken-requires-clause-lef g c =
+    let r = c.args.request.now in
+    let a = g.D.Desk.state c.args.desk.now in
+    let b = g.D.Desk.state c.take_inputs.new.desk in
+    small_text (ReorderPatterns r) refl c.in-Ok.inputs a b (taken_four c.args.first.now r c.in-Ok.inputs a b c.requires.first c.in-Ok.ensures.ok) Lef tt (all_used r Lef) (omega arith)
+
+pub patterns_taken-requires-clause-verilog : goal.patterns_taken-requires-clause-verilog
+patterns_taken-requires-clause-verilog g c =
+    let r = c.args.request.now in
+    let a = g.D.Desk.state c.args.desk.now in
+    let b = g.D.Desk.state c.take_inputs.new.desk in
+    small_text (ReorderPatterns r) refl c.in-Ok.inputs a b (taken_four c.args.first.now r c.in-Ok.inputs a b c.requires.first c.in-Ok.ensures.ok) Verilog tt (all_used r Verilog) (omega arith)
+
+pub patterns_taken-requires-clause-def : goal.patterns_taken-requires-clause-def
+patterns_taken-requires-clause-def g c =
+    let r = c.args.request.now in
+    let a = g.D.Desk.state c.args.desk.now in
+    let b = g.D.Desk.state c.take_inputs.new.desk in
+    small_text (ReorderPatterns r) refl c.in-Ok.inputs a b (taken_four c.args.first.now r c.in-Ok.inputs a b c.requires.first c.in-Ok.ensures.ok) Def tt (all_used r Def) (omega arith)
+
+pub returns-in-Ok : goal.returns-in-Ok
+returns-in-Ok g c =
+    let r = c.args.request.now in
+    let a = g.D.Desk.state c.args.desk.now in
+    let b = g.D.Desk.state c.take_inputs.new.desk in
+    let after = g.D.Desk.state c.patterns_taken.new.desk in
+    let taken = taken_four c.args.first.now r c.in-Ok.inputs a b c.requires.first c.in-Ok.ensures.ok in
+    record { ended = patterns_finished r c.in-Ok.inputs a b c.requires.unopened taken after c.patterns_taken.result c.patterns_taken.ensures.ended }
+
+pub returns-in-Err-TooLarge : goal.returns-in-Err-TooLarge
+returns-in-Err-TooLarge g c =
+    let r = c.args.request.now in
+    let a = g.D.Desk.state c.args.desk.now in
+    let b = g.D.Desk.state c.take_inputs.new.desk in
+    let after = g.D.Desk.state c.refuse.new.desk in
+    let slot = c.in-Err-TooLarge.slot in
+    let stopped = at_first c.args.first.now r slot a b (IsTooLarge (limit_of slot)) c.requires.first
+    (subst (λ (fault : InputsFault). HasStopped c.args.first.now a b (Err fault)) c.in-Err-TooLarge.field-0-is c.in-Err-TooLarge.ensures.stopped) in
+    let said = subst (λ (names : Names). HasSaid names (size_fault slot) b after c.refuse.result) c.requires.named
+    (subst (λ (fault : Fault). HasSaid c.args.names.now fault b after c.refuse.result) c.size_fault.ensures.value c.refuse.ensures.ended) in
+    record { ended = large_ended r slot a b after c.requires.unopened stopped c.refuse.result said }
+
+pub returns-in-Err-Read : goal.returns-in-Err-Read
+returns-in-Err-Read g c =
+    let r = c.args.request.now in
+    let a = g.D.Desk.state c.args.desk.now in
+    let b = g.D.Desk.state c.take_inputs.new.desk in
+    let at = subst (λ (fault : InputsFault). HasStopped c.args.first.now a b (Err fault)) c.in-Err-Read.field-0-is c.in-Err-Read.ensures.stopped in
+    let stopped = stopped_first (ReorderPatterns r) (first_names r) (are_first r) at.0 a b HasFailedToTake (at_first c.args.first.now r at.0 a b HasFailedToTake c.requires.first at.1) in
+    record { ended = input_failed (ReorderPatterns r) at.0 a b stopped }
+
+pub returns-in-Err-NoMemory : goal.returns-in-Err-NoMemory
+returns-in-Err-NoMemory g c =
+    let r = c.args.request.now in
+    let a = g.D.Desk.state c.args.desk.now in
+    let b = g.D.Desk.state c.take_inputs.new.desk in
+    let at = subst (λ (fault : InputsFault). HasStopped c.args.first.now a b (Err fault)) c.in-Err-NoMemory.field-0-is c.in-Err-NoMemory.ensures.stopped in
+    let stopped = stopped_first (ReorderPatterns r) (first_names r) (are_first r) at.0 a b HasRunOut (at_first c.args.first.now r at.0 a b HasRunOut c.requires.first at.1) in
+    record { ended = inputs_ran_out (ReorderPatterns r) at.0 a b stopped }

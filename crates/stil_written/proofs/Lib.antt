@@ -1,0 +1,11 @@
+pub mod Alone
+pub mod Fronts
+pub mod Gaps
+pub mod Induction
+pub mod Meanings
+pub mod Others
+pub mod Pieces
+pub mod Readable
+pub mod Sizes
+pub mod Tails
+pub mod Turns

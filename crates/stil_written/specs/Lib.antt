@@ -1,0 +1,4 @@
+pub mod Laws
+pub mod Readings
+pub mod Unbounded
+pub mod Written

@@ -1,0 +1,9 @@
+pub mod HeadCuts
+pub mod OwnHeads
+pub mod SameCounts
+pub mod SameCells
+pub mod SamePaths
+pub mod PlannedPaths
+pub mod NewHeads
+pub mod Meanings
+pub mod WrittenLaw
