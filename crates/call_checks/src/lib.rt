@@ -1,12 +1,16 @@
 //! Decides at run time what the tester and retargeting ask for: that chains and calls are
-//! well-formed. For tests and benchmarks; chains that are traced and calls that are read need none.
+//! well-formed; and scan calls by single shifts, against which the tester's are held. For tests and
+//! benchmarks; chains that are traced and calls that are read need none.
 //!
 //! Floor: patterns, on stil_types, stil_tester and base_types.
-//! Contract: each test is true exactly where the fact of `stil_tester/specs/Shifting.antt` holds.
+//! Contract: each test is true exactly where the fact of `stil_tester/specs/Shifting.antt` holds, and
+//! `call_by_shifts` does what `scan_call` there says.
 #![tactic(auto)]
 
 mod calls;
 mod chains;
+mod shifts;
 
 pub use calls::is_call_for;
 pub use chains::are_chains;
+pub use shifts::call_by_shifts;

@@ -7,9 +7,9 @@ use Rattle.stil_tester.specs.declared.chains.Chains.{Chains}
 use Rattle.stil_tester.specs.Symbols.{flip_if, meets, expect_of}
 use Rattle.std.proofs.lemmas.List.{get_or-map}
 use Rattle.stil_tester.specs.declared.chains.ChainBits.{ChainBits}
-use Rattle.stil_tester.specs.Shifting.{AreChains, bit_counts, cell_at, IsCallFor}
+use Rattle.stil_tester.specs.Shifting.{AreChains, bit_counts, cell_at, IsCallFor, no_bits}
 use Rattle.stil_tester.proofs.Calls.{length-bit_counts}
-use Rattle.retarget.specs.Places.{parity_after, no_bits, chain_bits, bits_at, longest}
+use Rattle.retarget.specs.Places.{parity_after, chain_bits, bits_at, longest}
 use Rattle.stil_types.specs.Calls.{compare_at, is_expectation}
 use Rattle.retarget.specs.Judging.{exit_of, IsShortLoad, IsLongCompare, IsAccepted, LoadsCells, ComparesCells}
 use Rattle.retarget.proofs.WholeCall.{loaded_is, passed_at, passed_from}

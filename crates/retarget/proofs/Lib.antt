@@ -1,14 +1,13 @@
 pub mod Numbers
-pub mod Characters
-pub mod OneChain
 pub mod Parities
 pub mod AllChains
 pub mod WholeCall
 pub mod SameMeaning
 pub mod Accepted
-pub mod Values
-pub mod FullStrings
 pub mod Moved
 pub mod Retargeted
 pub mod Standing
 pub mod MovedCalls
+pub mod ExitOrder
+pub mod Routes
+pub mod MovedStrings

@@ -13,15 +13,18 @@ use Rattle.stil_types.specs.Calls.{longest_string}
 use Rattle.retarget.specs.declared.route.Route.{Route}
 use Rattle.retarget.specs.declared.side.Side.{Side}
 use Rattle.retarget.specs.declared.side.Side.TheVariants.{Load, Compare}
-use Rattle.retarget.specs.Places.{differ, chain_bits, bits_at, StandsAt, chain_of, place_of, longest}
+use Rattle.retarget.specs.Places.{chain_bits, bits_at, StandsAt, chain_of, place_of, longest}
+use Rattle.stil_tester.specs.Symbols.{differ, text_of}
 use Rattle.retarget.specs.Judging.{IsAccepted}
 use Rattle.retarget.specs.Retargeting.{flip_character_if, HaveSameCells}
-use Rattle.retarget.specs.Sides.{filler_of, parity_at, text_of, character_in, character_at, raw_at, IsMoved, AreMoved, IsMap}
+use Rattle.retarget.specs.Exits.{IsMap}
+use Rattle.retarget.specs.Sides.{filler_of, parity_at, character_in, character_at}
+use Rattle.retarget.proofs.Moved.{raw_at, IsMoved, AreMoved}
 use Rattle.retarget.specs.Moved.{moved_character, moved_characters, full_string, moved_string, moved_strings, moved_call, StandsFor}
 use Rattle.retarget.proofs.AllChains.{chain_is}
-use Rattle.retarget.proofs.SameMeaning.{bits_within, still_call, same_verdict}
+use Rattle.retarget.proofs.SameMeaning.{bits_within, still_call}
 use Rattle.retarget.proofs.Standing.{chain_is_of, place_is_of}
-use Rattle.retarget.proofs.Retargeted.{HasPlaces, places_of, load_is, compare_is, IsRetargeted, retargeted, still_fits, still_accepted, some_shifts, some_longest}
+use Rattle.retarget.proofs.Retargeted.{IsRetargeted, retargeted, still_fits, still_accepted, some_shifts, some_longest}
 
 -- ---- characters as a string
 
@@ -86,19 +89,12 @@ none_raw : (side : Side) (k : ℕ) → raw_at side None k ≡ filler_of side
 none_raw Load k = refl
 none_raw Compare k = refl
 
--- strings with the same characters for all bits have the same characters there
-raw_by : (side : Side) (a b : Option (List ℕ)) (bits k : ℕ) → k < bits → ((j : ℕ) → j < bits → character_in side (text_of a) bits j ≡ character_in side (text_of b) bits j) → raw_at side a k ≡ raw_at side b k
-raw_by Load a b bits k l each = load_is a k ∙ each k l ∙ sym (load_is b k)
-raw_by Compare a b bits k l each =
-    let back : bits - 1 - (bits - 1 - k) ≡ k = omega arith in
-    compare_is a k ∙ ap (λ n. get_or (text_of a) n 88) (sym back) ∙ each (bits - 1 - k) (omega arith) ∙ ap (λ n. get_or (text_of b) n 88) back ∙ sym (compare_is b k)
-
 -- ---- whether a string says something
 
-abbrev says : Side → ℕ → Bool
+abbrev pub says : Side → ℕ → Bool
 says side character = not (eqb character (filler_of side))
 
-says_at : (side : Side) (characters : List ℕ) → list_any (says side) characters ≡ true → (j : ℕ) × (j < length characters) × (get_or characters j (filler_of side) ≢ filler_of side)
+pub says_at : (side : Side) (characters : List ℕ) → list_any (says side) characters ≡ true → (j : ℕ) × (j < length characters) × (get_or characters j (filler_of side) ≢ filler_of side)
 says_at side [] h = absurd (false≢true h)
 says_at side (character ∷ characters) h =
     ⊎_elim (λ (here : says side character ≡ true). (0, omega arith, λ e. eqb-false character (filler_of side) (not-true (eqb character (filler_of side)) here) e))
@@ -187,46 +183,6 @@ moved_are side old new strings same = record {
       (string_moved side old new strings same d);
 }
 
--- ---- no other strings do
-
-same_text : (side : Side) (a b : List ℕ) → length a ≡ length b → ((k : ℕ) → raw_at side (Some a) k ≡ raw_at side (Some b) k) → a ≡ b
-same_text Load a b e each =
-    let turned : reverse a ≡ reverse b = ext_get_or 78 (reverse a) (reverse b) (length-reverse a ∙ e ∙ sym (length-reverse b)) (λ k l. each k) in
-    sym (reverse-reverse a) ∙ ap reverse turned ∙ reverse-reverse b
-same_text Compare a b e each = ext_get_or 88 a b e (λ k l. each k)
-
-same_string : (side : Side) (shifts : ℕ) (a b : Option (List ℕ)) → IfSome a (λ text. length text ≡ shifts) → IfSome b (λ text. length text ≡ shifts) → is_some a ≡ is_some b → ((k : ℕ) → raw_at side a k ≡ raw_at side b k) → a ≡ b
-same_string side shifts None None full full' e each = refl
-same_string side shifts None (Some b) full full' e each = absurd (false≢true e)
-same_string side shifts (Some a) None full full' e each = absurd (false≢true (sym e))
-same_string side shifts (Some a) (Some b) full full' e each = ap Some (same_text side a b (full ∙ sym full') each)
-
-module _ (side : Side) (old new : Chains) (shifts : ℕ) (strings : List (Option (List ℕ))) (same : HaveSameCells old new) (d : ℕ) (l : d < length new.chains) (a b : Option (List ℕ)) (moved : IsMoved side old new shifts strings d a) (moved' : IsMoved side old new shifts strings d b) where
-  same_character : (j : ℕ) → j < bits_at new d → character_in side (text_of a) (bits_at new d) j ≡ character_in side (text_of b) (bits_at new d) j
-  same_character j m =
-      let at : HasPlaces old new d j = places_of old new same d j l m in
-      moved.bits at.cell at.c at.i j at.here at.there ∙ sym (moved'.bits at.cell at.c at.i j at.here at.there)
-
-  raw_inside : (k : ℕ) → k < bits_at new d → raw_at side a k ≡ raw_at side b k
-  raw_inside k m = raw_by side a b (bits_at new d) k m same_character
-
-  same_raw : (k : ℕ) → raw_at side a k ≡ raw_at side b k
-  same_raw k = ⊎_elim (λ (inside : k < bits_at new d). raw_inside k inside) (λ (outside : bits_at new d ≤ k). moved.others k outside ∙ sym (moved'.others k outside)) (cases_lt k (bits_at new d))
-
-  said : (x y : Option (List ℕ)) → ((k : ℕ) → raw_at side x k ≡ raw_at side y k) → IsMoved side old new shifts strings d x → IsMoved side old new shifts strings d y → is_some x ≡ true → is_some y ≡ true
-  said x y raws is is' some =
-      is'.stands.1 (⊎_elim (λ (yes : IsSome (get_or strings d None)). inl yes) (λ (there : (k : ℕ) × (raw_at side x k ≢ filler_of side)). inr (there.0, λ e. there.1 (raws there.0 ∙ e))) (is.stands.0 some))
-
-  one_string : a ≡ b
-  one_string =
-      same_string side shifts a b moved.full moved'.full (same_verdict (is_some a) (is_some b) (said a b same_raw moved moved') (said b a (λ k. sym (same_raw k)) moved' moved)) same_raw
-
-pub same_strings : (side : Side) (old new : Chains) (shifts : ℕ) (strings a b : List (Option (List ℕ))) → HaveSameCells old new → AreMoved side old new shifts strings a → AreMoved side old new shifts strings b → a ≡ b
-same_strings side old new shifts strings a b same moved moved' =
-    ext_get_or None a b (moved.long ∙ sym moved'.long) (λ d l.
-    let m : d < length new.chains = omega (arith, moved.long) in
-    one_string side old new shifts strings same d m (get_or a d None) (get_or b d None) (moved.each d m) (moved'.each d m))
-
 -- ---- the call
 
 pub still : (old new : Chains) (call : ScanCall) → call.shifts ≡ 0 → moved_call old new call ≡ call
@@ -239,16 +195,12 @@ unfolding moved_call
 shifting old new call some =
     ap (λ (b : Bool). cond b call (record { shifts = longest new; loads = moved_strings Load old new call.loads; compares = moved_strings Compare old new call.compares })) (ne_eqb call.shifts 0 (λ e. omega arith))
 
--- a call of these shifts and strings is the moved one
-pub is_moved : (old new : Chains) (shifts : ℕ) (call written : ScanCall) → HaveSameCells old new → shifts ≡ longest new → 0 < call.shifts → written.shifts ≡ shifts
-    → AreMoved Load old new shifts call.loads written.loads → AreMoved Compare old new shifts call.compares written.compares → written ≡ moved_call old new call
-is_moved old new shifts call written same long some e loads compares =
-    let by : (side : Side) (strings found : List (Option (List ℕ))) → AreMoved side old new shifts strings found → found ≡ moved_strings side old new strings
-    = λ side strings found moved. same_strings side old new (longest new) strings found (moved_strings side old new strings) same
-    (subst (λ (n : ℕ). AreMoved side old new n strings found) long moved) (moved_are side old new strings same) in
-    let made : written ≡ record { shifts = longest new; loads = moved_strings Load old new call.loads; compares = moved_strings Compare old new call.compares }
-    = λ i. record { shifts = (e ∙ long) i; loads = by Load call.loads written.loads loads i; compares = by Compare call.compares written.compares compares i } in
-    made ∙ sym (shifting old new call some)
+-- all that is said of a call that shifts
+retargeted_call : (old new : Chains) (call : ScanCall) → HaveSameCells old new → IsCallFor old call → IsAccepted old call → 0 < call.shifts → IsRetargeted old new call (moved_call old new call)
+retargeted_call old new call same fits accepted some =
+    let made : ScanCall = record { shifts = longest new; loads = moved_strings Load old new call.loads; compares = moved_strings Compare old new call.compares } in
+    subst (λ (w : ScanCall). IsRetargeted old new call w) (sym (shifting old new call some))
+    (retargeted old new (longest new) call made same refl fits accepted some refl (moved_are Load old new call.loads same) (moved_are Compare old new call.compares same))
 
 -- where a call shifts there is a chain
 longest_some : (old new : Chains) (call : ScanCall) → HaveSameCells old new → IsCallFor old call → 0 < call.shifts → 0 < longest new
@@ -267,16 +219,15 @@ longest_some old new call same fits some =
 pub stands_for : (old new : Chains) (call : ScanCall) → HaveSameCells old new → IsCallFor old call → IsAccepted old call → StandsFor old new call (moved_call old new call)
 stands_for old new call same fits accepted =
     ⊎_elim (λ (some : 0 < call.shifts).
-    let made : ScanCall = record { shifts = longest new; loads = moved_strings Load old new call.loads; compares = moved_strings Compare old new call.compares } in
-    let is : IsRetargeted old new call made = retargeted old new (longest new) call made same refl fits accepted some refl (moved_are Load old new call.loads same) (moved_are Compare old new call.compares same) in
-    let stands : StandsFor old new call made = record {
+    let is : IsRetargeted old new call (moved_call old new call) = retargeted_call old new call same fits accepted some in
+    let stands : StandsFor old new call (moved_call old new call) = record {
       shows = λ cells room. sym (is.meaning cells room);
       fits = is.well_formed;
       accepted = is.accepted;
       stays = λ e. absurd (omega arith);
-      shifts = λ _. longest_some old new call same fits some;
+      shifts = λ _. omega (arith, is.shifts, longest_some old new call same fits some);
     } in
-    subst (λ (w : ScanCall). StandsFor old new call w) (sym (shifting old new call some)) stands)
+    stands)
     (λ (none : call.shifts ≤ 0).
     let e : call.shifts ≡ 0 = omega arith in
     let stands : StandsFor old new call call = record {
@@ -290,16 +241,22 @@ stands_for old new call same fits accepted =
     (cases_lt 0 call.shifts)
 
 -- the same of a call that may have refused, where the map is seen as a pair of chains
-pub value_if_ok : {E : Type 0} (old new : Route) (shifts : ℕ) (call : ScanCall) (chains : Chains × Chains) (result : Result ScanCall E)
-    → ◌≡◌ {A = Chains × Chains} (old.chains, new.chains) chains → IsMap old new shifts → (call.shifts ≡ 0 → ⊥)
-    → IfOk result (λ written. written.shifts ≡ shifts)
-    → IfOk result (λ written. AreMoved Load old.chains new.chains shifts call.loads written.loads)
-    → IfOk result (λ written. AreMoved Compare old.chains new.chains shifts call.compares written.compares)
-    → IfOk result (λ written. written ≡ moved_call chains.0 chains.1 call)
-value_if_ok old new shifts call chains (Err refused) seen map some e loads compares = tt
-value_if_ok old new shifts call chains (Ok written) seen map some e loads compares =
-    subst (λ (m : Chains × Chains). written ≡ moved_call m.0 m.1 call) seen
-    (is_moved old.chains new.chains shifts call written map.same map.longest_new (some_shifts call.shifts some) e loads compares)
+pub value_if_ok : {E : Type 0} (old new : Chains) (call : ScanCall) (chains : Chains × Chains) (result : Result ScanCall E)
+    → ◌≡◌ {A = Chains × Chains} (old, new) chains → IfOk result (λ written. written ≡ moved_call old new call) → IfOk result (λ written. written ≡ moved_call chains.0 chains.1 call)
+value_if_ok old new call chains (Err refused) seen value = tt
+value_if_ok old new call chains (Ok written) seen value = subst (λ (m : Chains × Chains). written ≡ moved_call m.0 m.1 call) seen value
+
+pub retargeted_if_ok : {E : Type 0} (old new : Chains) (shifts : ℕ) (route : Route) (call : ScanCall) (chains : Chains × Chains) (result : Result ScanCall E)
+    → ◌≡◌ {A = Chains × Chains} (old, new) chains → IsMap old new shifts route → IsCallFor chains.0 call → IsAccepted chains.0 call → (call.shifts ≡ 0 → ⊥)
+    → IfOk result (λ written. written ≡ moved_call old new call) → IfOk result (λ written. IsRetargeted chains.0 chains.1 call written)
+retargeted_if_ok old new shifts route call chains (Err refused) seen map fits accepted some value = tt
+retargeted_if_ok old new shifts route call chains (Ok written) seen map fits accepted some value =
+    subst (λ (m : Chains × Chains). IsRetargeted m.0 m.1 call written) seen
+    (subst (λ (w : ScanCall). IsRetargeted old new call w) (sym value)
+    (retargeted_call old new call map.same
+    (subst (λ (m : Chains × Chains). IsCallFor m.0 call) (sym seen) fits)
+    (subst (λ (m : Chains × Chains). IsAccepted m.0 call) (sym seen) accepted)
+    (some_shifts call.shifts some)))
 
 pub still_value : {E : Type 0} (old new : Chains) (call : ScanCall) (result : Result ScanCall E) → call.shifts ≡ 0 → IfOk result (λ copy. copy ≡ call) → IfOk result (λ copy. copy ≡ moved_call old new call)
 still_value old new call (Err refused) e same = tt

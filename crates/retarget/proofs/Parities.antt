@@ -1,25 +1,14 @@
 -- Parities, one bit more at a time.
-use Rattle.std.proofs.Common.{◌≡◌, ℕ, ◌+◌, ◌<◌, ◌≤◌, List, [], ◌∷◌, ◌++◌, length, take, drop, Bool, true, false, refl, sym, ap, ◌∙◌, arith, get_or, ⊎_elim}
-use Rattle.std.proofs.lemmas.Bool.{cases_lt}
-use Rattle.std.proofs.lemmas.List.{take_more, take-append-drop, length_push, get_or_append_left, get_or_push}
+use Rattle.std.proofs.Common.{◌≡◌, ℕ, ◌+◌, ◌<◌, List, [], ◌∷◌, length, take, drop, Bool, true, false, refl, sym, ap, ◌∙◌, get_or}
+use Rattle.std.proofs.lemmas.List.{take_more, take-append-drop}
 use Rattle.stil_tester.specs.declared.chains.ChainBits.{ChainBits}
-use Rattle.retarget.specs.Places.{differ, parity_of, parity_to, parity_after}
-use Rattle.retarget.specs.Sides.{HasParities}
-use Rattle.retarget.proofs.OneChain.{parity_of-append, differ_false}
+use Rattle.retarget.specs.Places.{parity_to, parity_after}
+use Rattle.stil_tester.specs.Symbols.{differ, parity_of}
+use Rattle.stil_tester.proofs.OneChain.{parity_of-append, differ_false}
 
 pub parity_of-more : (ps : List Bool) (i : ℕ) (d : Bool) → i < length ps → parity_of (take (i + 1) ps) ≡ differ (parity_of (take i ps)) (get_or ps i d)
 parity_of-more ps i d l =
     ap parity_of (take_more ps i d l) ∙ parity_of-append (take i ps) (get_or ps i d ∷ []) ∙ ap (differ (parity_of (take i ps))) (differ_false (get_or ps i d))
-
-pub HasParities-push : (row new : List Bool) (n : ℕ) (f : ℕ → Bool) (x : Bool) → HasParities row n f → new ≡ row ++ x ∷ [] → x ≡ f n → HasParities new (n + 1) f
-HasParities-push row new n f x has e h = record {
-  long = ap length e ∙ length_push row x ∙ omega (arith, has.long);
-  each = λ i l.
-      ap (λ q. get_or q i false) e
-      ∙ ⊎_elim (λ (below : i < n). get_or_append_left row (x ∷ []) false i (omega (arith, has.long)) ∙ has.each i below)
-      (λ (here : n ≤ i). let at : n ≡ i = omega arith in get_or_push row x false i (has.long ∙ at) ∙ h ∙ ap f at)
-      (cases_lt i n);
-}
 
 rest_of : (t d o : Bool) → differ t (differ (differ t d) o) ≡ differ d o
 rest_of true true true = refl

@@ -8,24 +8,20 @@ use Rattle.stil_tester.specs.declared.symbol.Symbol.{Symbol}
 use Rattle.stil_tester.specs.declared.chains.Chains.{Chains}
 use Rattle.stil_types.specs.Calls.{string_length, longest_string, is_load_character, is_compare_character, IsStringOf, compare_character, compare_at, is_expectation}
 use Rattle.stil_tester.specs.Shifting.{HasCells, IsCallFor, scan_call}
-use Rattle.retarget.specs.declared.route.Route.{Route}
 use Rattle.retarget.specs.declared.side.Side.TheVariants.{Load, Compare}
 use Rattle.stil_tester.proofs.Calls.{length-bit_counts, length-loads, length-compares}
-use Rattle.retarget.specs.Places.{differ, parity_to, parity_after, chain_bits, bits_at, StandsAt, longest}
+use Rattle.retarget.specs.Places.{parity_to, parity_after, chain_bits, bits_at, StandsAt, longest}
+use Rattle.stil_tester.specs.Symbols.{differ, text_of}
 use Rattle.retarget.specs.Judging.{load_character, load_at, exit_of, IsAccepted}
 use Rattle.lane_kernels.specs.Kernels.{flipped}
-use Rattle.retarget.specs.Retargeting.{flip_character_if, HaveSameCells, KeepsLoads, KeepsCompares, AreFull}
-use Rattle.retarget.specs.Sides.{text_of, IsMap, AreMoved}
+use Rattle.retarget.specs.Retargeting.{flip_character_if, HaveSameCells, KeepsLoads, KeepsCompares, WritesLoads, WritesCompares, AreFull}
+use Rattle.retarget.proofs.Moved.{AreMoved}
 use Rattle.retarget.proofs.AllChains.{standing}
-use Rattle.retarget.proofs.WholeCall.{string_within}
+use Rattle.retarget.proofs.WholeCall.{load_is, string_within}
 use Rattle.retarget.proofs.SameMeaning.{cell_within, same_call}
 use Rattle.retarget.proofs.Accepted.{long_enough, quiet_from, bits_are}
 
 -- ---- the characters
-
-pub load_is : (string : Option (List ℕ)) (place : ℕ) → load_character string place ≡ get_or (reverse (text_of string)) place 78
-load_is None place = refl
-load_is (Some text) place = refl
 
 pub compare_is : (string : Option (List ℕ)) (index : ℕ) → compare_character string index ≡ get_or (text_of string) index 88
 compare_is None index = refl
@@ -190,8 +186,11 @@ pub record IsRetargeted (old new : Chains) (call written : ScanCall) : Type 0 wh
   pub meaning : (cells : List Symbol) → HasCells old cells → scan_call new cells written ≡ scan_call old cells call
   pub well_formed : IsCallFor new written
   pub accepted : IsAccepted new written
+  pub shifts : written.shifts ≡ longest new
   pub loads : KeepsLoads old new call written
   pub compares : KeepsCompares old new call written
+  pub writes_loads : WritesLoads new call written
+  pub writes_compares : WritesCompares new call written
   pub full : AreFull written (longest new)
 
 written_shifts : (old new : Chains) (call written : ScanCall) (shifts : ℕ) → HaveSameCells old new → IsCallFor old call → 0 < call.shifts
@@ -232,8 +231,11 @@ retargeted a b shifts call written same long fits accepted some e loads compares
             let past : bits_at b past_bits.chain ≤ past_bits.index = omega (arith, bits_are b past_bits.chain l, past_bits.beyond) in
             false≢true (sym (ap is_expectation (keeps'.others past_bits.chain past_bits.index l past)) ∙ past_bits.stands);
       };
+      shifts = e ∙ long;
       loads = keeps;
       compares = keeps';
+      writes_loads = λ d l. (loads.each d l).stands;
+      writes_compares = λ d l. (compares.each d l).stands;
       full = subst (λ (n : ℕ). AreFull written n) long (are_full a b call written shifts loads compares);
     }
 
@@ -259,21 +261,6 @@ still_accepted old new call fits e = record {
 
 pub some_shifts : (n : ℕ) → (n ≡ 0 → ⊥) → 0 < n
 some_shifts n h = omega arith
-
--- the same of a call that may have refused, where the map is seen as a pair of chains
-pub retargeted_if_ok : {E : Type 0} (old new : Route) (shifts : ℕ) (call : ScanCall) (chains : Chains × Chains) (result : Result ScanCall E)
-    → ◌≡◌ {A = Chains × Chains} (old.chains, new.chains) chains → IsMap old new shifts → IsCallFor chains.0 call → IsAccepted chains.0 call → (call.shifts ≡ 0 → ⊥)
-    → IfOk result (λ written. written.shifts ≡ shifts)
-    → IfOk result (λ written. AreMoved Load old.chains new.chains shifts call.loads written.loads)
-    → IfOk result (λ written. AreMoved Compare old.chains new.chains shifts call.compares written.compares)
-    → IfOk result (λ written. IsRetargeted chains.0 chains.1 call written)
-retargeted_if_ok old new shifts call chains (Err refused) seen map fits accepted some e loads compares = tt
-retargeted_if_ok old new shifts call chains (Ok written) seen map fits accepted some e loads compares =
-    subst (λ (m : Chains × Chains). IsRetargeted m.0 m.1 call written) seen
-    (retargeted old.chains new.chains shifts call written map.same map.longest_new
-    (subst (λ (m : Chains × Chains). IsCallFor m.0 call) (sym seen) fits)
-    (subst (λ (m : Chains × Chains). IsAccepted m.0 call) (sym seen) accepted)
-    (some_shifts call.shifts some) e loads compares)
 
 -- a call that doesn't shift may be copied
 pub still_if_ok : {E : Type 0} (old : Chains) (new : Chains) (call : ScanCall) (result : Result ScanCall E) → IsCallFor old call → call.shifts ≡ 0 → IfOk result (λ copy. copy ≡ call) → IfOk result (λ copy. IsAccepted new copy)

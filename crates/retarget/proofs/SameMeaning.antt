@@ -9,16 +9,18 @@ use Rattle.stil_tester.specs.declared.symbol.Expect.{Expect}
 use Rattle.stil_tester.specs.declared.symbol.Expect.TheVariants.{Low, High, Any}
 use Rattle.stil_tester.specs.declared.chains.ChainBits.{ChainBits}
 use Rattle.stil_tester.specs.declared.chains.Chains.{Chains}
-use Rattle.stil_tester.specs.Symbols.{flip, flip_if, meets, symbol_of, expect_of}
-use Rattle.stil_tester.specs.Shifting.{AreChains, HasCells, cell_at, IsCallFor, cells_before, met_before, scan_call}
-use Rattle.retarget.specs.Places.{differ, parity_to, parity_after, no_bits, chain_bits, bits_at, StandsAt, longest}
+use Rattle.stil_tester.specs.Symbols.{flip, flip_if, meets, symbol_of, expect_of, differ}
+use Rattle.stil_tester.specs.Shifting.{AreChains, HasCells, cell_at, IsCallFor, cells_before, met_before, scan_call, no_bits}
+use Rattle.retarget.specs.Places.{parity_to, parity_after, chain_bits, bits_at, StandsAt, longest}
 use Rattle.stil_types.specs.Calls.{compare_at, is_expectation, most_bits}
 use Rattle.retarget.specs.Judging.{load_at, exit_of}
 use Rattle.lane_kernels.specs.Kernels.{flipped}
 use Rattle.retarget.specs.Retargeting.{flip_character_if, HaveSameCells, KeepsLoads, KeepsCompares}
-use Rattle.retarget.proofs.OneChain.{flip-flip}
+use Rattle.stil_tester.proofs.Lengths.{length-cells_before}
+use Rattle.stil_tester.proofs.OneChain.{flip-flip}
+use Rattle.stil_tester.proofs.WholeCalls.{other_cell}
 use Rattle.retarget.proofs.AllChains.{standing, start_of, number_at, number_within}
-use Rattle.retarget.proofs.WholeCall.{length-cells_before, other_before, loaded_is, passed_at, passed_from}
+use Rattle.retarget.proofs.WholeCall.{loaded_is, passed_at, passed_from}
 
 -- ---- characters
 
@@ -131,8 +133,8 @@ same_loaded old new call written same fits fits' long long' keeps cells room =
     ∙ same_value (parity_to (chain_bits old here.0) here.1) (parity_to (chain_bits new there.0) there.1) (load_at call here.0 here.1)
     ∙ sym (loaded_is old cells call same.old_chains room fits v here.0 here.1 here.2 (omega (arith, bits_within old here.0))))
     (λ (outside : old.cells ≤ v).
-    other_before new cells written same.new_chains v written.shifts Unknown (omega (arith, same.cells))
-    ∙ sym (other_before old cells call same.old_chains v call.shifts Unknown outside))
+    other_cell new cells written same.new_chains v written.shifts (omega (arith, same.cells))
+    ∙ sym (other_cell old cells call same.old_chains v call.shifts outside))
     (cases_lt v old.cells))
 
 pub same_passed : (old new : Chains) (call written : ScanCall) → HaveSameCells old new → IsCallFor old call → IsCallFor new written → longest old ≤ call.shifts → longest new ≤ written.shifts → ((c k : ℕ) → c < length old.chains → bits_at old c ≤ k → expect_of (compare_at call c k) ≡ Any) → KeepsCompares old new call written

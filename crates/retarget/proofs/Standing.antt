@@ -1,11 +1,35 @@
 -- Each cell stands where chain_of and place_of say, and nowhere else.
-use Rattle.std.proofs.Common.{◌≡◌, ℕ, ◌<◌, ◌⊎◌, List, [], ◌∷◌, length, Bool, true, false, cond, sym, ap, ◌∙◌, arith, suc, zero, get_or, ⊎_elim, eqb, ltb, subst}
+use Rattle.std.proofs.Common.{◌≡◌, ◌≢◌, ℕ, ◌+◌, ◌<◌, ◌≤◌, ◌⊎◌, List, [], ◌∷◌, length, take, Bool, true, false, cond, sym, ap, ◌∙◌, arith, suc, zero, get_or, ⊎_elim, eqb, ltb, subst}
 use Rattle.std.proofs.lemmas.Bool.{cases_Bool, cases_order, eq-eqb, eqb-true, lt-ltb, ltb-true}
+use Rattle.std.proofs.lemmas.List.{length-append}
 use Rattle.stil_tester.specs.declared.chains.ChainBits.{ChainBits}
 use Rattle.stil_tester.specs.declared.chains.Chains.{Chains}
-use Rattle.stil_tester.specs.Shifting.{AreChains}
-use Rattle.retarget.specs.Places.{no_bits, chain_bits, StandsAt, place_in, number_in, chain_of, place_of}
-use Rattle.retarget.proofs.Values.{chains_apart, chain_apart}
+use Rattle.stil_tester.specs.Shifting.{AreChains, numbers_of, no_bits}
+use Rattle.retarget.specs.Places.{chain_bits, bits_at, StandsAt, place_in, number_in, chain_of, place_of}
+use Rattle.retarget.specs.Exits.{AreApart}
+use Rattle.retarget.proofs.AllChains.{start_of, number_at, number_within, all_apart}
+
+-- ---- cells of two chains, and of one, are apart
+
+start_more : (chains : List ChainBits) (b c : ℕ) → b < c → c < length chains → start_of chains b + length (get_or chains b no_bits).cells ≤ start_of chains c
+start_more [] b c h l = absurd (omega arith)
+start_more (chain ∷ chains) b zero h l = absurd (omega arith)
+start_more (chain ∷ chains) zero (suc c) h l = omega (arith, length-append chain.cells (numbers_of (take c chains)))
+start_more (chain ∷ chains) (suc b) (suc c) h l =
+    omega (arith, length-append chain.cells (numbers_of (take b chains)), length-append chain.cells (numbers_of (take c chains)), start_more chains b c (omega arith) (omega arith))
+
+chains_apart : (chains : Chains) → AreChains chains → (b c i j : ℕ) → b < c → c < length chains.chains → i < bits_at chains b → j < bits_at chains c → get_or (chain_bits chains b).cells i 0 ≢ get_or (chain_bits chains c).cells j 0
+chains_apart chains good b c i j h l m n e =
+    all_apart chains good (start_of chains.chains b + i) (start_of chains.chains c + j)
+    (omega (arith, start_more chains.chains b c h l)) (number_within chains.chains c j l n)
+    (number_at chains.chains b i (omega arith) m ∙ e ∙ sym (number_at chains.chains c j l n))
+
+chain_apart : (chains : Chains) → AreChains chains → (c : ℕ) → c < length chains.chains → AreApart (chain_bits chains c).cells
+chain_apart chains good c l i j h m e =
+    all_apart chains good (start_of chains.chains c + i) (start_of chains.chains c + j) (omega arith) (number_within chains.chains c j l m)
+    (number_at chains.chains c i l (omega arith) ∙ e ∙ sym (number_at chains.chains c j l m))
+
+-- ---- where a cell stands
 
 -- the first place of a cell lies before each place where it stands
 place_within : (cell : ℕ) (cells : List ℕ) (i : ℕ) → i < length cells → get_or cells i 0 ≡ cell → place_in cell cells < length cells

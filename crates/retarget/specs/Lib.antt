@@ -1,3 +1,4 @@
+pub mod Exits
 pub mod Judging
 pub mod Moved
 pub mod Places

@@ -7,7 +7,8 @@ use Rattle.stil_tester.specs.Meaning.{ShowSame}
 use Rattle.stil_tester.specs.Shifting.{IsCallFor}
 use Rattle.retarget.specs.declared.side.Side.{Side}
 use Rattle.retarget.specs.declared.side.Side.TheVariants.{Load, Compare}
-use Rattle.retarget.specs.Places.{differ, chain_bits, bits_at, chain_of, place_of, longest}
+use Rattle.retarget.specs.Places.{chain_bits, bits_at, chain_of, place_of, longest}
+use Rattle.stil_tester.specs.Symbols.{differ}
 use Rattle.retarget.specs.Judging.{IsAccepted}
 use Rattle.retarget.specs.Retargeting.{flip_character_if, HaveSameCells}
 use Rattle.retarget.specs.Sides.{filler_of, parity_at, character_at}

@@ -1,19 +1,10 @@
 -- Where the cells stand in the chains, and the parities before and behind them (IEEE 1450-1999, ScanStructures).
-use Rattle.std.specs.Prelude.{◌≡◌, ℕ, ◌+◌, ◌<◌, ◌==◌, nat_lt, if◌then◌else◌, suc, Bool, false, not, List, [], ◌∷◌, length, take, drop, slice_index_or}
-use Rattle.std.specs.Bool.{beq}
+use Rattle.std.specs.Prelude.{◌≡◌, ℕ, ◌+◌, ◌<◌, ◌==◌, nat_lt, if◌then◌else◌, suc, Bool, List, [], ◌∷◌, length, take, drop, slice_index_or}
 use Rattle.stil_tester.specs.declared.chains.ChainBits.{ChainBits}
 use Rattle.stil_tester.specs.declared.chains.Chains.{Chains}
 use Rattle.stil_types.specs.Calls.{most_bits}
-use Rattle.stil_tester.specs.Shifting.{bit_counts}
-
--- the sum of two parities
-abbrev pub differ : Bool → Bool → Bool
-differ p q = not (beq p q)
-
--- the sum of the parities of a list
-abbrev pub parity_of : List Bool → Bool
-parity_of [] = false
-parity_of (p ∷ ps) = differ p (parity_of ps)
+use Rattle.stil_tester.specs.Symbols.{differ, parity_of}
+use Rattle.stil_tester.specs.Shifting.{bit_counts, no_bits}
 
 -- the parity from the scan input up to the bit at a place
 abbrev pub parity_to : ChainBits → ℕ → Bool
@@ -22,10 +13,6 @@ parity_to chain place = parity_of (take (place + 1) chain.parity)
 -- the parity from the bit at a place to the scan output
 abbrev pub parity_after : ChainBits → ℕ → Bool
 parity_after chain place = differ (parity_of (drop (place + 1) chain.parity)) chain.out_parity
-
--- what stands for a chain that isn't there
-abbrev pub no_bits : ChainBits
-no_bits = record { cells = []; parity = []; out_parity = false }
 
 -- a chain by its number; one without bits where there is none
 abbrev pub chain_bits : Chains → ℕ → ChainBits

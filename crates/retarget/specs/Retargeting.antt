@@ -4,7 +4,8 @@ use Rattle.lane_kernels.specs.Kernels.{flipped}
 use Rattle.stil_types.specs.declared.statement.ScanCall.{ScanCall}
 use Rattle.stil_tester.specs.declared.chains.Chains.{Chains}
 use Rattle.stil_tester.specs.Shifting.{AreChains}
-use Rattle.retarget.specs.Places.{differ, parity_to, parity_after, chain_bits, bits_at, StandsAt}
+use Rattle.retarget.specs.Places.{parity_to, parity_after, chain_bits, bits_at, StandsAt}
+use Rattle.stil_tester.specs.Symbols.{differ}
 use Rattle.stil_types.specs.Calls.{compare_at}
 use Rattle.retarget.specs.Judging.{load_at, exit_of}
 

@@ -1,12 +1,11 @@
 ghost use Rattle.std.specs.Prelude.{◌≡◌, ℕ, ◌<◌, ◌≤◌, List, IfOk};
 ghost use Rattle.stil_tester.specs.declared.symbol.Symbol.{Symbol};
 ghost use Rattle.stil_tester.specs.Shifting.{HasCells, IsCallFor, scan_call};
-ghost use Rattle.retarget.specs.declared.side.Side.TheVariants.{Load, Compare};
 ghost use Rattle.retarget.specs.Places.{longest};
 ghost use Rattle.retarget.specs.Judging.{IsAccepted};
-ghost use Rattle.retarget.specs.Moved.{moved_call};
+ghost use Rattle.retarget.specs.Moved.{moved_call as moved_call_of};
 ghost use Rattle.retarget.specs.Retargeting.{KeepsLoads, KeepsCompares, WritesLoads, WritesCompares, AreFull};
-ghost use Rattle.retarget.specs.Sides.{IsMap, AreMoved};
+ghost use Rattle.retarget.specs.Exits.{IsMap};
 
 use crate::map::Map;
 use crate::route::Route;
@@ -14,6 +13,7 @@ use crate::side::Side;
 use crate::strings::moved_strings;
 use base_types::{NoMemory, Rows, Text};
 use std::alloc::Global;
+use stil_tester::Chains;
 use stil_types::ScanCall;
 
 /// The scan call that loads every cell alike on the new chains, and passes exactly when the read
@@ -33,7 +33,7 @@ pub fn retarget_call(alloc: Global, map: &Map, call: &ScanCall) -> Result<ScanCa
     ensures accepted { IfOk result (IsAccepted map.now.1) }
 
     // Which call it is, and how it is written.
-    ensures value { IfOk result (λ written. written ≡ moved_call map.now.0 map.now.1 call.now) }
+    ensures value { IfOk result (λ written. written ≡ moved_call_of map.now.0 map.now.1 call.now) }
     ensures unchanged { IfOk result (λ written. call.now.shifts ≡ 0 → written ≡ call.now) }
     ensures shifts { IfOk result (λ written. 0 < call.now.shifts → written.shifts ≡ longest map.now.1) }
     ensures loads { IfOk result (λ written. 0 < call.now.shifts → KeepsLoads map.now.0 map.now.1 call.now written) }
@@ -46,32 +46,27 @@ pub fn retarget_call(alloc: Global, map: &Map, call: &ScanCall) -> Result<ScanCa
     if call.shifts == 0 {
         return copy_of_call(alloc, call);
     }
-    moved_call(alloc, &map.old, &map.new, shifts, call)
+    moved_call(alloc, &map.old, &map.new, shifts, &map.route, call)
 }
 
-/// The strings of a call for the new chains, each at full length.
+/// A call that shifts, on the new chains.
 fn moved_call(
     alloc: Global,
-    old: &Route,
-    new: &Route,
+    old: &Chains,
+    new: &Chains,
     shifts: usize,
+    route: &Route,
     call: &ScanCall,
 ) -> Result<ScanCall, NoMemory>
-    requires map { IsMap old.now new.now shifts }
-    requires call { IsCallFor old.now.chains call.now }
-    ensures shifts { IfOk result (λ written. written.shifts ≡ shifts) }
-    ensures loads { IfOk result (λ written. AreMoved Load old.now.chains new.now.chains shifts call.now.loads written.loads) }
-    ensures compares { IfOk result (λ written. AreMoved Compare old.now.chains new.now.chains shifts call.now.compares written.compares) }
+    requires map { IsMap old.now new.now shifts route.now }
+    requires call { IsCallFor old.now call.now }
+    requires some { 0 < call.now.shifts }
+    ensures { IfOk result (λ written. written ≡ moved_call_of old.now new.now call.now) }
 {
-    let loads = moved_strings(alloc, old, new, shifts, Side::Load, call.loads.as_slice())?;
-    let compares = moved_strings(
-        alloc,
-        old,
-        new,
-        shifts,
-        Side::Compare,
-        call.compares.as_slice(),
-    )?;
+    let given = call.loads.as_slice();
+    let loads = moved_strings(alloc, old, new, shifts, route, Side::Load, given)?;
+    let given = call.compares.as_slice();
+    let compares = moved_strings(alloc, old, new, shifts, route, Side::Compare, given)?;
     Ok(ScanCall {
         shifts,
         loads,

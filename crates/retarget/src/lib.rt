@@ -7,6 +7,7 @@
 #![tactic(auto)]
 
 mod call;
+mod exits;
 mod judge;
 mod laws;
 mod map;

@@ -1,44 +1,53 @@
-ghost use Rattle.std.specs.Prelude.{◌≡◌, length, IfOk};
-ghost use Rattle.stil_tester.specs.Shifting.{AreChains};
-ghost use Rattle.retarget.specs.Places.{parity_of, parity_to, parity_after};
-ghost use Rattle.retarget.specs.Sides.{HasParities, AreParities};
-ghost use Rattle.retarget.specs.declared.side.Side.TheVariants.{Load, Compare};
+//! Where the characters for new chains stand among those of old ones, worked out once for any number of calls.
+ghost use Rattle.std.specs.Prelude.{◌≡◌, ◌≢◌, ℕ, ◌<◌, length, map, slice_index_or, IfOk};
+ghost use Rattle.retarget.specs.Exits.{ArePlaces, AreApart, IsRoute, flips_from, flips_on};
+ghost use Rattle.retarget.specs.Retargeting.{HaveSameCells};
 
+use crate::exits::Exits;
 use crate::side::Side;
 use base_types::{NoMemory, Rows};
 use std::alloc::Global;
-use stil_tester::{ChainBits, Chains};
+use stil_tester::Chains;
 
-/// Chains with the parities of their bits.
+/// For each bit of the new chains, in the order in which they come out, where the character for its cell stands among those of
+/// the old chains in this order, and whether it is flipped on the way.
 #[derive(Debug, Drop)]
 pub struct Route {
-    pub chains: Chains,
-    /// For each bit of each chain the parity from the scan input.
-    pub loads: Rows<Rows<bool>>,
-    /// For each bit of each chain the parity to the scan output.
-    pub compares: Rows<Rows<bool>>,
+    pub sources: Rows<usize>,
+    /// 1 where the parities from the scan inputs differ, else 0.
+    pub loads: Rows<u8>,
+    /// 1 where the parities to the scan outputs differ, else 0.
+    pub compares: Rows<u8>,
 }
 
 impl Route {
-    ghost use Rattle.retarget.specs.Sides.{IsRoute};
-
-    /// A copy of the chains, with the parities of their bits.
-    pub fn of(alloc: Global, chains: &Chains) -> Result<Route, NoMemory>
-        requires { AreChains chains.now }
-        ensures chains { IfOk result (λ route. route.chains ≡ chains.now) }
-        ensures parities { IfOk result IsRoute }
+    /// The way from old chains to new ones.
+    pub fn of(alloc: Global, old: &Chains, new: &Chains) -> Result<Route, NoMemory>
+        requires { HaveSameCells old.now new.now }
+        ensures { IfOk result (IsRoute old.now new.now) }
     {
+        let before = Exits::of(alloc, old.chains.as_slice())?;
+        let after = Exits::of(alloc, new.chains.as_slice())?;
+        let places = places_of(alloc, before.cells.as_slice(), old.cells as usize)?;
+        let sources = sources_of(alloc, places.as_slice(), after.cells.as_slice())?;
+        let from = sources.as_slice();
+        let loads = flips_of(alloc, from, before.loads.as_slice(), after.loads.as_slice())?;
+        let compares = flips_of(
+            alloc,
+            from,
+            before.compares.as_slice(),
+            after.compares.as_slice(),
+        )?;
         Ok(Route {
-            chains: copy_of(alloc, chains)?,
-            loads: load_parities(alloc, chains)?,
-            compares: compare_parities(alloc, chains)?,
+            sources,
+            loads,
+            compares,
         })
     }
 
-    /// The parities between the bits and the ports of these strings.
-    pub fn parities(&self, side: Side) -> &[Rows<bool>]
-        requires { IsRoute self.now }
-        ensures { AreParities side self.now.chains result.now }
+    /// The flips of these strings.
+    pub fn flips(&self, side: Side) -> &[u8]
+        ensures { result.now ≡ flips_on side self.now }
     {
         match side {
             Side::Load => self.loads.as_slice(),
@@ -47,88 +56,55 @@ impl Route {
     }
 }
 
-/// A copy of the chains.
-fn copy_of(alloc: Global, chains: &Chains) -> Result<Chains, NoMemory>
-    ensures { IfOk result (λ copy. copy ≡ chains.now) }
+/// For each of so many cells the place where it stands among these.
+fn places_of(alloc: Global, cells: &[u32], count: usize) -> Result<Vec<usize>, NoMemory>
+    requires within { (k : ℕ) → k < length cells.now → slice_index_or cells.now k 0 < count }
+    requires apart { AreApart cells.now }
+    ensures long { IfOk result (λ places. length places.items ≡ count) }
+    ensures places { IfOk result (λ places. ArePlaces cells.now places.items) }
 {
-    let mut copies = Rows::new(alloc);
-    for chain in chains.chains.as_slice() {
-        copies.push(copy_of_chain(alloc, chain)?)?;
-    }
-    Ok(Chains {
-        chains: copies,
-        cells: chains.cells,
-    })
+    let mut places = vec![in alloc; 0; count]?;
+    put_places(&mut places, cells);
+    Ok(places)
 }
 
-fn copy_of_chain(alloc: Global, chain: &ChainBits) -> Result<ChainBits, NoMemory>
-    ensures { IfOk result (λ copy. copy ≡ chain.now) }
+/// Puts at each of these cells its place.
+fn put_places(places: &mut [usize], cells: &[u32])
+    requires within { (k : ℕ) → k < length cells.now → slice_index_or cells.now k 0 < length places.old }
+    requires apart { AreApart cells.now }
+    ensures { ArePlaces cells.now places.new }
 {
-    let cells = Vec::from_slice(alloc, chain.cells.as_slice())?;
-    let parity = Vec::from_slice(alloc, chain.parity.as_slice())?;
-    Ok(ChainBits {
-        cells: Rows::of(cells),
-        parity: Rows::of(parity),
-        out_parity: chain.out_parity,
-    })
+    for (place, cell) in cells.iter().enumerate() {
+        places[*cell as usize] = place;
+    }
 }
 
-/// For each bit of each chain the parity from the scan input.
-fn load_parities(alloc: Global, chains: &Chains) -> Result<Rows<Rows<bool>>, NoMemory>
-    requires { AreChains chains.now }
-    ensures { IfOk result (AreParities Load chains.now) }
+/// For each cell what stands at its number.
+fn sources_of(alloc: Global, places: &[usize], cells: &[u32]) -> Result<Rows<usize>, NoMemory>
+    requires { (k : ℕ) → k < length cells.now → slice_index_or cells.now k 0 < length places.now }
+    ensures { IfOk result (λ sources. sources ≡ map (λ cell. slice_index_or places.now cell 0) cells.now) }
 {
-    let mut rows = Rows::new(alloc);
-    for chain in chains.chains.as_slice() {
-        rows.push(parities_to(alloc, chain)?)?;
+    let mut sources = Rows::with_room(alloc, cells.len())?;
+    for cell in cells {
+        sources.push(places[*cell as usize])?;
     }
-    Ok(rows)
+    Ok(sources)
 }
 
-/// For each bit of each chain the parity to the scan output.
-fn compare_parities(alloc: Global, chains: &Chains) -> Result<Rows<Rows<bool>>, NoMemory>
-    requires { AreChains chains.now }
-    ensures { IfOk result (AreParities Compare chains.now) }
+/// For each bit 1 where its parity differs from that of its source, else 0.
+fn flips_of(
+    alloc: Global,
+    sources: &[usize],
+    before: &[bool],
+    after: &[bool],
+) -> Result<Rows<u8>, NoMemory>
+    requires within { (k : ℕ) → k < length sources.now → slice_index_or sources.now k 0 < length before.now }
+    requires long { length after.now ≡ length sources.now }
+    ensures { IfOk result (λ flips. flips ≡ flips_from sources.now before.now after.now) }
 {
-    let mut rows = Rows::new(alloc);
-    for chain in chains.chains.as_slice() {
-        rows.push(parities_after(alloc, chain)?)?;
+    let mut flips = Rows::with_room(alloc, sources.len())?;
+    for (place, source) in sources.iter().enumerate() {
+        flips.push(u8::from(before[*source] ^ after[place]))?;
     }
-    Ok(rows)
-}
-
-fn parities_to(alloc: Global, chain: &ChainBits) -> Result<Rows<bool>, NoMemory>
-    ensures { IfOk result (λ row. HasParities row (length chain.now.parity) (parity_to chain.now)) }
-{
-    let mut row = Rows::new(alloc);
-    let mut sum = false;
-    for parity in chain.parity.as_slice() {
-        sum ^= *parity;
-        row.push(sum)?;
-    }
-    Ok(row)
-}
-
-fn parities_after(alloc: Global, chain: &ChainBits) -> Result<Rows<bool>, NoMemory>
-    ensures { IfOk result (λ row. HasParities row (length chain.now.parity) (parity_after chain.now)) }
-{
-    let whole = sum_of(chain.parity.as_slice()) ^ chain.out_parity;
-    let mut row = Rows::new(alloc);
-    let mut sum = false;
-    for parity in chain.parity.as_slice() {
-        sum ^= *parity;
-        row.push(sum ^ whole)?;
-    }
-    Ok(row)
-}
-
-/// The sum of the parities, modulo 2.
-fn sum_of(parities: &[bool]) -> bool
-    ensures { result ≡ parity_of parities.now }
-{
-    let mut sum = false;
-    for parity in parities {
-        sum ^= *parity;
-    }
-    sum
+    Ok(flips)
 }

@@ -1,129 +1,125 @@
-ghost use Rattle.std.specs.Prelude.{◌≡◌, ◌≢◌, ℕ, ◌<◌, ◌≤◌, ◌↔◌, false, length, slice_index_or, IfOk, IsTrue};
-ghost use Rattle.retarget.specs.Places.{longest};
-ghost use Rattle.retarget.specs.Retargeting.{flip_character_if, HaveSameCells};
-ghost use Rattle.retarget.specs.Sides.{filler_of, character_in, index_of, AreValues, AreApart, IsRoute, IsFullString, AreMoved};
+//! The strings of a call, moved from old chains to new ones.
+ghost use Rattle.std.specs.Prelude.{◌≡◌, ◌≢◌, ℕ, ◌<◌, ◌≤◌, ◌↔◌, All, length, slice_index_or, IfOk, IsTrue};
+ghost use Rattle.stil_tester.specs.Shifting.{numbers_of};
+ghost use Rattle.retarget.specs.Exits.{IsMap, exit_cells, exit_characters as exit_characters_of, flips_on, moved_by, string_from as string_of, strings_from as strings_of};
+ghost use Rattle.retarget.specs.Moved.{moved_strings as moved_strings_of};
 
+use crate::exits::{exit_characters, put_padded};
 use crate::route::Route;
-use crate::side::{Side, bytes_of, flipped_if};
+use crate::side::Side;
 use base_types::{NoMemory, Rows, Text};
+use lane_kernels::flip_where;
 use std::alloc::Global;
+use stil_tester::{ChainBits, Chains};
 
 /// The strings of one side for the new chains, each at full length.
 pub fn moved_strings(
     alloc: Global,
-    old: &Route,
-    new: &Route,
+    old: &Chains,
+    new: &Chains,
     shifts: usize,
+    route: &Route,
     side: Side,
     strings: &[Option<Text>],
 ) -> Result<Rows<Option<Text>>, NoMemory>
-    requires old { IsRoute old.now }
-    requires new { IsRoute new.now }
-    requires cells { HaveSameCells old.now.chains new.now.chains }
-    requires strings { length strings.now ≡ length old.now.chains.chains }
-    requires shifts { longest new.now.chains ≤ shifts }
-    ensures { IfOk result (AreMoved side old.now.chains new.now.chains shifts strings.now) }
+    requires map { IsMap old.now new.now shifts route.now }
+    requires strings { length strings.now ≡ length old.now.chains }
+    ensures { IfOk result (λ written. written ≡ moved_strings_of side old.now new.now strings.now) }
 {
-    let values = cell_values(alloc, old, side, strings)?;
-    let parities = new.parities(side);
-    let mut written = Rows::new(alloc);
-    for (number, chain) in new.chains.chains.as_slice().iter().enumerate() {
-        let given = strings[number].is_some();
-        let cells = chain.cells.as_slice();
-        let row = parities[number].as_slice();
-        written.push(moved_string(alloc, side, values.as_slice(), cells, row, shifts, given)?)?;
-    }
-    Ok(written)
+    let characters = moved_characters(alloc, old.chains.as_slice(), route, side, strings)?;
+    let chains = new.chains.as_slice();
+    strings_from(alloc, side, shifts, chains, strings, characters.as_slice())
 }
 
-/// For each cell the character that the strings hold for it, freed from the parities of its chain.
-fn cell_values(
+/// The characters of one side's strings for the bits of the new chains, in the order in which these come out.
+fn moved_characters(
     alloc: Global,
+    old: &[ChainBits],
     route: &Route,
     side: Side,
     strings: &[Option<Text>],
 ) -> Result<Vec<u8>, NoMemory>
-    requires route { IsRoute route.now }
-    requires strings { length strings.now ≡ length route.now.chains.chains }
-    ensures long { IfOk result (λ values. length values.items ≡ route.now.chains.cells) }
-    ensures values { IfOk result (λ values. AreValues side route.now.chains strings.now values.items) }
+    requires strings { length strings.now ≡ length old.now }
+    requires within { (k : ℕ) → k < length route.now.sources → slice_index_or route.now.sources k 0 < length (exit_cells old.now) }
+    requires flips { length (flips_on side route.now) ≡ length route.now.sources }
+    ensures { IfOk result (λ characters. characters.items ≡ moved_by route.now.sources (flips_on side route.now) (exit_characters_of side old.now strings.now)) }
 {
-    let mut values = vec![in alloc; side.filler(); route.chains.cells as usize]?;
-    let parities = route.parities(side);
-    for (number, chain) in route.chains.chains.as_slice().iter().enumerate() {
-        let text = bytes_of(&strings[number]);
-        let cells = chain.cells.as_slice();
-        put_characters(&mut values, side, cells, parities[number].as_slice(), text);
-    }
-    Ok(values)
+    let sources = route.sources.as_slice();
+    let before = exit_characters(alloc, side, old, strings, sources.len())?;
+    let mut characters = vec![in alloc; side.filler(); sources.len()]?;
+    move_characters(
+        &mut characters,
+        before.as_slice(),
+        sources,
+        route.flips(side),
+    );
+    Ok(characters)
 }
 
-/// Puts the characters of one chain's string at its cells.
-fn put_characters(values: &mut [u8], side: Side, cells: &[u32], parities: &[bool], text: &[u8])
-    requires parities { length parities.now ≡ length cells.now }
-    requires within { (i : ℕ) → i < length cells.now → slice_index_or cells.now i 0 < length values.old }
-    requires apart { AreApart cells.now }
-    ensures bits { (i : ℕ) → i < length cells.now → slice_index_or values.new (slice_index_or cells.now i 0) 0
-        ≡ flip_character_if (slice_index_or parities.now i false) (character_in side text.now (length cells.now) i) }
-    ensures others { (v : ℕ) → ((i : ℕ) → i < length cells.now → slice_index_or cells.now i 0 ≢ v)
-        → slice_index_or values.new v 0 ≡ slice_index_or values.old v 0 }
+/// Each place takes the character at its source, flipped where its flip isn't 0.
+fn move_characters(to: &mut [u8], from: &[u8], sources: &[usize], flips: &[u8])
+    requires long { length to.old ≡ length sources.now }
+    requires within { (k : ℕ) → k < length sources.now → slice_index_or sources.now k 0 < length from.now }
+    requires flips { length flips.now ≡ length sources.now }
+    ensures { to.new ≡ moved_by sources.now flips.now from.now }
 {
-    for (place, cell) in cells.iter().enumerate() {
-        let character = side.character(text, cells.len(), place);
-        values[*cell as usize] = flipped_if(character, parities[place]);
+    for (place, source) in sources.iter().enumerate() {
+        to[place] = from[*source];
     }
+    flip_where(to, flips);
 }
 
-/// One chain's string, where one was given or where it says something.
-fn moved_string(
+/// The strings of the chains from the characters for their bits.
+fn strings_from(
     alloc: Global,
     side: Side,
-    values: &[u8],
-    cells: &[u32],
-    parities: &[bool],
     shifts: usize,
-    given: bool,
+    chains: &[ChainBits],
+    given: &[Option<Text>],
+    characters: &[u8],
+) -> Result<Rows<Option<Text>>, NoMemory>
+    requires given { length given.now ≡ length chains.now }
+    requires characters { length characters.now ≡ length (numbers_of chains.now) }
+    requires shifts { All (λ chain. length chain.cells ≤ shifts) chains.now }
+    ensures { IfOk result (λ strings. strings ≡ strings_of side shifts chains.now given.now characters.now) }
+{
+    let mut strings = Rows::with_room(alloc, chains.len())?;
+    let mut rest = characters;
+    for (number, chain) in chains.iter().enumerate() {
+        let (here, behind) = rest.split_at(chain.cells.as_slice().len());
+        rest = behind;
+        let is_given = given[number].is_some();
+        strings.push(string_from(alloc, side, shifts, is_given, here)?)?;
+    }
+    Ok(strings)
+}
+
+/// The string of one chain, where one was given or where it says something.
+fn string_from(
+    alloc: Global,
+    side: Side,
+    shifts: usize,
+    is_given: bool,
+    characters: &[u8],
 ) -> Result<Option<Text>, NoMemory>
-    requires parities { length parities.now ≡ length cells.now }
-    requires within { (i : ℕ) → i < length cells.now → slice_index_or cells.now i 0 < length values.now }
-    requires shifts { length cells.now ≤ shifts }
-    ensures { IfOk result (IsFullString side values.now cells.now parities.now shifts given) }
+    requires { length characters.now ≤ shifts }
+    ensures { IfOk result (λ string. string ≡ string_of side shifts is_given characters.now) }
 {
-    let text = full_string(alloc, side, values, cells, parities, shifts)?;
-    if given || says_something(text.as_slice(), side.filler()) {
-        return Ok(Some(Text::of(text)));
+    if !is_given && !says_something(characters, side.filler()) {
+        return Ok(None);
     }
-    Ok(None)
+    let mut text = Vec::with_capacity(alloc, shifts)?;
+    put_padded(
+        alloc,
+        &mut text,
+        side,
+        characters,
+        shifts - characters.len(),
+    )?;
+    Ok(Some(Text::of(text)))
 }
 
-/// One chain's string at full length, from the values of its cells.
-fn full_string(
-    alloc: Global,
-    side: Side,
-    values: &[u8],
-    cells: &[u32],
-    parities: &[bool],
-    shifts: usize,
-) -> Result<Vec<u8>, NoMemory>
-    requires parities { length parities.now ≡ length cells.now }
-    requires within { (i : ℕ) → i < length cells.now → slice_index_or cells.now i 0 < length values.now }
-    requires shifts { length cells.now ≤ shifts }
-    ensures full { IfOk result (λ text. length text.items ≡ shifts) }
-    ensures bits { IfOk result (λ text. (i : ℕ) → i < length cells.now
-        → slice_index_or text.items (index_of side shifts (length cells.now) i) (filler_of side)
-        ≡ flip_character_if (slice_index_or parities.now i false) (slice_index_or values.now (slice_index_or cells.now i 0) 0)) }
-    ensures others { IfOk result (λ text. (k : ℕ) → ((i : ℕ) → i < length cells.now → index_of side shifts (length cells.now) i ≢ k)
-        → slice_index_or text.items k (filler_of side) ≡ filler_of side) }
-{
-    let mut text = vec![in alloc; side.filler(); shifts]?;
-    for (place, cell) in cells.iter().enumerate() {
-        let index = side.index(shifts, cells.len(), place);
-        text[index] = flipped_if(values[*cell as usize], parities[place]);
-    }
-    Ok(text)
-}
-
-/// Whether another character than the filler stands in the string.
+/// Whether another character than the filler stands among these.
 fn says_something(text: &[u8], filler: u8) -> bool
     ensures { IsTrue result ↔ ((k : ℕ) × (k < length text.now) × (slice_index_or text.now k filler ≢ filler)) }
 {

@@ -1,11 +1,12 @@
-//! Plain shifting, which is proved to be the definition, beside retargeting.
+//! Plain shifting, one shift after the other, beside retargeting.
 
 ghost use Rattle.std.specs.Prelude.{◌≡◌, length};
 ghost use Rattle.stil_tester.specs.Shifting.{AreChains, HasCells, IsCallFor};
 
 use base_types::NoMemory;
+use call_checks::call_by_shifts;
 use std::alloc::Global;
-use stil_tester::{Chains, Symbol, scan_call};
+use stil_tester::{Chains, Symbol};
 use stil_types::ScanCall;
 
 /// Shifts both calls step by step, the written one from the cells as the read one finds them: their
@@ -28,8 +29,8 @@ pub fn agree(
     requires room { length as_written.old ≡ length as_read.old }
 {
     as_written.copy_from_slice(as_read);
-    let verdict = scan_call(alloc, old, as_read, read)?;
-    let retargeted = scan_call(alloc, new, as_written, written)?;
+    let verdict = call_by_shifts(alloc, old, as_read, read)?;
+    let retargeted = call_by_shifts(alloc, new, as_written, written)?;
     if *as_read == *as_written && verdict == retargeted {
         return Ok(Some(verdict));
     }

@@ -1,11 +1,13 @@
-//! Shifts scan chains and plays patterns, cell by cell.
+//! Scan chains and what patterns do on them: single shifts, scan calls worked out chain by chain, and plays.
 //!
 //! Floor: patterns, on stil_types and base_types.
 //! Contract: `shift_step`, `scan_call`, `play` and `Player` do what `specs/Shifting.antt` and
 //! `specs/Runs.antt` say, and `device_law` says that no device tells patterns of the same
-//! meaning apart. Begin with `specs/Symbols.antt`.
+//! meaning apart. Begin with `specs/Symbols.antt`; `specs/ChainCalls.antt` says what a scan call
+//! does to one chain alone.
 #![tactic(auto)]
 
+mod chain_call;
 mod chains;
 mod device;
 mod keeper;

@@ -64,7 +64,7 @@ pub fn stil_loop(
     requires size { length text.now < 2 ^ 32 }
     ensures value { IfOk result (λ new. new ≡ written_loop head.now.chains text.now body.now calls.now) }
 {
-    let mut out = Vec::new(alloc);
+    let mut out = Vec::with_capacity(alloc, text.len())?;
     let mut at = 0;
     let mut left = calls;
     let mut rest = body;

@@ -1,11 +1,11 @@
 //! The text of a scan call with other data.
 ghost use Rattle.std.specs.Prelude.{◌≡◌, ◌<◌, ◌^◌, ◌++◌, length, take, IfOk, OnOk, MatchOption, None, Some};
+ghost use Rattle.stil_tokens.specs.StilTokens.{tokens_in};
 ghost use Rattle.stil_writer.specs.Calls.{brace_end, item_line, side_line, item_lines, written_scan};
 
 use base_types::{NoMemory, Text};
 use std::alloc::Global;
-use stil_syntax::Stretch;
-use stil_tokens::stil_tokens;
+use stil_tokens::stil_lexer;
 use stil_types::{ScanCall, ScanChainDecl, StilHead};
 
 /// Appends the line of a string.
@@ -60,12 +60,13 @@ fn front(text: &[u8], end: usize) -> &[u8]
     if end < text.len() { &text[..end] } else { text }
 }
 
-/// The place behind the first brace that opens a block.
-fn brace_end(tokens: &Stretch<'_, '_>) -> Option<u32>
-    ensures value { MatchOption result (brace_end tokens.now ≡ None) (λ n. brace_end tokens.now ≡ Some n) }
+/// The place behind the first brace that opens a block. What stands behind it isn't looked at.
+fn brace_end(text: &[u8]) -> Option<u32>
+    requires size { length text.now < 2 ^ 32 }
+    ensures value { MatchOption result (brace_end (tokens_in text.now) ≡ None) (λ n. brace_end (tokens_in text.now) ≡ Some n) }
 {
-    let mut rest = tokens.again();
-    while let Some(token) = rest.next() {
+    let mut tokens = stil_lexer(text);
+    while let Some(token) = tokens.next() {
         if token.text == b"{".as_slice() {
             return Some(token.span.end);
         }
@@ -87,11 +88,10 @@ pub fn stil_statement(
     if call.shifts == 0 {
         return Text::copy(alloc, text);
     }
-    let spans = stil_tokens(alloc, text)?;
-    let Some(end) = brace_end(&Stretch::of(text, &spans)) else {
+    let Some(end) = brace_end(text) else {
         return Text::copy(alloc, text);
     };
-    let mut out = Vec::new(alloc);
+    let mut out = Vec::with_capacity(alloc, text.len())?;
     out.extend_from_slice(front(text, end as usize))?;
     out.push(b'\n')?;
     put_lines(
