@@ -1,8 +1,9 @@
 pub mod Accepted
 mod Answered
 mod Examples
-mod Reaches
 mod Placed
+mod Plain
 pub mod Refusals
 mod Sorted
 pub mod Stated
+mod Tables

@@ -1,5 +1,7 @@
 -- Each call of a statement without fault is accepted by the chains of the head.
 use Rattle.std.proofs.Common.{◌≡◌, ℕ, Bool, true, false, cond, List, [], ◌∷◌, map, All, Option, Some, None, refl, subst}
+use Rattle.std.specs.List.{list_any}
+use Rattle.std.proofs.lemmas.Bool.{or_from}
 use Rattle.std.proofs.lemmas.Option.{same_Some}
 use Rattle.std.proofs.lemmas.List.Elements.{All-cons, All-nil}
 use Rattle.token_forms.specs.Tokens.{Token, place_of}
@@ -14,7 +16,8 @@ use Rattle.stil_syntax.specs.Shapes.{shape_of, body_statements}
 use Rattle.stil_calls.specs.Scans.{gives_twice, has_unsound, is_foreign, is_short, is_long, call_of}
 use Rattle.stil_calls.specs.declared.judging.Judging.{Judging}
 use Rattle.stil_calls.specs.declared.judging.Judging.TheVariants.{Form, Lengths}
-use Rattle.stil_calls.specs.Faults.{kind_of, line_in, fault_or, body_fault, shape_fault}
+use Rattle.stil_calls.specs.Given.{names_twice}
+use Rattle.stil_calls.specs.Faults.{is_pattern_syntax, kind_of, line_in, fault_or, body_fault, shape_fault}
 use Rattle.stil_calls.specs.Statements.{call_in, body_of, is_read, statement_of, IsAcceptedBy, IsAcceptedIn, AreAcceptedBy}
 use Rattle.stil_calls.proofs.Accepted.{is_call, is_accepted}
 
@@ -69,6 +72,19 @@ module _ (judging : Judging) (head : StilHead) (line : ℕ) (text : List ℕ) wh
       subst (AreAcceptedBy judging head) (same_Some _ _ e) (scan_accepted judging head items ((clean (kind_of judging head (Scan items)) line None sound).0))
   are_accepted pattern (Loop times body) s sound e =
       subst (AreAcceptedBy judging head) (same_Some _ _ e) (body_accepted (body_statements body) (loop_clean judging head line text times body sound))
+
+  body_once : (ss : List (List Token)) → body_fault judging head line text ss ≡ None → list_any (λ s. is_pattern_syntax (shape_of head true s)) ss ≡ false
+  body_once [] e = refl
+  body_once (s ∷ ss) e =
+      let p = clean (kind_of judging head (shape_of head true s)) (line_in line text (place_of s).start) (body_fault judging head line text ss) e in
+      or_from (is_pattern_syntax (shape_of head true s)) (list_any (λ s. is_pattern_syntax (shape_of head true s)) ss) ((passed (is_pattern_syntax (shape_of head true s)) _ _ (p.0)).0) (body_once ss (p.1))
+
+  pub is_once : (shape : Shape) → shape_fault judging head line text shape ≡ None → names_twice head shape ≡ false
+  is_once NoForm sound = refl
+  is_once Unsupported sound = refl
+  is_once Other sound = refl
+  is_once (Scan items) sound = (passed (is_pattern_syntax (Scan items)) _ _ ((clean (kind_of judging head (Scan items)) line None sound).0)).0
+  is_once (Loop times body) sound = body_once (body_statements body) (loop_clean judging head line text times body sound)
 
   pub is_read_so : (shape : Shape) → shape_fault judging head line text shape ≡ None → is_read shape ≡ true
   is_read_so NoForm sound = absurd cc

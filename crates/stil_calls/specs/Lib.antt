@@ -1,6 +1,8 @@
 pub mod Faults
+pub mod Given
 pub mod Laws
 pub mod Parts
+pub mod Reaches
 pub mod Repeats
 pub mod Scans
 pub mod Statements

@@ -1,7 +1,7 @@
 -- The data of a scan call (IEEE 1450-1999, Shift, in this profile): characters that stand for themselves, and `\r`, digits of
 -- a number from 1, blanks, and one character that stands for so many. Of data that isn't only runs, a token that is none
 -- begins with a byte that is of no alphabet.
-use Rattle.std.specs.Prelude.{ℕ, ◌+◌, Bool, true, false, ◌&&◌, ◌||◌, ◌==◌, if◌then◌else◌, max, List, [], ◌∷◌, ◌++◌, replicate, Option, Some, None}
+use Rattle.std.specs.Prelude.{ℕ, ◌+◌, Bool, true, false, ◌&&◌, ◌||◌, ◌==◌, if◌then◌else◌, max, List, [], ◌∷◌, ◌++◌, map, replicate, codes, Option, Some, None}
 use Rattle.std.specs.List.{list_all}
 use Rattle.stil_types.specs.Calls.{is_load_character, is_compare_character, is_expectation}
 use Rattle.stil_calls.specs.declared.repeats.Repeat.{Repeat}
@@ -58,10 +58,19 @@ whole_from e (b ∷ bs) = whole_from (behind e b) bs
 abbrev pub repeats_of : List ℕ → List Repeat
 repeats_of bytes = repeats_from Outside bytes
 
+-- each byte for itself
+abbrev pub singly : List ℕ → List Repeat
+singly bytes = map (λ b. repeat 1 b) bytes
+
 -- the alphabet of a side
 abbrev pub is_character : Side → ℕ → Bool
 is_character Load b = is_load_character b
 is_character Compare b = is_compare_character b
+
+-- its characters in a list
+abbrev pub alphabet : Side → List ℕ
+alphabet Load = codes "01N"
+alphabet Compare = codes "LHX"
 
 -- the data are of the side's alphabet, with whole escapes
 abbrev pub is_sound : Side → List ℕ → Bool

@@ -1,9 +1,12 @@
 //! What is wrong with a statement.
 ghost use Rattle.std.specs.Prelude.{◌≡◌, IfOk};
 ghost use Rattle.stil_calls.specs.Faults.{size_kind, kind_of};
+ghost use Rattle.stil_calls.specs.Given.{AreGiven};
 
 use crate::judging::{Judging, by_lengths};
-use crate::scan::{has_unsound, is_foreign, is_long, is_short, is_vast, shifts_in};
+use crate::scan::{
+    Given, given_to, has_unsound, is_foreign, is_long, is_short, is_vast, shifts_in,
+};
 use crate::twice::gives_twice;
 use base_types::{Kind, NoMemory};
 use std::alloc::Global;
@@ -11,14 +14,20 @@ use stil_syntax::{Item, Shape};
 use stil_types::{ScanChainDecl, StilHead};
 
 /// The least kind that holds of how much a scan call gives, and counts.
-fn size_kind(judging: Judging, chains: &[ScanChainDecl], items: &[Item]) -> Option<Kind>
+fn size_kind(
+    judging: Judging,
+    chains: &[ScanChainDecl],
+    items: &[Item],
+    given: &Given<'_>,
+) -> Option<Kind>
+    requires given { AreGiven chains.now items.now given.now.loads.items given.now.compares.items }
     ensures value { result ≡ size_kind judging chains.now items.now }
 {
-    let shifts = shifts_in(chains, items);
+    let shifts = shifts_in(chains, items, given);
     if by_lengths(judging) && is_short(chains, items, shifts) {
         return Some(Kind::ShortLoad);
     }
-    if by_lengths(judging) && is_long(chains, items) {
+    if by_lengths(judging) && is_long(chains, items, given) {
         return Some(Kind::LongCompare);
     }
     if is_vast(chains, items, shifts) {
@@ -40,13 +49,14 @@ fn scan_kind(
     if gives_twice(alloc, items)? {
         return Ok(Some(Kind::PatternSyntax));
     }
-    if has_unsound(chains, items) {
+    let given = given_to(alloc, chains, items)?;
+    if has_unsound(chains, items, &given) {
         return Ok(Some(Kind::ScanCharacter));
     }
     if is_foreign(chains, items) {
         return Ok(Some(Kind::ForeignData));
     }
-    Ok(size_kind(judging, chains, items))
+    Ok(size_kind(judging, chains, items, &given))
 }
 
 /// The least kind that holds of a statement and counts.

@@ -1,10 +1,15 @@
 //! The data of a scan call as repeats of characters, of which none is written out.
-ghost use Rattle.std.specs.Prelude.{◌≡◌, ◌∷◌, [], ◌++◌, ◌<◌, ◌^◌, ◌-◌, min, replicate, length, MatchOption, IfSome, IfOk};
-ghost use Rattle.stil_calls.specs.Repeats.{repeats_from, repeats_of, whole_from, is_sound, count_of, reach_from, written};
+ghost use Rattle.std.specs.Prelude.{◌≡◌, ◌∷◌, [], ◌++◌, ◌<◌, ◌≤◌, ◌^◌, ◌-◌, List, min, replicate, length, take, drop, MatchOption, IfSome, IfOk};
+ghost use Rattle.std.specs.List.{list_all};
+ghost use Rattle.stil_calls.specs.declared.repeats.Repeat.{Repeat as ghost_repeat};
+ghost use Rattle.stil_calls.specs.Repeats.{repeats_from, repeats_of, whole_from, singly, alphabet, is_character, is_sound, count_of, reach_from, written};
+ghost use Rattle.stil_calls.specs.Reaches.{Reaching};
 ghost use Rattle.stil_types.specs.Calls.{is_expectation};
 
 use crate::escape::{behind, completed, is_character, is_outside};
 use base_types::{NoMemory, Text};
+use lane_kernels::any_byte_outside;
+use memchr::{memchr2, memrchr2};
 use std::alloc::Global;
 
 /// A character so many times.
@@ -36,6 +41,64 @@ pub enum Side {
     Compare,
 }
 
+/// How many bytes stand before the first blank or backslash: outside an escape they stand for themselves.
+fn unescaped_len(bytes: &[u8]) -> usize
+    ensures within { result ≤ length bytes.now }
+    ensures value { repeats_of bytes.now ≡ singly (take result bytes.now) ++ repeats_of (drop result bytes.now) }
+{
+    match memchr2(b' ', b'\\', bytes) {
+        Some(before) => before,
+        None => bytes.len(),
+    }
+}
+
+/// How many bytes at the front stand for themselves.
+#[inline(always)]
+fn plain_len(escape: Escape, bytes: &[u8]) -> usize
+    ensures within { result ≤ length bytes.now }
+    ensures value { repeats_from escape bytes.now ≡ singly (take result bytes.now) ++ repeats_from escape (drop result bytes.now) }
+{
+    match escape {
+        Escape::Outside => unescaped_len(bytes),
+        _ => 0,
+    }
+}
+
+/// The characters of a side.
+fn alphabet(side: Side) -> &'static [u8]
+    ensures value { result.now ≡ alphabet side }
+{
+    match side {
+        Side::Load => b"01N".as_slice(),
+        Side::Compare => b"LHX".as_slice(),
+    }
+}
+
+/// How many bytes stand before the first that is no character of a side; outside an escape they stand for themselves.
+fn alphabet_len(side: Side, bytes: &[u8]) -> usize
+    ensures within { result ≤ length bytes.now }
+    ensures sound { list_all (λ r. is_character side r.character) (repeats_of bytes.now) ≡ list_all (λ r. is_character side r.character) (repeats_of (drop result bytes.now)) }
+    ensures whole { whole_from Escape.Outside bytes.now ≡ whole_from Escape.Outside (drop result bytes.now) }
+{
+    match any_byte_outside(bytes, alphabet(side)) {
+        Some(before) => before,
+        None => bytes.len(),
+    }
+}
+
+/// How many bytes at the front are characters of a side that stand for themselves.
+#[inline(always)]
+fn sound_len(side: Side, escape: Escape, bytes: &[u8]) -> usize
+    ensures within { result ≤ length bytes.now }
+    ensures sound { list_all (λ r. is_character side r.character) (repeats_from escape bytes.now) ≡ list_all (λ r. is_character side r.character) (repeats_from escape (drop result bytes.now)) }
+    ensures whole { whole_from escape bytes.now ≡ whole_from escape (drop result bytes.now) }
+{
+    match escape {
+        Escape::Outside => alphabet_len(side, bytes),
+        _ => 0,
+    }
+}
+
 /// Data from a place on.
 #[derive(Drop)]
 pub(crate) struct Repeats<'t> {
@@ -52,6 +115,30 @@ impl<'t> Repeats<'t> {
             bytes,
             escape: Escape::Outside,
         }
+    }
+
+    /// Takes the bytes that stand for themselves before the next blank or escape.
+    #[inline(always)]
+    fn plain(&mut self) -> &'t [u8]
+        ensures value { repeats_from self.old.escape self.old.bytes.now ≡ singly result.now ++ repeats_from self.new.escape self.new.bytes.now }
+        ensures shorter { length self.new.bytes.now ≤ length self.old.bytes.now }
+    {
+        let (plain, rest) = self.bytes.split_at(plain_len(self.escape, self.bytes));
+        self.bytes = rest;
+        plain
+    }
+
+    /// Passes characters of a side that stand for themselves before the next blank, escape or other byte.
+    #[inline(always)]
+    fn pass_sound(&mut self, side: Side)
+        ensures sound { list_all (λ r. is_character side r.character) (repeats_from self.old.escape self.old.bytes.now) ≡ list_all (λ r. is_character side r.character) (repeats_from self.new.escape self.new.bytes.now) }
+        ensures whole { whole_from self.old.escape self.old.bytes.now ≡ whole_from self.new.escape self.new.bytes.now }
+        ensures shorter { length self.new.bytes.now ≤ length self.old.bytes.now }
+    {
+        let (_passed, rest) = self
+            .bytes
+            .split_at(sound_len(side, self.escape, self.bytes));
+        self.bytes = rest;
     }
 
     /// Takes the next repeat.
@@ -81,22 +168,28 @@ pub(crate) fn is_sound(side: Side, bytes: &[u8]) -> bool
     ensures value { result ≡ is_sound side bytes.now }
 {
     let mut repeats = Repeats::of(bytes);
+    repeats.pass_sound(side);
     while let Some(repeat) = repeats.next() {
         if !is_character(side, repeat.character) {
             return false;
         }
+        repeats.pass_sound(side);
     }
     is_outside(repeats.escape)
 }
 
 /// How many characters data stand for; the greatest number where they are more.
+#[tactic(auto, using(crate::proofs::Plain::count_singly))]
 pub(crate) fn count_of(bytes: &[u8]) -> u64
     ensures value { result ≡ min (count_of (repeats_of bytes.now)) (2 ^ 64 - 1) }
 {
     let mut repeats = Repeats::of(bytes);
-    let mut count: u64 = 0;
+    let mut count = repeats.plain().len() as u64;
     while let Some(repeat) = repeats.next() {
-        count = count.saturating_add(repeat.times);
+        let plain = repeats.plain();
+        count = count
+            .saturating_add(repeat.times)
+            .saturating_add(plain.len() as u64);
     }
     count
 }
@@ -108,41 +201,88 @@ fn is_expectation(character: u8) -> bool
     character == b'L' || character == b'H'
 }
 
+/// How many characters of data are read, and how many of them stand up to and with the last `L` or `H`.
+#[derive(Clone, Copy)]
+struct Reach {
+    before: u64,
+    reach: u64,
+}
+
+impl Reach {
+    /// Behind bytes that stand for themselves.
+    fn behind_plain(self, plain: &[u8]) -> Reach
+        ensures reaching { (left all : List ghost_repeat) → Reaching self.before self.reach (singly plain.now ++ left) all → Reaching result.before result.reach left all }
+    {
+        let before = self.before.saturating_add(plain.len() as u64);
+        match memrchr2(b'L', b'H', plain) {
+            Some(at) => Reach {
+                before,
+                reach: self.before.saturating_add(at as u64 + 1),
+            },
+            None => Reach {
+                before,
+                reach: self.reach,
+            },
+        }
+    }
+
+    /// Behind a repeat.
+    fn behind_repeat(self, repeat: Repeat) -> Reach
+        ensures reaching { (left all : List ghost_repeat) → Reaching self.before self.reach (repeat ∷ left) all → Reaching result.before result.reach left all }
+    {
+        let before = self.before.saturating_add(repeat.times);
+        if is_expectation(repeat.character) {
+            return Reach {
+                before,
+                reach: before,
+            };
+        }
+        Reach {
+            before,
+            reach: self.reach,
+        }
+    }
+}
+
 /// How many characters stand up to and with the last `L` or `H`; the greatest number where they are more.
 pub(crate) fn reach_of(bytes: &[u8]) -> u64
     ensures value { result ≡ min (reach_from 0 (repeats_of bytes.now)) (2 ^ 64 - 1) }
 {
     let mut repeats = Repeats::of(bytes);
-    let mut before: u64 = 0;
-    let mut reach: u64 = 0;
+    let start = Reach {
+        before: 0,
+        reach: 0,
+    };
+    let mut now = start.behind_plain(repeats.plain());
     while let Some(repeat) = repeats.next() {
-        before = before.saturating_add(repeat.times);
-        if is_expectation(repeat.character) {
-            reach = before;
-        }
+        now = now.behind_repeat(repeat).behind_plain(repeats.plain());
     }
-    reach
+    now.reach
 }
 
 /// Puts a character so many times behind a text.
 fn put(text: &mut Vec<u8>, repeat: Repeat) -> Result<(), NoMemory>
     ensures value { IfOk result (λ done. text.new.items ≡ text.old.items ++ replicate repeat.times repeat.character) }
 {
-    for _time in 0..repeat.times {
-        text.push(repeat.character)?;
-    }
+    let len = text
+        .len()
+        .checked_add(repeat.times as usize)
+        .ok_or(NoMemory)?;
+    text.resize(len, repeat.character)?;
     Ok(())
 }
 
 /// The characters of data, written out.
+#[tactic(auto, using(crate::proofs::Plain::written_singly))]
 pub(crate) fn write_out(alloc: Global, bytes: &[u8]) -> Result<Text, NoMemory>
     ensures value { IfOk result (λ text. text ≡ written (repeats_of bytes.now)) }
 {
     let mut repeats = Repeats::of(bytes);
-    let mut text = Vec::new(alloc);
+    let mut text = Vec::with_capacity(alloc, count_of(bytes) as usize)?;
+    text.extend_from_slice(repeats.plain())?;
     while let Some(repeat) = repeats.next() {
         put(&mut text, repeat)?;
+        text.extend_from_slice(repeats.plain())?;
     }
-    text.shrink_to_fit();
     Ok(Text::of(text))
 }

@@ -1,10 +1,14 @@
 //! A scan call beside the chains of the head.
-ghost use Rattle.std.specs.Prelude.{◌≡◌, ◌^◌, ◌-◌, ◌||◌, max, min, nat_lt, Some, None, MatchOption};
+ghost use Rattle.std.specs.Prelude.{◌≡◌, ◌^◌, ◌-◌, ◌||◌, false, length, map, max, min, nat_lt, option_copied, IfOk};
 ghost use Rattle.std.specs.List.{list_any};
+ghost use Rattle.std.specs.Str.{bytes_eq};
 ghost use Rattle.stil_types.specs.Calls.{most_bits};
-ghost use Rattle.stil_calls.specs.Scans.{has_name, gives_twice, data_for, port, given, is_port, is_foreign, is_unsound, has_unsound, count_in, reach_in, longer, shifts_in, bits_of, is_short, is_long, is_vast};
+ghost use Rattle.stil_calls.specs.Scans.{has_name, gives_twice, data_for, port, given, is_port, is_foreign, is_unsound, has_unsound, count_in, reach_in, shifts_in, bits_of, is_short, is_long, is_vast};
+ghost use Rattle.stil_calls.specs.Given.{data_of, longest_in, reach_beyond, AreGiven};
 
 use crate::repeats::{Side, count_of, is_sound, reach_of};
+use base_types::NoMemory;
+use std::alloc::Global;
 use stil_syntax::Item;
 use stil_types::ScanChainDecl;
 
@@ -33,7 +37,7 @@ pub(crate) fn has_name_twice(items: &[Item]) -> bool
 
 /// The data given to a name.
 fn data_for<'i>(items: &'i [Item], name: &[u8]) -> Option<&'i [u8]>
-    ensures value { MatchOption result (data_for items.now name.now ≡ None) (λ bytes. data_for items.now name.now ≡ Some bytes.now) }
+    ensures value { option_copied result ≡ data_for items.now name.now }
 {
     let mut at = 0;
     while at < items.len() {
@@ -45,6 +49,24 @@ fn data_for<'i>(items: &'i [Item], name: &[u8]) -> Option<&'i [u8]>
     None
 }
 
+/// The same where no name is given twice: looked for from a place on, where they stand if the items come in the order of
+/// the chains, and then among all. The place goes on behind them.
+fn data_near<'i>(items: &'i [Item], place: &mut usize, name: &[u8]) -> Option<&'i [u8]>
+    requires once { gives_twice items.now ≡ false }
+    ensures value { option_copied result ≡ data_for items.now name.now }
+{
+    let mut at = *place;
+    while at < items.len() {
+        let item = &items[at];
+        if item.name.bytes() == name {
+            *place = at + 1;
+            return Some(item.data.bytes());
+        }
+        at += 1;
+    }
+    data_for(items, name)
+}
+
 fn port(side: Side, chain: &ScanChainDecl) -> &[u8]
     ensures value { result.now ≡ port side chain.now }
 {
@@ -54,73 +76,147 @@ fn port(side: Side, chain: &ScanChainDecl) -> &[u8]
     }
 }
 
-/// The data given to a chain.
-pub(crate) fn given<'i>(side: Side, items: &'i [Item], chain: &ScanChainDecl) -> Option<&'i [u8]>
-    ensures value { MatchOption result (given side items.now chain.now ≡ None) (λ bytes. given side items.now chain.now ≡ Some bytes.now) }
+/// The data given to the chains on a side.
+fn given_on<'i>(
+    alloc: Global,
+    side: Side,
+    chains: &[ScanChainDecl],
+    items: &'i [Item],
+) -> Result<Vec<Option<&'i [u8]>>, NoMemory>
+    requires once { gives_twice items.now ≡ false }
+    ensures value { IfOk result (λ each. data_of each.items ≡ map (given side items.now) chains.now) }
 {
-    data_for(items, port(side, chain))
+    let mut each = Vec::with_capacity(alloc, chains.len())?;
+    let mut place = 0;
+    for chain in chains {
+        each.push(data_near(items, &mut place, port(side, chain)))?;
+    }
+    Ok(each)
+}
+
+/// What a scan call gives the chains, in their order.
+#[derive(Drop)]
+pub(crate) struct Given<'i> {
+    pub(crate) loads: Vec<Option<&'i [u8]>>,
+    pub(crate) compares: Vec<Option<&'i [u8]>>,
+}
+
+/// What items that give no name twice give the chains.
+pub(crate) fn given_to<'i>(
+    alloc: Global,
+    chains: &[ScanChainDecl],
+    items: &'i [Item],
+) -> Result<Given<'i>, NoMemory>
+    requires once { gives_twice items.now ≡ false }
+    ensures value { IfOk result (λ given. AreGiven chains.now items.now given.loads.items given.compares.items) }
+{
+    let loads = given_on(alloc, Side::Load, chains, items)?;
+    let compares = given_on(alloc, Side::Compare, chains, items)?;
+    Ok(Given { loads, compares })
+}
+
+/// Whether a chain has the port.
+fn has_port(chain: &ScanChainDecl, name: &[u8]) -> bool
+    ensures value { result ≡ (bytes_eq name.now chain.now.scan_in || bytes_eq name.now chain.now.scan_out) }
+{
+    name == chain.scan_in.bytes() || name == chain.scan_out.bytes()
 }
 
 fn is_port(chains: &[ScanChainDecl], name: &[u8]) -> bool
     ensures value { result ≡ is_port chains.now name.now }
 {
-    chains.iter().any(|c| name == c.scan_in.bytes() || name == c.scan_out.bytes())
+    chains.iter().any(|c| has_port(c, name))
+}
+
+/// The same, where the chain is looked for from a place on, and then among all. The place becomes its own.
+fn is_port_near(chains: &[ScanChainDecl], place: &mut usize, name: &[u8]) -> bool
+    ensures value { result ≡ is_port chains.now name.now }
+{
+    let mut at = *place;
+    while at < chains.len() {
+        if has_port(&chains[at], name) {
+            *place = at;
+            return true;
+        }
+        at += 1;
+    }
+    is_port(chains, name)
 }
 
 /// Whether data are given to a name that is no chain's ScanIn or ScanOut.
 pub(crate) fn is_foreign(chains: &[ScanChainDecl], items: &[Item]) -> bool
     ensures value { result ≡ is_foreign chains.now items.now }
 {
-    items.iter().any(|item| !is_port(chains, item.name.bytes()))
+    let mut place = 0;
+    let mut at = 0;
+    while at < items.len() {
+        if !is_port_near(chains, &mut place, items[at].name.bytes()) {
+            return true;
+        }
+        at += 1;
+    }
+    false
 }
 
-fn is_unsound(side: Side, items: &[Item], chain: &ScanChainDecl) -> bool
-    ensures value { result ≡ is_unsound side (given side items.now chain.now) }
+fn is_unsound(side: Side, given: Option<&[u8]>) -> bool
+    ensures value { result ≡ is_unsound side (option_copied given.entry) }
 {
-    match given(side, items, chain) {
+    match given {
         Some(bytes) => !is_sound(side, bytes),
         None => false,
     }
 }
 
-/// Whether a chain is given data with another character or escape than their alphabet has.
-pub(crate) fn has_unsound(chains: &[ScanChainDecl], items: &[Item]) -> bool
-    ensures value { result ≡ has_unsound chains.now items.now }
+fn has_unsound_on(side: Side, each: &[Option<&[u8]>]) -> bool
+    ensures value { result ≡ list_any (λ given. is_unsound side (option_copied given)) each.now }
 {
-    chains.iter().any(|c| is_unsound(Side::Load, items, c) || is_unsound(Side::Compare, items, c))
+    each.iter().any(|given| is_unsound(side, *given))
 }
 
-fn count_in(side: Side, items: &[Item], chain: &ScanChainDecl) -> u64
-    ensures value { result ≡ min (count_in (given side items.now chain.now)) (2 ^ 64 - 1) }
+/// Whether a chain is given data with another character or escape than their alphabet has.
+pub(crate) fn has_unsound(chains: &[ScanChainDecl], items: &[Item], given: &Given<'_>) -> bool
+    requires given { AreGiven chains.now items.now given.now.loads.items given.now.compares.items }
+    ensures value { result ≡ has_unsound chains.now items.now }
 {
-    match given(side, items, chain) {
+    has_unsound_on(Side::Load, &given.loads) || has_unsound_on(Side::Compare, &given.compares)
+}
+
+fn count_in(given: Option<&[u8]>) -> u64
+    ensures value { result ≡ min (count_in (option_copied given.entry)) (2 ^ 64 - 1) }
+{
+    match given {
         Some(bytes) => count_of(bytes),
         None => 0,
     }
 }
 
-fn reach_in(items: &[Item], chain: &ScanChainDecl) -> u64
-    ensures value { result ≡ min (reach_in (given Side.Compare items.now chain.now)) (2 ^ 64 - 1) }
+fn reach_in(given: Option<&[u8]>) -> u64
+    ensures value { result ≡ min (reach_in (option_copied given.entry)) (2 ^ 64 - 1) }
 {
-    match given(Side::Compare, items, chain) {
+    match given {
         Some(bytes) => reach_of(bytes),
         None => 0,
     }
 }
 
-/// The length of the longest string, at most the greatest number.
-pub(crate) fn shifts_in(chains: &[ScanChainDecl], items: &[Item]) -> u64
-    ensures value { result ≡ min (shifts_in chains.now items.now) (2 ^ 64 - 1) }
+fn longest_in(each: &[Option<&[u8]>]) -> u64
+    ensures value { result ≡ min (longest_in (data_of each.now)) (2 ^ 64 - 1) }
 {
-    let mut shifts: u64 = 0;
+    let mut longest: u64 = 0;
     let mut at = 0;
-    while at < chains.len() {
-        let load = count_in(Side::Load, items, &chains[at]);
-        let compare = count_in(Side::Compare, items, &chains[at]);
-        shifts = shifts.max(load.max(compare));
+    while at < each.len() {
+        longest = longest.max(count_in(each[at]));
         at += 1;
     }
-    shifts
+    longest
+}
+
+/// The length of the longest string, at most the greatest number.
+pub(crate) fn shifts_in(chains: &[ScanChainDecl], items: &[Item], given: &Given<'_>) -> u64
+    requires given { AreGiven chains.now items.now given.now.loads.items given.now.compares.items }
+    ensures value { result ≡ min (shifts_in chains.now items.now) (2 ^ 64 - 1) }
+{
+    longest_in(&given.loads).max(longest_in(&given.compares))
 }
 
 fn most_bits(chains: &[ScanChainDecl]) -> u32
@@ -144,18 +240,34 @@ pub(crate) fn is_short(chains: &[ScanChainDecl], items: &[Item], shifts: u64) ->
     0 < shifts && shifts < u64::from(most)
 }
 
-fn is_beyond(items: &[Item], chain: &ScanChainDecl) -> bool
-    ensures value { result ≡ nat_lt chain.now.length (reach_in (given Side.Compare items.now chain.now)) }
+fn is_beyond(chain: &ScanChainDecl, given: Option<&[u8]>) -> bool
+    ensures value { result ≡ nat_lt chain.now.length (reach_in (option_copied given.entry)) }
 {
     let bits = chain.length;
-    u64::from(bits) < reach_in(items, chain)
+    u64::from(bits) < reach_in(given)
+}
+
+fn reach_beyond(chains: &[ScanChainDecl], each: &[Option<&[u8]>]) -> bool
+    requires lengths { length each.now ≡ length chains.now }
+    ensures value { result ≡ reach_beyond chains.now (data_of each.now) }
+{
+    let mut at = 0;
+    while at < chains.len() {
+        if is_beyond(&chains[at], each[at]) {
+            return true;
+        }
+        at += 1;
+    }
+    false
 }
 
 /// Whether an `L` or `H` stands at an index that isn't below its chain's bits.
-pub(crate) fn is_long(chains: &[ScanChainDecl], items: &[Item]) -> bool
+#[tactic(auto, using(crate::proofs::Tables::beyond_is, crate::proofs::Tables::same_length))]
+pub(crate) fn is_long(chains: &[ScanChainDecl], items: &[Item], given: &Given<'_>) -> bool
+    requires given { AreGiven chains.now items.now given.now.loads.items given.now.compares.items }
     ensures value { result ≡ is_long chains.now items.now }
 {
-    chains.iter().any(|c| is_beyond(items, c))
+    reach_beyond(chains, &given.compares)
 }
 
 /// Whether a call that shifts so often has a string of more characters than are taken.

@@ -1,8 +1,11 @@
 //! The statements of a Pattern.
-ghost use Rattle.std.specs.Prelude.{◌≡◌, ◌<◌, ◌+◌, ◌^◌, true, length, map, IfOk, Some};
+ghost use Rattle.std.specs.Prelude.{◌≡◌, ◌<◌, ◌+◌, ◌^◌, true, false, length, map, IfOk, Some};
+ghost use Rattle.std.specs.List.{list_any};
 ghost use Rattle.base_types.specs.FirstFault.{IfFault, IsFirstFault};
 ghost use Rattle.token_forms.specs.Tokens.{place_of};
 ghost use Rattle.stil_calls.specs.Statements.{call_in, body_of, is_read, statement_of, DenotesBy, DenotesStatement, HoldsBy, HoldsInStatement, AreAcceptedBy, AreAccepted};
+ghost use Rattle.stil_calls.specs.Faults.{is_pattern_syntax};
+ghost use Rattle.stil_calls.specs.Given.{names_twice};
 ghost use Rattle.stil_syntax.specs.Shapes.{shape_of, body_statements};
 ghost use Rattle.stil_types.specs.Statements.{IsPlaced};
 
@@ -21,6 +24,7 @@ fn call_in(
     head: &StilHead,
     shape: &Shape<'_, '_>,
 ) -> Result<Option<ScanCall>, NoMemory>
+    requires once { is_pattern_syntax shape.now ≡ false }
     ensures value { IfOk result (λ call. call ≡ call_in head.now shape.now) }
 {
     match shape {
@@ -38,6 +42,7 @@ fn body_of(
     statement: &Stretch<'_, '_>,
 ) -> Result<BodyStatement, NoMemory>
     requires room { line + length lines.old < 2 ^ 64 }
+    requires once { is_pattern_syntax (shape_of head.now true statement.now) ≡ false }
     ensures value { IfOk result (λ s. s ≡ body_of head.now line lines.old statement.now) }
     ensures same { lines.new ≡ lines.old }
 {
@@ -61,6 +66,7 @@ fn body_of_all(
     body: &Stretch<'_, '_>,
 ) -> Result<Rows<BodyStatement>, NoMemory>
     requires room { line + length text.now < 2 ^ 64 }
+    requires once { list_any (λ s. is_pattern_syntax (shape_of head.now true s)) (body_statements body.now) ≡ false }
     ensures value { IfOk result (λ rows. rows ≡ map (body_of head.now line text.now) (body_statements body.now)) }
 {
     let mut lines = Lines::of(text);
@@ -85,6 +91,7 @@ fn statement_of(
 ) -> Result<PatternStatement, NoMemory>
     requires room { line + length text.now < 2 ^ 64 }
     requires read { is_read shape.now ≡ true }
+    requires once { names_twice head.now shape.now ≡ false }
     ensures value { IfOk result (λ s. statement_of head.now pattern line text.now shape.now ≡ Some s) }
 {
     let copy = Text::copy(alloc, text)?;

@@ -1,4 +1,5 @@
 pub mod BytesKept
+mod CalmRuns
 pub mod Choices
 pub mod Comings
 pub mod EndLaw
@@ -7,7 +8,6 @@ pub mod GapLemmas
 pub mod HeadStable
 pub mod PartStable
 pub mod Resumed
-pub mod Runs
 pub mod Scans
 pub mod Searches
 pub mod ShownLaw

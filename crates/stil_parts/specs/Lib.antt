@@ -1,3 +1,4 @@
+pub mod Calm
 pub mod Coming
 pub mod Deciding
 pub mod Ending

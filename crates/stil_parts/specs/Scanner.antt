@@ -1,6 +1,6 @@
 -- Where a statement of a STIL text ends (IEEE 1450-1999, clause 6), read byte by byte: what a byte makes of what was read
 -- before it doesn't hang on the bytes behind it.
-use Rattle.std.specs.Prelude.{◌≡◌, ℕ, ◌+◌, ◌-◌, ◌≤◌, Bool, true, false, ◌&&◌, ◌||◌, ◌==◌, if◌then◌else◌, List, [], ◌∷◌, length, drop, Option, Some, None}
+use Rattle.std.specs.Prelude.{◌≡◌, ℕ, ◌+◌, ◌-◌, ◌≤◌, Bool, true, false, ◌&&◌, ◌==◌, if◌then◌else◌, List, [], ◌∷◌, length, drop, Option, Some, None}
 use Rattle.stil_tokens.specs.StilTokens.{is_blank, is_quote, other_mark}
 use Rattle.stil_parts.specs.declared.word.Word.{Word}
 use Rattle.stil_parts.specs.Words.{word_byte, word_ends, word_settled, quote_word, mark_word, names_pattern}
@@ -64,17 +64,6 @@ mode_step (Note star) word depth b =
 -- Pattern
 unfoldable pub step : Scan → ℕ → After
 step s b = mode_step s.mode s.word s.depth b
-
--- the last byte is one of a run
-abbrev pub is_in_run : Mode → Bool
-is_in_run Free = false
-is_in_run Run = true
-is_in_run Slash = false
-is_in_run (Quoted quote) = false
-is_in_run Line = false
-is_in_run (Block star) = false
-is_in_run Brace = false
-is_in_run (Note star) = false
 
 -- a brace came last
 abbrev pub is_brace : Mode → Bool

@@ -1,7 +1,7 @@
 //! The parts of a STIL text, whole or in pieces: what stands first at a point of it, gaps, statements and faults of size
 //! (IEEE 1450-1999, clause 6).
 //!
-//! Floor: readers, on lane_kernels, base_types, token_forms and stil_tokens.
+//! Floor: readers, on lane_kernels, base_types, token_forms, stil_tokens and `memchr`.
 //! Contract: `decide` answers what comes of a text at a point, whatever may follow (`specs/Deciding.antt`); what a text
 //! denotes stands in `specs/Coming.antt`. Begin with `choice.rt`.
 #![tactic(auto)]

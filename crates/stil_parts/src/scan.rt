@@ -1,12 +1,12 @@
 //! Where a statement ends, found byte by byte.
-ghost use Rattle.std.specs.Prelude.{◌≡◌, ◌≤◌, ◌<◌, ◌+◌, ◌^◌, ◌&&◌, true, false, length, drop};
-ghost use Rattle.std.specs.List.{prefix_len};
-ghost use Rattle.stil_tokens.specs.StilTokens.{is_run, is_quote, is_blank, other_mark};
-ghost use Rattle.stil_parts.specs.Words.{is_known};
-ghost use Rattle.stil_parts.specs.Scanner.{mark_step, run_step, free_step, block_step, inside, mode_step, step, is_in_run, at_brace, ScannedOn};
+ghost use Rattle.std.specs.Prelude.{◌≡◌, ◌≤◌, ◌<◌, ◌+◌, ◌^◌, ℕ, Bool, true, false, length, drop, slice_index};
+ghost use Rattle.stil_tokens.specs.StilTokens.{is_quote, is_blank, other_mark};
+ghost use Rattle.stil_parts.specs.Scanner.{mark_step, run_step, free_step, block_step, inside, mode_step, step, at_brace, later, end_of, run, ScannedOn};
+ghost use Rattle.stil_parts.specs.Calm.{is_block_mark, begins_text, is_calm, mode_behind, is_between};
 
 use crate::word::{Word, mark_word, names_pattern, quote_word, word_byte, word_ends, word_settled};
-use stil_tokens::{is_blank, is_quote, run_len};
+use memchr::memchr3;
+use stil_tokens::{is_blank, is_quote};
 
 /// What the last byte belongs to.
 #[derive(Clone, Copy, Debug)]
@@ -218,17 +218,87 @@ fn at_brace(scan: Scan) -> bool
     names_pattern(scan.word) && scan.depth == 0 && matches!(scan.mode, Mode::Brace)
 }
 
-/// How many bytes behind a place a run goes on for; 0 where the scan is in no run, or the word isn't known.
+/// Whether a scan is in no text, comment or brace, and knows the word.
 #[inline(always)]
-fn run_on(scan: Scan, bytes: &[u8], at: usize) -> usize
-    requires within { at ≤ length bytes.now }
-    ensures within { at + result ≤ length bytes.now }
-    ensures none { (is_in_run scan.mode && is_known scan.word) ≡ false → result ≡ 0 }
-    ensures value { (is_in_run scan.mode && is_known scan.word) ≡ true → result ≡ prefix_len is_run (drop at bytes.now) }
+fn is_between(scan: Scan) -> bool
+    ensures { result ≡ is_between scan }
 {
     match (scan.mode, scan.word) {
-        (Mode::Run, Word::Known(_is)) => run_len(&bytes[at..]),
-        _ => 0,
+        (Mode::Free, Word::Known(_is)) => true,
+        (Mode::Run, Word::Known(_is)) => true,
+        _ => false,
+    }
+}
+
+/// The mode behind a calm byte.
+#[inline(always)]
+fn mode_behind(b: u8) -> Mode
+    ensures { result ≡ mode_behind b }
+{
+    if is_blank(b) || other_mark(b) {
+        Mode::Free
+    } else {
+        Mode::Run
+    }
+}
+
+/// How many bytes stand before the first `;`, `{` or `}`.
+fn before_blocks(bytes: &[u8]) -> usize
+    ensures within { result ≤ length bytes.now }
+    ensures none { (k : ℕ) → k < result → is_block_mark (slice_index bytes.now k) ≡ false }
+{
+    match memchr3(b';', b'{', b'}', bytes) {
+        Some(at) => at,
+        None => bytes.len(),
+    }
+}
+
+/// How many bytes stand before the first quote or slash.
+fn before_texts(bytes: &[u8]) -> usize
+    ensures within { result ≤ length bytes.now }
+    ensures none { (k : ℕ) → k < result → begins_text (slice_index bytes.now k) ≡ false }
+{
+    match memchr3(b'"', b'\'', b'/', bytes) {
+        Some(at) => at,
+        None => bytes.len(),
+    }
+}
+
+/// How many calm bytes stand first.
+fn calm_len(bytes: &[u8]) -> usize
+    ensures within { result ≤ length bytes.now }
+    ensures calm { (k : ℕ) → k < result → is_calm (slice_index bytes.now k) ≡ true }
+{
+    before_texts(&bytes[..before_blocks(bytes)])
+}
+
+/// So many bytes at once, and the scan behind them.
+#[derive(Clone, Copy)]
+struct Jump {
+    len: usize,
+    scan: Scan,
+}
+
+/// Goes on with a scan over the calm bytes behind a place, of which only the last one counts.
+#[inline(always)]
+fn calm_on(scan: Scan, bytes: &[u8], at: usize) -> Jump
+    requires within { at ≤ length bytes.now }
+    ensures within { at + result.len ≤ length bytes.now }
+    ensures depth { result.scan.depth ≡ scan.depth }
+    ensures ends { (last : Bool) → end_of last scan (drop at bytes.now) ≡ later result.len (end_of last result.scan (drop (at + result.len) bytes.now)) }
+    ensures ran { run scan (drop at bytes.now) ≡ run result.scan (drop (at + result.len) bytes.now) }
+{
+    if !is_between(scan) {
+        return Jump { len: 0, scan };
+    }
+    let len = calm_len(&bytes[at..]);
+    if len == 0 {
+        return Jump { len: 0, scan };
+    }
+    let mode = mode_behind(bytes[at + len - 1]);
+    Jump {
+        len,
+        scan: Scan { mode, ..scan },
     }
 }
 
@@ -244,8 +314,9 @@ pub fn scan_on(last: bool, bytes: &[u8], from: usize, scan: Scan) -> Scanned
     while at < bytes.len() {
         match step(now, bytes[at]) {
             After::Goes(next) => {
-                now = next;
-                at += 1 + run_on(now, bytes, at + 1);
+                let jump = calm_on(next, bytes, at + 1);
+                now = jump.scan;
+                at += 1 + jump.len;
             }
             After::Ends => {
                 return Scanned::Found(Found {

@@ -6,7 +6,7 @@ ghost use Rattle.stil_syntax.specs.Grammar.{data_token, put_token, fresh_item, i
 
 use crate::name::NameText;
 use crate::words::{InData, NoMark};
-use base_types::{Name, NoMemory, Stop, plain_name};
+use base_types::{Name, NoMemory, Stop};
 use std::alloc::Global;
 use std::marker::Model;
 use token_forms::{Gather, Parser, Read, Statement, TokenText};
@@ -45,6 +45,7 @@ impl Data {
         ensures value { IfOk result (λ d. d ≡ self ++ (token.now ++ 32 ∷ [])) }
     {
         let mut bytes = self.bytes;
+        bytes.reserve(token.len() + 1)?;
         bytes.extend_from_slice(token)?;
         bytes.push(b' ')?;
         Ok(Data { bytes })
@@ -141,9 +142,8 @@ impl<'a> Gather<DataToken<'a>> for Item {
 fn fresh_item(alloc: Global, name: &NameText<'_>) -> Result<Item, NoMemory>
     ensures value { IfOk result (λ i. i ≡ fresh_item name.now) }
 {
-    let read = name.to_name(alloc)?;
     Ok(Item {
-        name: plain_name(alloc, read.bytes())?,
+        name: name.to_plain_name(alloc)?,
         data: Data::new(alloc),
     })
 }

@@ -1,11 +1,12 @@
 //! The names of STIL.
 ghost use Rattle.std.specs.Prelude.{◌≡◌, ◌<◌, ◌≤◌, ◌-◌, ◌++◌, length, drop, Some, None, MatchOption, IfSome, IfOk};
 ghost use Rattle.std.specs.Str.{bytes_eq};
+ghost use Rattle.base_types.specs.Names.{plain_name};
 ghost use Rattle.token_forms.specs.Tokens.{Token};
 ghost use Rattle.stil_syntax.specs.Names.{name, name_at, string_at};
 
 use crate::words::{NoMark, inner, is_string, is_word};
-use base_types::{Name, NoMemory, Stop};
+use base_types::{Name, NoMemory, Stop, plain_name};
 use std::alloc::Global;
 use std::marker::Model;
 use token_forms::{Lexeme, Parser, Read, Tokens};
@@ -58,6 +59,18 @@ impl<'a> NameText<'a> {
         let mut bytes = Vec::from_slice(alloc, self.front)?;
         bytes.extend_from_slice(self.back)?;
         Ok(Name::of(bytes))
+    }
+
+    /// The name without its backslashes, as a value of its own. One that is short and has none takes no memory.
+    #[tactic(auto, using(crate::proofs::NameTexts::plain_front))]
+    pub(crate) fn to_plain_name(&self, alloc: Global) -> Result<Name, NoMemory>
+        ensures value { IfOk result (λ name. name ≡ plain_name self.now) }
+    {
+        if self.back.is_empty() && !self.front.contains(&b'\\') {
+            return Ok(Name::copy(alloc, self.front)?);
+        }
+        let read = self.to_name(alloc)?;
+        plain_name(alloc, read.bytes())
     }
 }
 

@@ -1,4 +1,5 @@
 pub mod ByteKinds
+mod Characters
 pub mod StilCuts
 pub mod StilPieces
 pub mod StilSplitLaw

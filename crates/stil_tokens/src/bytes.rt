@@ -1,7 +1,9 @@
 //! The kinds of bytes of a STIL text.
-ghost use Rattle.std.specs.Prelude.{◌≡◌, ◌≤◌, length};
+ghost use Rattle.std.specs.Prelude.{◌≡◌, ◌≤◌, ◌+◌, length, drop};
 ghost use Rattle.std.specs.List.{prefix_len};
 ghost use Rattle.stil_tokens.specs.StilTokens.{is_blank, is_quote, other_mark, is_mark, is_run};
+
+use lane_kernels::any_byte_outside;
 
 /// Whether the byte is a space, a tab, a line feed or a carriage return.
 #[inline(always)]
@@ -63,10 +65,43 @@ pub fn is_run(b: u8) -> bool
     RUNS[usize::from(b)] == 1
 }
 
+/// How many characters of scan data stand first.
+fn data_len(bytes: &[u8]) -> usize
+    ensures within { result ≤ length bytes.now }
+    ensures run { prefix_len is_run bytes.now ≡ result + prefix_len is_run (drop result bytes.now) }
+{
+    match any_byte_outside(bytes, b"01NLHX".as_slice()) {
+        Some(before) => before,
+        None => bytes.len(),
+    }
+}
+
+/// The same, which is only looked for where one stands first: of such characters long runs are.
+#[inline(always)]
+fn front_len(bytes: &[u8]) -> usize
+    ensures within { result ≤ length bytes.now }
+    ensures run { prefix_len is_run bytes.now ≡ result + prefix_len is_run (drop result bytes.now) }
+{
+    match bytes {
+        [b'0', ..] | [b'1', ..] | [b'N', ..] => data_len(bytes),
+        [b'L', ..] | [b'H', ..] | [b'X', ..] => data_len(bytes),
+        _ => 0,
+    }
+}
+
+/// How many bytes of a run stand first, one after the other.
+fn each_len(bytes: &[u8]) -> usize
+    ensures value { result ≡ prefix_len is_run bytes.now }
+    ensures within { result ≤ length bytes.now }
+{
+    bytes.iter().take_while(|b| is_run(**b)).count()
+}
+
 /// How many bytes of a run stand first.
 pub fn run_len(bytes: &[u8]) -> usize
     ensures value { result ≡ prefix_len is_run bytes.now }
     ensures within { result ≤ length bytes.now }
 {
-    bytes.iter().take_while(|b| is_run(**b)).count()
+    let front = front_len(bytes);
+    front + each_len(&bytes[front..])
 }

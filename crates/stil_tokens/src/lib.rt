@@ -1,6 +1,6 @@
 //! The tokens and statements of STIL texts (IEEE 1450-1999, clause 6).
 //!
-//! Floor: readers, on base_types, token_forms and `memchr`.
+//! Floor: readers, on lane_kernels, base_types, token_forms and `memchr`.
 //! Contract: `stil_tokens` and `stil_statements` answer the one split of a text that `specs/StilSplit.antt` and
 //! `specs/StilStatements.antt` say. Begin with `pieces.rt`.
 #![tactic(auto)]

@@ -1,12 +1,16 @@
 use Rattle.std.proofs.Common.{sym, ◌∙◌}
 use Rattle.stil_calls.proofs.Answered.{all_tokens, is_first, denotes}
 use Rattle.stil_calls.proofs.Placed.{is_placed}
-use Rattle.stil_calls.proofs.Stated.{are_accepted, is_read_so}
+use Rattle.stil_calls.proofs.Stated.{are_accepted, is_once, is_read_so}
 use Rattle.stil_calls.proofs.statement.read_statement_by.Goals as goal
 
 pub statement_of-requires-clause-read : goal.statement_of-requires-clause-read
 statement_of-requires-clause-read c =
     is_read_so c.args.judging c.args.head.now c.args.line c.args.text.now c.in_ok-shape.shape (sym c.in_ok-found.ensures.value ∙ c.in-None.is)
+
+pub statement_of-requires-clause-once : goal.statement_of-requires-clause-once
+statement_of-requires-clause-once c =
+    is_once c.args.judging c.args.head.now c.args.line c.args.text.now c.in_ok-shape.shape (sym c.in_ok-found.ensures.value ∙ c.in-None.is)
 
 pub returns-in-Some-clause-first : goal.returns-in-Some-clause-first
 returns-in-Some-clause-first c =

@@ -1,20 +1,20 @@
-use Rattle.std.proofs.Common.{◌∙◌, sym, refl, arith, drop, ◌+◌, ◌≡◌, Bool, true, false, ◌&&◌}
+use Rattle.std.proofs.Common.{◌∙◌, sym, refl, arith, ◌+◌, ◌≡◌, Bool, true, false, ◌&&◌}
 use Rattle.stil_parts.specs.Scanner.{at_brace, HasReached}
 use Rattle.stil_parts.proofs.Scans.{step_depth, turn_goes, turn_run, turn_ends, turn_opens, stop_opens, reached}
-use Rattle.stil_parts.proofs.Runs.{IsJump, jumped-end, jumped-run}
+use Rattle.stil_parts.proofs.CalmRuns.{IsJump, jumped-end, jumped-run}
 use Rattle.stil_parts.proofs.scan.scan_on.Goals.{else-last-via-then-last+else-at_brace, else-last-via-else-last}
 use Rattle.stil_parts.proofs.scan.scan_on.Goals as goal
 
 pub loop-at-preserved : goal.loop-at-preserved
 loop-at-preserved c =
     let goes = c.in-Goes.ensures in
-    let jump : IsJump c.in-Goes.next.mode c.in-Goes.next.word (drop (c.loop-at.at + 1) c.args.bytes.now) c.run_on.result = record { none = c.run_on.ensures.none; run = c.run_on.ensures.value } in
+    let jump : IsJump c.args.bytes.now (c.loop-at.at + 1) c.calm_on-jump.result.len c.in-Goes.next c.calm_on-jump.result.scan = record { depth = c.calm_on-jump.ensures.depth; ends = c.calm_on-jump.ensures.ends; ran = c.calm_on-jump.ensures.ran } in
     record {
-      within = omega (arith, c.run_on.ensures.within);
+      within = omega (arith, c.calm_on-jump.ensures.within);
       some = omega (arith, c.loop-at.invariant.some);
-      shallow = omega (arith, step_depth c.loop-at.now c.in-Goes.next _ goes, c.loop-at.invariant.shallow);
-      same = c.loop-at.invariant.same ∙ turn_goes c.args.last c.loop-at.now c.in-Goes.next c.args.bytes.now c.loop-at.at c.loop-at-test.true goes ∙ jumped-end c.args.last c.args.bytes.now c.loop-at.at c.run_on.result c.in-Goes.next jump;
-      ran = c.loop-at.invariant.ran ∙ turn_run c.args.last c.loop-at.now c.in-Goes.next c.args.bytes.now c.loop-at.at c.loop-at-test.true goes ∙ jumped-run c.args.last c.args.bytes.now c.loop-at.at c.run_on.result c.in-Goes.next jump;
+      shallow = omega (arith, step_depth c.loop-at.now c.in-Goes.next _ goes, c.loop-at.invariant.shallow, c.calm_on-jump.ensures.depth);
+      same = c.loop-at.invariant.same ∙ turn_goes c.args.last c.loop-at.now c.in-Goes.next c.args.bytes.now c.loop-at.at c.loop-at-test.true goes ∙ jumped-end c.args.last c.args.bytes.now c.loop-at.at c.calm_on-jump.result.len c.in-Goes.next c.calm_on-jump.result.scan jump;
+      ran = c.loop-at.invariant.ran ∙ turn_run c.args.last c.loop-at.now c.in-Goes.next c.args.bytes.now c.loop-at.at c.loop-at-test.true goes ∙ jumped-run c.args.last c.args.bytes.now c.loop-at.at c.calm_on-jump.result.len c.in-Goes.next c.calm_on-jump.result.scan jump;
     }
 
 pub returns-in-Ends : goal.returns-in-Ends

@@ -1,5 +1,5 @@
 -- How far the last L or H reaches, in numbers that don't go beyond the greatest.
-use Rattle.std.proofs.Common.{◌≡◌, ◌≤◌, ℕ, ◌-◌, ◌^◌, min, max, List}
+use Rattle.std.specs.Prelude.{◌≡◌, ◌≤◌, ℕ, ◌-◌, ◌^◌, min, max, List}
 use Rattle.stil_calls.specs.declared.repeats.Repeat.{Repeat}
 use Rattle.stil_calls.specs.Repeats.{reach_from}
 

@@ -1,0 +1,12 @@
+use Rattle.std.proofs.Common.{◌≡◌, ◌-◌, ◌≤◌, ◌^◌, min, max, length, drop}
+use Rattle.stil_calls.specs.Given.{data_of, longest_in}
+use Rattle.stil_calls.proofs.scan.longest_in.Given as goal
+
+abbrev pub invariant-loop-at : goal.invariant-loop-at
+invariant-loop-at l = record {
+  within : l.at ≤ length l.each;
+  same : max l.longest (min (longest_in (data_of (drop l.at l.each))) (2 ^ 64 - 1)) ≡ min (longest_in (data_of l.each)) (2 ^ 64 - 1);
+}
+
+abbrev pub decreases-loop-at : goal.decreases-loop-at
+decreases-loop-at l = length l.each - l.at
