@@ -1,8 +1,8 @@
 //! Tries rows of tests whose call reads a STIL text: its tokens, its head, what the head declares beside a design or a netlist, and
 //! its patterns, whole and in pieces. Prints each row that answers otherwise than it says, and how many rows each file has.
 //!
-//! Floor: tests, on row_forms, cell_table, netlist_core, chain_trace, verilog_reader, def_reader, stil_types,
-//! stil_tokens, stil_head, stil_calls, stil_reader, stil_stream, head_checks, base_types and `anyhow`.
+//! Floor: tests, on pattern_warnings, row_forms, cell_table, netlist_core, chain_trace, verilog_reader, def_reader,
+//! stil_types, stil_tokens, stil_head, stil_calls, stil_reader, stil_stream, head_checks, base_types and `anyhow`.
 //! The words are the names of the files of rows, of which `row_forms` says the form.
 #![tactic(auto)]
 
@@ -47,6 +47,7 @@ fn of_text(alloc: Global, call: &str, text: &[u8]) -> Result<Option<String>, Rea
         "stil judged" => patterns::judged(alloc, text)?,
         "stil formed" => patterns::formed(alloc, text)?,
         "stil pieces" => patterns::pieces(alloc, text)?,
+        "stil warnings" => patterns::warnings(alloc, text)?,
         _ => return Ok(None),
     }))
 }

@@ -1,7 +1,8 @@
 //! The patterns of STIL texts: statements, whole texts, and texts in pieces.
 ghost use Rattle.std.specs.Prelude.{◌<◌, ◌^◌, length};
 
-use base_types::{Name, NoMemory, ReadFault, Rows, Text};
+use base_types::{Name, NoMemory, ReadFault, Rows, Text, Word};
+use pattern_warnings::PatternWarnings;
 use row_forms::{fault_text, word};
 use std::alloc::Global;
 use stil_calls::read_statement;
@@ -122,6 +123,28 @@ pub(crate) fn formed(alloc: Global, source: &[u8]) -> Result<String, ReadFault>
         push_statement(alloc, &mut text, statement)?;
     }
     push_names(&mut text, &stil.patterns)?;
+    Ok(text)
+}
+
+/// The warnings of a text, a line each.
+pub(crate) fn warnings(alloc: Global, source: &[u8]) -> Result<String, ReadFault>
+    requires { length source.now < 2 ^ 32 }
+{
+    let head = read_head(alloc, source)?;
+    let judged = read_judged(alloc, source, &head)?;
+    let before = source.get(..head.end as usize).unwrap_or(source);
+    let mut warnings = PatternWarnings::new(alloc, Word::copy(alloc, "s.stil")?, before, &head)?;
+    let statements = judged.stil.statements.as_slice();
+    for (k, gap) in judged.gaps.as_slice().iter().enumerate() {
+        warnings.pass(gap.bytes());
+        if let Some(statement) = statements.get(k) {
+            warnings.look(alloc, statement)?;
+        }
+    }
+    let mut text = String::new(alloc);
+    for line in warnings.lines() {
+        text.push_str(&format!(in alloc; "{line}\n")?)?;
+    }
     Ok(text)
 }
 

@@ -31,6 +31,7 @@ use Rattle.design_files.proofs.LayerKinds.{among}
 use Rattle.chain_reorder.specs.declared.reorder.Reordered.{Reordered}
 use Rattle.chain_reorder.specs.declared.patterns.PatternPlan.{PatternPlan}
 use Rattle.chain_reorder.specs.PatternPlans.{ArePatternsPlanned, IsReorderedWith}
+use Rattle.pattern_warnings.specs.declared.warnings.PatternWarnings.{PatternWarnings}
 use Rattle.play_report.specs.Files.{IsHeadText}
 use Rattle.scan_job.specs.declared.commands.patterns.PatternsRequest.{PatternsRequest}
 use Rattle.scan_job.specs.declared.patterns.Made.{Made}
@@ -120,9 +121,9 @@ module _ (effort : Effort) (t : Texts) (s u : Streaming) (a b : SlotState) (is_f
       ap (λ (m : _). bit_counts m.0) p.chains ∙ p.fits ∙ ap (λ (h : StilHead). bits_of h.chains) (sym p.head_is),
     )
 
-    pub plan_ready : (made : Made) (plan : PatternPlan) → IsReorderedWith effort (with_head t text) made.verilog made.def made.figures (Some plan) → ((fault : Fault) → HoldsInFiles (with_head t text) fault → ⊥)
-        → HasPlanned effort t a b (Ok (record { made = made; plan = plan; input = u }))
-    plan_ready made plan reordered no_fault =
+    pub plan_ready : (made : Made) (plan : PatternPlan) (warnings : PatternWarnings) → IsReorderedWith effort (with_head t text) made.verilog made.def made.figures (Some plan) → ((fault : Fault) → HoldsInFiles (with_head t text) fault → ⊥)
+        → HasPlanned effort t a b (Ok (record { made = made; plan = plan; warnings = warnings; input = u }))
+    plan_ready made plan warnings reordered no_fault =
         let r = reordered.reordered in
         let p = planned_by r.netlist r.cells r.paths _ r.head plan reordered.planned r.checked.head_is in (
           (says any_head).drawn,

@@ -1,6 +1,6 @@
 ghost use Rattle.std.specs.Prelude.{◌≡◌, ◌<◌, ◌^◌, false, length, IsTrue};
 ghost use Rattle.desk_io.specs.declared.slot.Slot.TheVariants.{Lef, Verilog, Def, Stil, OutStil};
-ghost use Rattle.desk_io.specs.Desk.{AllUnopened, IsUnopened, IsOpen, SameElsewhere, SameNames};
+ghost use Rattle.desk_io.specs.Desk.{AllUnopened, IsUnopened, IsOpen, SameElsewhere, SameNames, SameSlots};
 ghost use Rattle.desk_io.specs.Names.{AllowsNames};
 ghost use Rattle.desk_io.specs.Outputs.{OutputsUnopened};
 ghost use Rattle.desk_io.specs.Inputs.{input_at};
@@ -24,6 +24,7 @@ use crate::stop::Stop;
 use base_types::{Text, Word};
 use chain_reorder::{Figures, PatternPlan, Reordered, reorder_texts};
 use desk_io::{Desk, Inputs, InputsFault, Names, Outputs, Slot, put_outputs, take_inputs};
+use pattern_warnings::PatternWarnings;
 use retargeted_patterns::{PatternFigures, Retargeting, figures_law};
 use scan_words::Order;
 use std::alloc::Global;
@@ -38,12 +39,13 @@ pub(crate) struct Made {
     pub(crate) figures: Figures,
 }
 
-/// What stands ready when the patterns are to be written: the design's texts, what is planned for the patterns, and their text behind the
-/// head.
+/// What stands ready when the patterns are to be written: the design's texts, what is planned for the patterns, what is to be warned of in
+/// them, and their text behind the head.
 #[derive(Drop)]
 pub(crate) struct Ready {
     pub(crate) made: Made,
     pub(crate) plan: PatternPlan,
+    pub(crate) warnings: PatternWarnings,
     pub(crate) input: StilInput,
 }
 
@@ -84,7 +86,24 @@ fn plan_taken<D: Desk>(
         def,
         figures,
     };
-    Ok(Ready { made, plan, input })
+    let file = Word::copy(alloc, request.stil.as_str())?;
+    let warnings = PatternWarnings::new(alloc, file, head.bytes(), &plan.head)?;
+    Ok(Ready {
+        made,
+        plan,
+        warnings,
+        input,
+    })
+}
+
+/// Tells the user what the patterns are warned of.
+fn tell_warnings<D: Desk>(warnings: &PatternWarnings, desk: &mut D)
+    ensures slots { SameSlots (D.state desk.old) (D.state desk.new) }
+    ensures names { SameNames (D.allows desk.old) (D.allows desk.new) }
+{
+    for line in warnings.lines() {
+        desk.note(line.as_str());
+    }
 }
 
 /// Opens the STIL output, and writes the new head and then the patterns.
@@ -92,6 +111,7 @@ fn put_stil<D: Desk>(
     alloc: Global,
     name: &Word,
     plan: PatternPlan,
+    mut warnings: PatternWarnings,
     input: StilInput,
     desk: &mut D,
 ) -> Result<PatternFigures, PutStop>
@@ -112,7 +132,16 @@ fn put_stil<D: Desk>(
         map,
     } = plan;
     let retargeting = Retargeting::new(head, map);
-    put_patterns(alloc, head_text.bytes(), retargeting, input, desk)
+    let put = put_patterns(
+        alloc,
+        head_text.bytes(),
+        retargeting,
+        &mut warnings,
+        input,
+        desk,
+    );
+    tell_warnings(&warnings, desk);
+    put
 }
 
 /// Closes the STIL slot and then its output.
@@ -168,8 +197,13 @@ fn write_ready<D: Desk>(
     requires allowed { AllowsNames (names_of (requests.ReorderPatterns request.now)) (D.allows desk.old) }
     ensures written { HasWrittenReady request.now ready (D.state desk.old) (D.state desk.new) result }
 {
-    let Ready { made, plan, input } = ready;
-    match put_stil(alloc, &request.out_stil, plan, input, desk) {
+    let Ready {
+        made,
+        plan,
+        warnings,
+        input,
+    } = ready;
+    match put_stil(alloc, &request.out_stil, plan, warnings, input, desk) {
         Ok(patterns) => {
             close_both(desk)?;
             put_others(alloc, last, made, &patterns, desk)

@@ -6,6 +6,7 @@ ghost use Rattle.scan_job.specs.Retargeting.{HasPutOn, SameBut, put_input, put_n
 
 use base_types::{NoMemory, Text};
 use desk_io::{Desk, PutFault, Slot, put_all};
+use pattern_warnings::PatternWarnings;
 use retargeted_patterns::{PatternFigures, Retargeting};
 use std::alloc::Global;
 use stil_input::{Said, StilInput, StilStop};
@@ -44,11 +45,12 @@ impl From<PutFault> for PutStop {
 }
 
 /// Writes the new head and then what comes behind the read one, to the text's end: what belongs to no statement as it is, and each
-/// statement with its calls retargeted. Each is written as soon as it is read.
+/// statement with its calls retargeted. Each is written as soon as it is read, and looked at for what is to be warned of.
 pub(crate) fn put_patterns<D: Desk>(
     alloc: Global,
     head_text: &[u8],
     mut retargeting: Retargeting,
+    warnings: &mut PatternWarnings,
     mut input: StilInput,
     desk: &mut D,
 ) -> Result<PatternFigures, PutStop>
@@ -65,8 +67,12 @@ pub(crate) fn put_patterns<D: Desk>(
             Said::Gap {
                 text,
                 pattern: _pattern,
-            } => put_all(desk, Slot::OutStil, text.bytes())?,
+            } => {
+                warnings.pass(text.bytes());
+                put_all(desk, Slot::OutStil, text.bytes())?
+            }
             Said::Statement(statement) => {
+                warnings.look(alloc, &statement)?;
                 let text = retargeting.write(alloc, &statement)?;
                 put_all(desk, Slot::OutStil, text.bytes())?;
             }

@@ -9,6 +9,7 @@ use Rattle.chain_reorder.specs.declared.reorder.Reordered.{Reordered}
 use Rattle.chain_reorder.specs.declared.patterns.PatternPlan.{PatternPlan}
 use Rattle.chain_reorder.specs.PatternPlans.{IsReorderedWith}
 use Rattle.scan_job.specs.PatternPhases.{design_of}
+use Rattle.scan_job.proofs.Played.{any_head}
 use Rattle.scan_job.proofs.PlanTaken.{plan_stopped, plan_refused, plan_ready}
 use Rattle.scan_job.proofs.patterns.plan_taken.Goals as goal
 
@@ -30,6 +31,16 @@ returns-in_err-verilog-clause-planned g c =
     (plan_refused c.args.request.now.design.effort (design_of c.args.inputs.now) c.in_ok-input.input c.next_head.new.self (g.D.Desk.state c.args.desk.now Stil) (g.D.Desk.state c.next_head.new.desk Stil)
     c.in_ok-input.ensures.value c.in_ok-head.head c.in_ok-head.ensures.gives.1 read first)
 
+pub returns-in_err-file-clause-planned : goal.returns-in_err-file-clause-planned
+returns-in_err-file-clause-planned g c =
+    let p = err_from_is_err_and c.from_residual-in_err-file.result c.from_residual-in_err-file.ensures.1 in
+    rw (p.1, p.2) (c.in_ok-head.ensures.gives.1 any_head).drawn
+
+pub returns-in_err-warnings-clause-planned : goal.returns-in_err-warnings-clause-planned
+returns-in_err-warnings-clause-planned g c =
+    let p = err_from_is_err_and c.from_residual-in_err-warnings.result c.from_residual-in_err-warnings.ensures.1 in
+    rw (p.1, p.2) (c.in_ok-head.ensures.gives.1 any_head).drawn
+
 pub returns-clause-planned : goal.returns-clause-planned
 returns-clause-planned g c =
     let effort = c.args.request.now.design.effort in
@@ -41,4 +52,4 @@ returns-clause-planned g c =
     let reordered = subst (λ (t : Texts). IsReorderedWith effort t made.verilog made.def made.figures (Some c.in-Some.plan)) same some in
     let none = subst (λ (t : Texts). (fault : Fault) → HoldsInFiles t fault → ⊥) same c.in_ok-verilog.ensures.no_fault in
     plan_ready effort (design_of c.args.inputs.now) c.in_ok-input.input c.next_head.new.self (g.D.Desk.state c.args.desk.now Stil) (g.D.Desk.state c.next_head.new.desk Stil)
-    c.in_ok-input.ensures.value c.in_ok-head.head c.in_ok-head.ensures.gives.1 (record { verilog = made.verilog; def = made.def; figures = made.figures }) c.in-Some.plan reordered none
+    c.in_ok-input.ensures.value c.in_ok-head.head c.in_ok-head.ensures.gives.1 (record { verilog = made.verilog; def = made.def; figures = made.figures }) c.in-Some.plan c.in_ok-warnings.warnings reordered none

@@ -1,6 +1,6 @@
 use Rattle.std.proofs.Common.{◌≡◌, Err, ◌∙◌, rules}
 use Rattle.std.proofs.lemmas.Result.{err_from_is_err_and}
-use Rattle.desk_io.specs.declared.slot.Slot.TheVariants.{OutStil}
+use Rattle.desk_io.specs.declared.slot.Slot.TheVariants.{Stil, OutStil}
 use Rattle.desk_io.specs.Desk.{opened}
 use Rattle.desk_io.specs.Causes.{HasFailed}
 use Rattle.scan_job.specs.declared.putting.PutStop.TheVariants as stops
@@ -21,8 +21,9 @@ returns-clause-put g c =
     let a = g.D.Desk.state c.args.desk.now in
     let k = g.D.Desk.state c.open.new.self in
     let opens : k OutStil ≡ opened (a OutStil) = search rules in
-    put_behind c.args.plan.head_text (progress_of c.args.plan) c.args.input a k c.open.ensures.elsewhere c.bytes.result.now c.new-retargeting.result (g.D.Desk.state c.put_patterns.new.desk) c.put_patterns.result
-    c.bytes.ensures.value c.new-retargeting.ensures.value opens c.put_patterns.ensures.put
+    rw (c.tell_warnings.ensures.slots Stil, c.tell_warnings.ensures.slots OutStil)
+    (put_behind c.args.plan.head_text (progress_of c.args.plan) c.args.input a k c.open.ensures.elsewhere c.bytes.result.now c.new-retargeting.result (g.D.Desk.state c.put_patterns-put.new.desk) c.put_patterns-put.result
+    c.bytes.ensures.value c.new-retargeting.ensures.value opens c.put_patterns-put.ensures.put)
 
 pub returns-clause-elsewhere : goal.returns-clause-elsewhere
-returns-clause-elsewhere g c slot ns other = c.put_patterns.ensures.elsewhere slot ns other ∙ c.open.ensures.elsewhere slot other
+returns-clause-elsewhere g c slot ns other = c.tell_warnings.ensures.slots slot ∙ (c.put_patterns-put.ensures.elsewhere slot ns other ∙ c.open.ensures.elsewhere slot other)

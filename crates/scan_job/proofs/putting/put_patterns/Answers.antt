@@ -35,9 +35,9 @@ returns-in_err-put_all-in-Gap-clause-put g c =
     let k = g.D.Desk.state c.next.new.desk in
     let p = err_from_is_err_and c.from_residual-in_err-put_all-in-Gap.result c.from_residual-in_err-put_all-in-Gap.ensures.1 in
     let says = rw c.in-Gap.is at c.in_ok-text.ensures.gives in
-    let form = c.bytes.ensures.value ∙ gap_bytes (form_by c.args.head_text.now c.patterns.retargeting) c.in-Gap.text c.in-Gap._pattern in
+    let form = c.bytes-in-Gap.ensures.value ∙ gap_bytes (form_by c.args.head_text.now c.patterns.retargeting) c.in-Gap.text c.in-Gap._pattern in
     rw (p.1, p.2)
-    (failed_at c.args.head_text.now c.args.retargeting c.patterns.retargeting c.args.input c.patterns.input a m c.patterns.invariant.written c.next.new.self k c.next.ensures.elsewhere c.head.result.now c.head.ensures.value c.patterns.retargeting (map GapByte c.in-Gap.text ++ named c.in-Gap._pattern) c.bytes.result.now says form
+    (failed_at c.args.head_text.now c.args.retargeting c.patterns.retargeting c.args.input c.patterns.input a m c.patterns.invariant.written c.next.new.self k c.next.ensures.elsewhere c.head.result.now c.head.ensures.value c.patterns.retargeting (map GapByte c.in-Gap.text ++ named c.in-Gap._pattern) c.bytes-in-Gap.result.now says form
     (g.D.Desk.state c.put_all-in-Gap.new.desk) c.put_all-in-Gap.ensures.elsewhere c.in_err-put_all-in-Gap.ensures.failed)
 
 pub patterns-preserved-in-Gap : goal.patterns-preserved-in-Gap
@@ -47,13 +47,22 @@ patterns-preserved-in-Gap g c =
     let k = g.D.Desk.state c.next.new.desk in
     let l = g.D.Desk.state c.put_all-in-Gap.new.desk in
     let says = rw c.in-Gap.is at c.in_ok-text.ensures.gives in
-    let form = c.bytes.ensures.value ∙ gap_bytes (form_by c.args.head_text.now c.patterns.retargeting) c.in-Gap.text c.in-Gap._pattern in
+    let form = c.bytes-in-Gap.ensures.value ∙ gap_bytes (form_by c.args.head_text.now c.patterns.retargeting) c.in-Gap.text c.in-Gap._pattern in
     record {
-      written = further c.args.head_text.now c.args.retargeting c.patterns.retargeting c.args.input c.patterns.input a m c.patterns.invariant.written c.next.new.self k c.next.ensures.elsewhere c.head.result.now c.head.ensures.value c.patterns.retargeting (map GapByte c.in-Gap.text ++ named c.in-Gap._pattern) c.bytes.result.now says form l
+      written = further c.args.head_text.now c.args.retargeting c.patterns.retargeting c.args.input c.patterns.input a m c.patterns.invariant.written c.next.new.self k c.next.ensures.elsewhere c.head.result.now c.head.ensures.value c.patterns.retargeting (map GapByte c.in-Gap.text ++ named c.in-Gap._pattern) c.bytes-in-Gap.result.now says form l
           c.put_all-in-Gap.ensures.elsewhere (gap_progress c.in-Gap.text c.in-Gap._pattern c.patterns.retargeting) c.in_ok-put_all-in-Gap.ensures.ok;
       elsewhere = same_put a k l (same_then a m k c.patterns.invariant.elsewhere c.next.ensures.elsewhere) c.put_all-in-Gap.ensures.elsewhere;
       names = names_then _ _ _ (names_then _ _ _ c.patterns.invariant.names c.next.ensures.names) c.put_all-in-Gap.ensures.names;
     }
+
+pub returns-in_err-look-in-Statement-clause-put : goal.returns-in_err-look-in-Statement-clause-put
+returns-in_err-look-in-Statement-clause-put g c =
+    let a = g.D.Desk.state c.args.desk.now in
+    let m = g.D.Desk.state c.patterns.desk in
+    let k = g.D.Desk.state c.next.new.desk in
+    let p = err_from_is_err_and c.from_residual-in_err-look-in-Statement.result c.from_residual-in_err-look-in-Statement.ensures.1 in
+    let says = rw c.in-Statement.is at c.in_ok-text.ensures.gives in
+    rw (p.1, p.2) (ran_out_at c.args.head_text.now c.args.retargeting c.patterns.retargeting c.args.input c.patterns.input a m c.patterns.invariant.written c.next.new.self k c.next.ensures.elsewhere says.0.drawn)
 
 pub returns-in_err-text-in-Statement-clause-put : goal.returns-in_err-text-in-Statement-clause-put
 returns-in_err-text-in-Statement-clause-put g c =
@@ -76,6 +85,14 @@ returns-in_err-put_all-in-Statement-clause-put g c =
     rw (p.1, p.2)
     (failed_at c.args.head_text.now c.args.retargeting c.patterns.retargeting c.args.input c.patterns.input a m c.patterns.invariant.written c.next.new.self k c.next.ensures.elsewhere c.head.result.now c.head.ensures.value q (Stated c.in-Statement.statement ∷ []) c.bytes-in-Statement.result.now says.0 form
     (g.D.Desk.state c.put_all-in-Statement.new.desk) c.put_all-in-Statement.ensures.elsewhere c.in_err-put_all-in-Statement.ensures.failed)
+
+pub returns-in_err-put_all-in-Statement-clause-elsewhere : goal.returns-in_err-put_all-in-Statement-clause-elsewhere
+returns-in_err-put_all-in-Statement-clause-elsewhere g c =
+    let a = g.D.Desk.state c.args.desk.now in
+    let m = g.D.Desk.state c.patterns.desk in
+    let k = g.D.Desk.state c.next.new.desk in
+    let l = g.D.Desk.state c.put_all-in-Statement.new.desk in
+    same_put a k l (same_then a m k c.patterns.invariant.elsewhere c.next.ensures.elsewhere) c.put_all-in-Statement.ensures.elsewhere
 
 pub patterns-preserved-in_ok-put_all-in-Statement : goal.patterns-preserved-in_ok-put_all-in-Statement
 patterns-preserved-in_ok-put_all-in-Statement g c =
