@@ -31,7 +31,7 @@ const OUTPUTS: [(Slot, &str, &str); 3] = [
 const PORTION: usize = 4096;
 
 /// The most that is written to a file or to the console.
-const ROOM: usize = 4_194_304;
+const ROOM: usize = 1 << 27;
 
 /// The words of a command that name its files; none of the call `words`, whose rows say all of them.
 pub(crate) fn form_of(call: &str) -> Option<&'static str> {

@@ -1,13 +1,9 @@
 //! Desks in memory, and the loops over them, by hand.
-ghost use Rattle.std.specs.Prelude.{◌<◌, IfOk};
-ghost use Rattle.desk_io.specs.Desk.{AllUnopened};
-ghost use Rattle.desk_io.specs.Memory.{slots_of};
 
-use crate::cases::Cases;
+use crate::files::{Manner, SOUND, Texts, desk, files_of};
 use base_types::{NoMemory, Text, Word};
-use desk_io::{
-    MemoryDesk, Names, Outputs, Slot, SureDesk, put_file, put_outputs, take_file, take_inputs,
-};
+use desk_io::{Names, Outputs, Slot, SureDesk, put_file, put_outputs, take_file, take_inputs};
+use row_forms::Cases;
 use std::alloc::Global;
 
 const BYTES: &[u8] = b"abcd";
@@ -53,19 +49,9 @@ pub(crate) const WRONG: [Row; 2] = [
     ("no fault", false, 0, 2, 100, 0, "Ok(()) \"abcd\" 0 3"),
 ];
 
-fn desk(
-    alloc: Global,
-    failing: u64,
-    empty_write: u64,
-    portion: usize,
-) -> Result<MemoryDesk, NoMemory>
-    requires { 0 < portion }
-    ensures { IfOk result (λ desk. AllUnopened (slots_of desk)) }
-{
-    let files = vec![in alloc; (Slot::Verilog, Text::copy(alloc, BYTES)?)]?;
-    let failing = vec![in alloc; failing]?;
-    let empty_writes = vec![in alloc; empty_write]?;
-    MemoryDesk::new(alloc, files, failing, empty_writes, portion, 100)
+/// The one file.
+fn four_bytes(alloc: Global) -> Result<Texts, NoMemory> {
+    Ok(vec![in alloc; (Slot::Verilog, Vec::from_slice(alloc, BYTES)?)]?)
 }
 
 /// The Verilog is read and written, and no other file.
@@ -95,7 +81,13 @@ fn shown(bytes: &[u8]) -> &str {
 pub(crate) fn try_rows(cases: &mut Cases, rows: &[Row]) -> Result<(), NoMemory> {
     let alloc = cases.alloc;
     for (name, is_taken, failing, empty_write, portion, limit, wanted) in rows {
-        let mut desk = desk(alloc, *failing, *empty_write, (*portion).max(1))?;
+        let manner = Manner {
+            portion: *portion,
+            room: 100,
+            failing: *failing,
+            empty_write: *empty_write,
+        };
+        let mut desk = desk(alloc, &four_bytes(alloc)?, manner)?;
         let came = if *is_taken {
             let taken = take_file(alloc, &mut desk, Slot::Verilog, "v.v", *limit);
             let taken = match &taken {
@@ -122,7 +114,12 @@ fn try_whole(cases: &mut Cases) -> Result<(), NoMemory> {
     let alloc = cases.alloc;
     let names = names(alloc)?;
     let outputs = outputs(alloc)?;
-    let mut desk = desk(alloc, 0, 0, 1)?;
+    let manner = Manner {
+        portion: 1,
+        ..SOUND
+    };
+    let texts = four_bytes(alloc)?;
+    let mut desk = desk(alloc, &texts, manner)?;
     let came = match take_inputs(alloc, &names, &mut desk) {
         Ok(inputs) => format!(in alloc;
             "{:?} {:?} {}",
@@ -146,8 +143,7 @@ fn try_whole(cases: &mut Cases) -> Result<(), NoMemory> {
         came.as_str(),
         "Ok(()) \"module\" \"\" \"moved 0\"",
     )?;
-    let files = vec![in alloc; (Slot::Verilog, Text::copy(alloc, BYTES)?)]?;
-    let mut sure = SureDesk::new(files);
+    let mut sure = SureDesk::new(files_of(alloc, &texts)?);
     let came = match take_inputs(alloc, &names, &mut sure) {
         Ok(inputs) => format!(in alloc;
             "{:?} {:?}",

@@ -1,148 +1,278 @@
-//! Runs of the commands on three flops in which each call of the desk fails in turn, and patterns that come in pieces.
-ghost use Rattle.std.specs.Prelude.{IfOk};
-ghost use Rattle.desk_io.specs.Desk.{AllUnopened};
-ghost use Rattle.desk_io.specs.Memory.{slots_of};
+//! Runs of the commands on three flops in which each call of the desk fails in turn.
 
-use crate::cases::Cases;
-use base_types::{NoMemory, Text, Word};
-use desk_io::{MemoryDesk, Slot, SureDesk};
+use crate::files::{Flops, Manner, SOUND, Texts, changed, desk, files_of, words_of};
+use base_types::{NoMemory, Word};
+use desk_io::{MemoryDesk, Slot, SureDesk, Way};
+use row_forms::Cases;
 use scan_job::run;
 use std::alloc::Global;
+use std::fmt::Write;
 
-/// How many bytes a call of a desk moves.
-const PORTION: usize = 4096;
-
-/// The inputs and their files.
-pub(crate) const FILES: [(Slot, &str); 5] = [
-    (Slot::Table, "t.toml"),
-    (Slot::Lef, "m.lef"),
-    (Slot::Verilog, "v.v"),
-    (Slot::Def, "d.def"),
-    (Slot::Stil, "s.stil"),
+const SLOTS: [Slot; 9] = [
+    Slot::Table,
+    Slot::Lef,
+    Slot::Verilog,
+    Slot::Def,
+    Slot::Stil,
+    Slot::OutVerilog,
+    Slot::OutDef,
+    Slot::OutStil,
+    Slot::Console,
 ];
 
-/// The texts of the inputs.
-pub(crate) type Texts = Vec<(Slot, Vec<u8>)>;
+/// A run, and what comes of it where no call fails.
+#[derive(Clone, Copy)]
+pub(crate) struct Row {
+    words: &'static str,
+    /// How many bytes a call of the desk moves.
+    portion: usize,
+    /// A part of the files that are read, and what stands in its place.
+    change: (&'static str, &'static str),
+    /// Where the written patterns end because of a fault: before this part of them.
+    end: Option<&'static str>,
+    status: u8,
+    /// What is said.
+    console: &'static str,
+    /// The calls in their order: how many on one slot, before calls on another.
+    calls: &'static [(Slot, u64)],
+}
 
-/// The words of a run, how many calls take its inputs, and its outputs. Each input takes four calls: it is opened, read, found
-/// at its end and closed; each output takes three.
-type Row = (&'static str, u64, &'static [Slot]);
+/// The run that others are made of: `check` of the files as they are.
+const CHECK: Row = Row {
+    words: "check --table t.toml --lef m.lef --verilog v.v --def d.def",
+    portion: 4096,
+    change: ("LHX", "LHX"),
+    end: None,
+    status: 0,
+    console: "chain ch1 units 3 bits 3 length 120000\nlength 120000\n",
+    calls: &[
+        (Slot::Table, 4),
+        (Slot::Lef, 4),
+        (Slot::Verilog, 4),
+        (Slot::Def, 4),
+        (Slot::Console, 3),
+    ],
+};
 
-const ROWS: [Row; 6] = [
-    (
-        "rewire --verilog v.v --cell=SDF --in-pin SI --out-pin=Q --scan-in si --scan-out so --out-verilog w.v a c b",
-        4,
-        &[Slot::OutVerilog, Slot::Console],
-    ),
-    (
-        "trace --table t.toml --verilog v.v --scan-out so",
-        8,
-        &[Slot::Console],
-    ),
-    (
-        "check --table t.toml --lef m.lef --verilog v.v --def d.def",
-        16,
-        &[Slot::Console],
-    ),
-    (
-        "reorder --table t.toml --lef m.lef --verilog v.v --def d.def --out-verilog w.v --out-def w.def --effort full",
-        16,
-        &[Slot::OutVerilog, Slot::OutDef, Slot::Console],
-    ),
-    (
-        "reorder --table t.toml --lef m.lef --verilog v.v --def d.def --out-verilog w.v --out-def w.def --effort order",
-        16,
-        &[Slot::OutVerilog, Slot::OutDef, Slot::Console],
-    ),
-    (
-        "play --table t.toml --verilog v.v --stil s.stil --device hold",
-        12,
-        &[Slot::Console],
-    ),
+/// What `reorder` without patterns writes and says.
+const REORDER: Row = Row {
+    words: "reorder --table t.toml --lef m.lef --verilog v.v --def d.def --out-verilog w.v --out-def w.def --effort full",
+    console: "chains 1\nunits 3\nlength_read 120000\nlength_nearest 80000\nlength_written 80000\npins_moved 3\nnets_cut 1\n",
+    calls: &[
+        (Slot::Table, 4),
+        (Slot::Lef, 4),
+        (Slot::Verilog, 4),
+        (Slot::Def, 4),
+        (Slot::OutVerilog, 3),
+        (Slot::OutDef, 3),
+        (Slot::Console, 3),
+    ],
+    ..CHECK
+};
+
+/// `reorder` with patterns, 200 bytes a call. The patterns' head has 340 bytes, so its end shows in the second piece, and the other outputs
+/// wait until all patterns are written: the head by two calls, and then each gap and each statement by one.
+const PATTERNS: Row = Row {
+    words: "reorder --table t.toml --lef m.lef --verilog v.v --def d.def --stil s.stil --out-verilog w.v --out-def w.def --out-stil w.stil --effort full",
+    portion: 200,
+    console: "chains 1\nunits 3\nlength_read 120000\nlength_nearest 80000\nlength_written 80000\npins_moved 3\nnets_cut 1\ncalls 2\nshifts_read 6\nshifts_written 6\n",
+    calls: &[
+        (Slot::Table, 4),
+        (Slot::Lef, 5),
+        (Slot::Verilog, 5),
+        (Slot::Def, 8),
+        (Slot::Stil, 3),
+        (Slot::OutStil, 9),
+        (Slot::Stil, 1),
+        (Slot::OutStil, 3),
+        (Slot::Stil, 2),
+        (Slot::OutStil, 1),
+        (Slot::OutVerilog, 4),
+        (Slot::OutDef, 7),
+        (Slot::Console, 3),
+    ],
+    ..CHECK
+};
+
+/// The same where the second call compares behind the chain's bits: what stands before it is written, the other outputs aren't opened, and
+/// the fault is said.
+const FAULT: Row = Row {
+    change: ("LHX", "LHXH"),
+    end: Some("Call load_unload {\n    \"si\"=NNN;"),
+    status: 2,
+    console: "s.stil:16: LongCompare\n",
+    calls: &[
+        (Slot::Table, 4),
+        (Slot::Lef, 5),
+        (Slot::Verilog, 5),
+        (Slot::Def, 8),
+        (Slot::Stil, 3),
+        (Slot::OutStil, 9),
+        (Slot::Stil, 1),
+        (Slot::OutStil, 1),
+        (Slot::Stil, 1),
+        (Slot::OutStil, 1),
+        (Slot::Console, 3),
+    ],
+    ..PATTERNS
+};
+
+const ROWS: [Row; 8] = [
+    Row {
+        words: "rewire --verilog v.v --cell=SDF --in-pin SI --out-pin=Q --scan-in si --scan-out so --out-verilog w.v a c b",
+        console: "moved 3\n",
+        calls: &[
+            (Slot::Verilog, 4),
+            (Slot::OutVerilog, 3),
+            (Slot::Console, 3),
+        ],
+        ..CHECK
+    },
+    Row {
+        words: "trace --table t.toml --verilog v.v --scan-out so",
+        console: TRACED,
+        calls: &[(Slot::Table, 4), (Slot::Verilog, 4), (Slot::Console, 3)],
+        ..CHECK
+    },
+    CHECK,
+    REORDER,
+    Row {
+        words: "reorder --table t.toml --lef m.lef --verilog v.v --def d.def --out-verilog w.v --out-def w.def --effort order",
+        ..REORDER
+    },
+    Row {
+        words: "play --table t.toml --verilog v.v --stil s.stil --device hold",
+        console: "pattern p1\nscan 1 pass\nscan 2 pass\ncells NNN\n",
+        calls: &[
+            (Slot::Table, 4),
+            (Slot::Verilog, 4),
+            (Slot::Stil, 4),
+            (Slot::Console, 3),
+        ],
+        ..CHECK
+    },
+    PATTERNS,
+    FAULT,
 ];
 
-/// One call of the inputs too few.
-pub(crate) const WRONG: [Row; 1] = [(
-    "trace --table t.toml --verilog v.v --scan-out so",
-    7,
-    &[Slot::Console],
-)];
+const TRACED: &str = "from si\na SDF SI Q 1\nb SDF SI Q 1\nc SDF SI Q 1\nto so\nparity 0\n";
 
-/// A load and a capture.
-const ROUND: &str = "  Call load_unload { si=011; }\n  Call capture;\n";
-
-/// A statement before so many rounds; what comes of playing them: the status, the calls and the end of the console's text.
-type Pieces = (&'static str, &'static str, usize, &'static str);
-
-const PIECES: [Pieces; 2] = [
-    (
-        "230 pieces are each asked for once, and their end; 76 are written",
-        "",
-        20_000,
-        "0 319 \"20000 pass\\nscan 20001 pass\\ncells NNN\\n\"",
-    ),
-    (
-        "a fault in the first piece is said before another is asked for",
-        "  Goto x;\n",
-        20_000,
-        "2 14 \"s.stil:14: PatternUnsupported\\n\"",
-    ),
+/// One call of the inputs too few, and another text on the console.
+pub(crate) const WRONG: [Row; 2] = [
+    Row {
+        words: "trace --table t.toml --verilog v.v --scan-out so",
+        console: TRACED,
+        calls: &[(Slot::Table, 4), (Slot::Verilog, 3), (Slot::Console, 3)],
+        ..CHECK
+    },
+    Row {
+        words: "trace --table t.toml --verilog v.v --scan-out so",
+        console: "from so\n",
+        calls: &[(Slot::Table, 4), (Slot::Verilog, 4), (Slot::Console, 3)],
+        ..CHECK
+    },
 ];
 
-pub(crate) const WRONG_PIECES: [Pieces; 1] = [(
-    "another end",
-    "",
-    1,
-    "0 15 \"scan 1 pass\\nscan 2 fail\\ncells NNN\\n\"",
-)];
-
-/// The words of a line.
-pub(crate) fn words_of(alloc: Global, line: &str) -> Result<Vec<Word>, NoMemory> {
-    let mut words = Vec::new(alloc);
-    for word in line.split(' ') {
-        words.push(Word::copy(alloc, word)?)?;
+/// How many of the first calls of a list are on the slot.
+fn calls_on(calls: &[(Slot, u64)], slot: Slot, first: u64) -> u64 {
+    let (mut left, mut sum) = (first, 0u64);
+    for (on, count) in calls {
+        if *on == slot {
+            sum = sum.saturating_add(left.min(*count));
+        }
+        left = left.saturating_sub(*count);
     }
-    Ok(words)
+    sum
 }
 
-fn files_of(alloc: Global, texts: &[(Slot, Vec<u8>)]) -> Result<Vec<(Slot, Text)>, NoMemory> {
-    let mut files = Vec::new(alloc);
-    for (slot, text) in texts {
-        files.push((*slot, Text::copy(alloc, text)?))?;
+/// How many calls a list has.
+fn calls_in(calls: &[(Slot, u64)]) -> u64 {
+    let mut sum = 0u64;
+    for (_on, count) in calls {
+        sum = sum.saturating_add(*count);
     }
-    Ok(files)
+    sum
 }
 
-/// A desk over some files, one call of which fails and one write of which takes nothing; 0 is no call's number.
-pub(crate) fn desk(
-    alloc: Global,
-    texts: &[(Slot, Vec<u8>)],
-    failing: u64,
-    empty_write: u64,
-) -> Result<MemoryDesk, NoMemory>
-    ensures { IfOk result (λ desk. AllUnopened (slots_of desk)) }
-{
-    let files = files_of(alloc, texts)?;
-    let failing = vec![in alloc; failing]?;
-    let empty_writes = vec![in alloc; empty_write]?;
-    MemoryDesk::new(alloc, files, failing, empty_writes, PORTION, 1 << 20)
+/// The slot of a call by its number; none where the list has no such call.
+fn slot_at(calls: &[(Slot, u64)], number: u64) -> Option<Slot> {
+    let mut passed = 0u64;
+    for (slot, count) in calls {
+        let before = passed;
+        passed = passed.saturating_add(*count);
+        if before < number && number <= passed {
+            return Some(*slot);
+        }
+    }
+    None
 }
 
-/// The status of a run and its calls, and how much stands in its outputs of what a whole run writes.
+/// Whether a call writes: on an output, behind its opening and before its closing.
+fn is_write(calls: &[(Slot, u64)], number: u64) -> bool {
+    let Some(slot) = slot_at(calls, number) else {
+        return false;
+    };
+    let at = calls_on(calls, slot, number);
+    matches!(slot.way(), Way::Out(_)) && 1 < at && at < calls_on(calls, slot, u64::MAX)
+}
+
+/// How much of its text stands in an output after so many of all its calls, of which the first opens it and the last closes it.
+fn part_of(done: u64, all: u64) -> &'static str {
+    if done < 2 {
+        "nothing"
+    } else if done.saturating_add(1) < all {
+        "part"
+    } else {
+        "all"
+    }
+}
+
+/// What is to come of a row where the call of this number fails or takes nothing, an input's fault or an output's and no call behind it; 0 is
+/// no call's number.
+fn wanted(alloc: Global, row: &Row, number: u64) -> Result<String, NoMemory> {
+    let (mut text, done) = match slot_at(row.calls, number) {
+        Some(slot) => {
+            let status = match slot.way() {
+                Way::In(_) => 3u8,
+                Way::Out(_) => 4u8,
+            };
+            let text = format!(in alloc; "{status} {number} {slot:?}")?;
+            (text, number.saturating_sub(1))
+        }
+        None => {
+            let calls = calls_in(row.calls);
+            (format!(in alloc; "{} {calls}", row.status)?, calls)
+        }
+    };
+    for slot in [Slot::OutVerilog, Slot::OutDef, Slot::OutStil, Slot::Console] {
+        let all = calls_on(row.calls, slot, u64::MAX);
+        let part = part_of(calls_on(row.calls, slot, done), all);
+        write!(&mut text, " {part}")?;
+    }
+    Ok(text)
+}
+
+/// What came of a run: the status, the calls, the slots that had a fault, and how much stands in each output of what is to stand there.
 fn shown(
     alloc: Global,
     status: u8,
     desk: &MemoryDesk,
-    whole: &MemoryDesk,
-    outputs: &[Slot],
+    ends: &[(Slot, Vec<u8>)],
 ) -> Result<String, NoMemory> {
     let mut text = format!(in alloc; "{status} {}", desk.calls())?;
-    for slot in outputs {
+    for slot in SLOTS {
+        if desk.faults(slot) > 0 {
+            write!(&mut text, " {slot:?}")?;
+        }
+    }
+    for (slot, end) in ends {
         let written = desk.written(*slot);
         text.push_str(if written.is_empty() {
             " nothing"
-        } else if written == whole.written(*slot) {
+        } else if written == end.as_slice() {
             " all"
+        } else if end.starts_with(written) {
+            " part"
         } else {
             " other"
         })?;
@@ -150,98 +280,112 @@ fn shown(
     Ok(text)
 }
 
-/// What is to come where a call fails: an input's fault or an output's, no call behind it, and each output whole exactly where
-/// its write was done.
-fn wanted(alloc: Global, inputs: u64, outputs: &[Slot], failing: u64) -> Result<String, NoMemory> {
-    let status = if failing <= inputs { 3 } else { 4 };
-    let mut text = format!(in alloc; "{status} {failing}")?;
-    for (before, _) in (0u64..).zip(outputs) {
-        let write = inputs
-            .saturating_add(before.saturating_mul(3))
-            .saturating_add(2);
-        text.push_str(if failing > write { " all" } else { " nothing" })?;
+/// The text before a part of it, where that stands in it.
+fn up_to<'t>(text: &'t str, part: Option<&str>) -> &'t str {
+    let Some(part) = part else {
+        return text;
+    };
+    match text.split_once(part) {
+        Some((before, _after)) => before,
+        None => text,
     }
-    Ok(text)
 }
 
-/// Tries the commands: a whole run, one over a desk that can't fail, one for each call that fails and one for each write that
-/// takes nothing.
-pub(crate) fn try_rows(cases: &mut Cases, texts: &Texts, rows: &[Row]) -> Result<(), NoMemory> {
-    let alloc = cases.alloc;
-    for (line, inputs, outputs) in rows {
-        let words = words_of(alloc, line)?;
-        let mut whole = desk(alloc, texts, 0, 0)?;
-        let status = run(alloc, &words, &mut whole);
-        let calls = inputs.saturating_add((outputs.len() as u64).saturating_mul(3));
-        let came = shown(alloc, status, &whole, &whole, outputs)?;
-        let done = wanted(alloc, *inputs, outputs, calls)?.replace(alloc, "4 ", "0 ")?;
-        cases.compare(line, came.as_str(), done.as_str())?;
-        let mut sure = SureDesk::new(files_of(alloc, texts)?);
-        let came = format!(in alloc; "{}", run(alloc, &words, &mut sure))?;
-        cases.compare("a sure desk", came.as_str(), "0")?;
-        for (empty, from, step) in [(false, 1, 1), (true, inputs.saturating_add(2), 3)] {
-            let mut call = from;
-            for _ in 0..calls {
-                if call <= calls {
-                    let mut desk = if empty {
-                        desk(alloc, texts, 0, call)?
-                    } else {
-                        desk(alloc, texts, call, 0)?
-                    };
-                    let status = run(alloc, &words, &mut desk);
-                    let came = shown(alloc, status, &desk, &whole, outputs)?;
-                    let wanted = wanted(alloc, *inputs, outputs, call)?;
-                    cases.compare(line, came.as_str(), wanted.as_str())?;
-                }
-                call = call.saturating_add(step);
+/// What is to stand in the outputs at the end of a row's run, as far as it writes them.
+fn ends_of(alloc: Global, row: &Row, written: &[(Slot, Vec<u8>)]) -> Result<Texts, NoMemory> {
+    let mut ends = Vec::new(alloc);
+    for (slot, text) in written {
+        let end = up_to(str::from_utf8(text).unwrap_or(""), row.end);
+        ends.push((*slot, Vec::from_slice(alloc, end.as_bytes())?))?;
+    }
+    let said = Vec::from_slice(alloc, row.console.as_bytes())?;
+    ends.push((Slot::Console, said))?;
+    Ok(ends)
+}
+
+/// A row with its words, its files, and what is to stand in its outputs.
+#[derive(Drop)]
+struct Subject<'t> {
+    row: &'t Row,
+    words: Vec<Word>,
+    files: Texts,
+    ends: Texts,
+}
+
+impl<'t> Subject<'t> {
+    fn new(alloc: Global, row: &'t Row, flops: &Flops) -> Result<Subject<'t>, NoMemory> {
+        let (old, new) = row.change;
+        Ok(Subject {
+            row,
+            words: words_of(alloc, row.words)?,
+            files: changed(alloc, &flops.read, old, new)?,
+            ends: ends_of(alloc, row, &flops.written)?,
+        })
+    }
+
+    /// What comes over a desk that behaves like this.
+    fn answer(&self, alloc: Global, manner: Manner) -> Result<String, NoMemory> {
+        let mut desk = desk(alloc, &self.files, manner)?;
+        let status = run(alloc, &self.words, &mut desk);
+        shown(alloc, status, &desk, &self.ends)
+    }
+
+    /// Tries a run in which a call fails or a write takes nothing, or neither.
+    fn try_call(&self, cases: &mut Cases, failing: u64, empty_write: u64) -> Result<(), NoMemory> {
+        let alloc = cases.alloc;
+        let came = self.answer(
+            alloc,
+            Manner {
+                portion: self.row.portion,
+                failing,
+                empty_write,
+                ..SOUND
+            },
+        )?;
+        let wanted = wanted(alloc, self.row, failing.max(empty_write))?;
+        cases.compare(self.row.words, came.as_str(), wanted.as_str())
+    }
+
+    /// Tries a run over a desk that can't fail.
+    fn try_sure(&self, cases: &mut Cases) -> Result<(), NoMemory> {
+        let alloc = cases.alloc;
+        let mut sure = SureDesk::new(files_of(alloc, &self.files)?);
+        let came = format!(in alloc; "{}", run(alloc, &self.words, &mut sure))?;
+        let wanted = format!(in alloc; "{}", self.row.status)?;
+        cases.compare("a sure desk", came.as_str(), wanted.as_str())
+    }
+}
+
+/// Tries runs: whole over both kinds of desk, and then with each call failing in turn, and each write taking nothing.
+pub(crate) fn try_rows(cases: &mut Cases, flops: &Flops, rows: &[Row]) -> Result<(), NoMemory> {
+    for row in rows {
+        let subject = Subject::new(cases.alloc, row, flops)?;
+        subject.try_sure(cases)?;
+        for number in 0..calls_in(row.calls).saturating_add(1) {
+            subject.try_call(cases, number, 0)?;
+            if is_write(row.calls, number) {
+                subject.try_call(cases, 0, number)?;
             }
         }
     }
     Ok(())
 }
 
-pub(crate) fn runs(alloc: Global, texts: &Texts) -> Result<Cases, NoMemory> {
-    let mut cases = Cases::new(alloc);
-    try_rows(&mut cases, texts, ROWS.as_slice())?;
-    Ok(cases)
+/// Tries `reorder` with patterns over a desk that moves one byte a call: each of the 2,074 bytes that are read takes a call, and each of the
+/// 1,808 that are written, and each of nine slots is opened and closed, and five end.
+fn try_bytes(cases: &mut Cases, flops: &Flops) -> Result<(), NoMemory> {
+    let subject = Subject::new(cases.alloc, &PATTERNS, flops)?;
+    let manner = Manner {
+        portion: 1,
+        ..SOUND
+    };
+    let came = subject.answer(cases.alloc, manner)?;
+    cases.compare("a byte a call", came.as_str(), "0 3905 all all all all")
 }
 
-/// Tries patterns that come in pieces.
-pub(crate) fn try_pieces(
-    cases: &mut Cases,
-    texts: &Texts,
-    rows: &[Pieces],
-) -> Result<(), NoMemory> {
-    let alloc = cases.alloc;
-    let words = words_of(
-        alloc,
-        "play --table t.toml --verilog v.v --stil s.stil --device hold",
-    )?;
-    for (name, first, rounds, wanted) in rows {
-        let again = ROUND.repeat(alloc, *rounds)?;
-        let many = format!(in alloc; "{first}{again}")?;
-        let mut files = Vec::new(alloc);
-        for (slot, text) in texts {
-            let text = str::from_utf8(text).unwrap_or("");
-            let long = text.replace(alloc, ROUND, many.as_str())?;
-            files.push((*slot, long.into_bytes()))?;
-        }
-        let mut desk = desk(alloc, &files, 0, 0)?;
-        let status = run(alloc, &words, &mut desk);
-        let said = desk.written(Slot::Console);
-        let end = &said[said.len().saturating_sub(37)..];
-        let came = format!(in alloc;
-            "{status} {} {:?}",
-            desk.calls(),
-            str::from_utf8(end).unwrap_or("no text")
-        )?;
-        cases.compare(name, came.as_str(), wanted)?;
-    }
-    Ok(())
-}
-
-pub(crate) fn pieces(alloc: Global, texts: &Texts) -> Result<Cases, NoMemory> {
+pub(crate) fn runs(alloc: Global, flops: &Flops) -> Result<Cases, NoMemory> {
     let mut cases = Cases::new(alloc);
-    try_pieces(&mut cases, texts, PIECES.as_slice())?;
+    try_rows(&mut cases, flops, ROWS.as_slice())?;
+    try_bytes(&mut cases, flops)?;
     Ok(cases)
 }

@@ -1,8 +1,8 @@
 //! What the words of a command say, by hand.
 
-use crate::cases::Cases;
-use crate::runs::{desk, words_of};
+use crate::files::{SOUND, desk, words_of};
 use base_types::NoMemory;
+use row_forms::Cases;
 use scan_job::run;
 use scan_words::read_words;
 use std::alloc::Global;
@@ -129,7 +129,7 @@ pub(crate) const WRONG: [Row; 2] = [
 fn answer(alloc: Global, line: &str) -> Result<String, NoMemory> {
     let words = words_of(alloc, line)?;
     let Some(order) = read_words(alloc, &words)? else {
-        let mut desk = desk(alloc, &[], 0, 0)?;
+        let mut desk = desk(alloc, &[], SOUND)?;
         let status = run(alloc, &words, &mut desk);
         return Ok(format!(in alloc; "nothing {status} {}", desk.calls())?);
     };

@@ -2,10 +2,10 @@
 ghost use Rattle.std.specs.Prelude.{◌≡◌, IfOk, IfSome};
 ghost use Rattle.stil_tester.specs.Shifting.{AreChains};
 
-use crate::cases::Cases;
 use base_types::{NoMemory, Rows, Text};
 use call_checks::{are_chains, is_call_for};
 use retarget::{judge_call, map_of, retarget_call};
+use row_forms::Cases;
 use std::alloc::Global;
 use std::fmt::Write;
 use stil_tester::{ChainBits, Chains};

@@ -1,8 +1,8 @@
 //! Made designs: their files, whole for the fewest units and by lines for more.
 
-use crate::cases::Cases;
 use base_types::NoMemory;
 use design_maker::make_design;
+use row_forms::Cases;
 use std::alloc::Global;
 
 /// The Verilog of eight units.

@@ -1,8 +1,8 @@
 //! The lanes beside the plain bodies, on worked values and at every length up to 200.
 
-use crate::cases::Cases;
 use base_types::NoMemory;
 use lane_kernels::plain;
+use row_forms::Cases;
 use std::alloc::Global;
 
 /// A length up to which the lanes come several times, with some left over.

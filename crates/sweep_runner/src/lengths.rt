@@ -1,8 +1,8 @@
 //! Links, the sums of a chain's first links, and the rows that lanes read, by hand.
 ghost use Rattle.std.specs.Prelude.{◌≤◌, length};
 
-use crate::cases::Cases;
 use base_types::{NoMemory, Point, Rows};
+use row_forms::Cases;
 use std::alloc::Global;
 use wire_cost::{Ends, Sums, are_placed, chain_length, is_chain_at, link};
 

@@ -3,12 +3,11 @@
 //!
 //! The subject `wrong` holds a case for each way in which a comparison can fail; each of them must be printed.
 //!
-//! Floor: tests, on lane_kernels, chain_rules, wire_cost, order_search, partition_moves, plan_search, stil_types,
-//! stil_tester, retarget, call_checks, design_maker and base_types.
+//! Floor: tests, on row_forms, lane_kernels, chain_rules, wire_cost, order_search, partition_moves, plan_search,
+//! stil_types, stil_tester, retarget, call_checks, design_maker and base_types.
 #![tactic(auto)]
 
 mod calls;
-mod cases;
 mod designs;
 mod kernels;
 mod lengths;
@@ -19,17 +18,9 @@ mod steps;
 mod sweep;
 
 use base_types::NoMemory;
-use cases::Cases;
+use row_forms::{Cases, print_cases};
 use std::alloc::Global;
 use std::io;
-
-/// Prints what came of a subject.
-fn report(rt: &impl Print, subject: &str, tried: Result<Cases, NoMemory>) -> io::Result<()> {
-    match tried {
-        Ok(cases) => print!(rt; "{subject} {} cases\n{}", cases.tried, cases.lines),
-        Err(NoMemory) => println!(rt; "{subject}: out of memory"),
-    }
-}
 
 /// Cases whose answers are wrong on purpose.
 fn wrong(alloc: Global) -> Result<Cases, NoMemory> {
@@ -52,14 +43,14 @@ fn wrong(alloc: Global) -> Result<Cases, NoMemory> {
 
 fn main(rt: HostRuntime) -> io::Result<()> {
     let alloc = rt.alloc();
-    report(&rt, "kernels", kernels::kernels(alloc))?;
-    report(&rt, "rules", rules::rules(alloc))?;
-    report(&rt, "steps", steps::steps(alloc))?;
-    report(&rt, "lengths", lengths::lengths(alloc))?;
-    report(&rt, "orders", orders::orders(alloc))?;
-    report(&rt, "calls", calls::calls(alloc))?;
-    report(&rt, "playing", playing::playing(alloc))?;
-    report(&rt, "designs", designs::designs(alloc))?;
-    report(&rt, "sweep", sweep::sweep(alloc))?;
-    report(&rt, "wrong", wrong(alloc))
+    print_cases(&rt, "kernels", kernels::kernels(alloc))?;
+    print_cases(&rt, "rules", rules::rules(alloc))?;
+    print_cases(&rt, "steps", steps::steps(alloc))?;
+    print_cases(&rt, "lengths", lengths::lengths(alloc))?;
+    print_cases(&rt, "orders", orders::orders(alloc))?;
+    print_cases(&rt, "calls", calls::calls(alloc))?;
+    print_cases(&rt, "playing", playing::playing(alloc))?;
+    print_cases(&rt, "designs", designs::designs(alloc))?;
+    print_cases(&rt, "sweep", sweep::sweep(alloc))?;
+    print_cases(&rt, "wrong", wrong(alloc))
 }

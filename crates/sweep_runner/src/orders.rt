@@ -3,7 +3,6 @@ ghost use Rattle.std.specs.Prelude.{◌<◌};
 ghost use Rattle.chain_rules.specs.Legality.{IsLegal};
 ghost use Rattle.order_search.specs.Searches.{AreSearchable};
 
-use crate::cases::Cases;
 use crate::steps::plan_of;
 use base_types::{NoMemory, Point, Rows};
 use chain_rules::plain::is_legal;
@@ -12,6 +11,7 @@ use order_search::plain::{is_settled, length_of};
 use order_search::{Effort, are_searchable, nearest_plan, settle_order};
 use partition_moves::settle_all;
 use plan_search::search_plan;
+use row_forms::Cases;
 use std::alloc::Global;
 use wire_cost::Ends;
 

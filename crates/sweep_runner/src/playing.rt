@@ -4,9 +4,9 @@ ghost use Rattle.stil_tester.specs.Runs.{AreStatementsFor};
 ghost use Rattle.stil_tester.specs.Shifting.{AreChains};
 
 use crate::calls::{call_by, chains_of};
-use crate::cases::Cases;
 use base_types::{NoMemory, Rows, Text};
 use call_checks::is_call_for;
+use row_forms::Cases;
 use std::alloc::Global;
 use std::fmt::Write;
 use stil_tester::{Chains, Device, Hold, Mix, Player, Symbol, play, scan_call};

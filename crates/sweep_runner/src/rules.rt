@@ -1,10 +1,10 @@
 //! The rules that are read off paths and chains, by hand.
 
-use crate::cases::Cases;
 use base_types::{NoMemory, ReadFault, Rows};
 use chain_rules::{
     ChainSpec, ElementSpec, EndSpec, ListSpec, PathSpec, Rules, StepSpec, are_chains, units_of,
 };
+use row_forms::Cases;
 use std::alloc::Global;
 use std::fmt::Write;
 

@@ -2,10 +2,10 @@
 ghost use Rattle.std.specs.Prelude.{IsTrue};
 ghost use Rattle.chain_rules.specs.Legality.{IsIn, IsLegal, IsOpen, taken_out};
 
-use crate::cases::Cases;
 use crate::rules::{FREE, Given, rules_of};
 use base_types::NoMemory;
 use chain_rules::{Plan, Position, Rules, can_move, can_swap, is_legal};
+use row_forms::Cases;
 use std::alloc::Global;
 
 /// The chains and places of two positions, and whether the step between them is legal.

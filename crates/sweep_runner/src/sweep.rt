@@ -5,19 +5,20 @@
 //! compare: none, or a string of at most four characters, which are 122 each. A call is refused if a compare expects something
 //! behind its chain's bits; that leaves 14, 32 or 68 compares for a chain of one, two or three bits. It is also refused if it
 //! shifts, but too seldom. All other calls are retargeted, and shifted plainly as read and as written, from cells that hold
-//! each of the three symbols.
+//! each of the three symbols. Where calls are judged each is played by the tester too, refused or not, and held against single
+//! shifts.
 //!
 //! Where all that there is would take too long, steps go through it, so that each string, each parity, each cut and each order
 //! comes up, but not with everything else. How many of the calls pass was counted by another program, which looks up the cell
 //! of each expectation and shifts nothing.
 ghost use Rattle.std.specs.Prelude.{◌≡◌, ◌<◌, ◌≤◌, IfOk, IfSome};
-ghost use Rattle.stil_tester.specs.Shifting.{AreChains};
+ghost use Rattle.stil_tester.specs.Shifting.{AreChains, IsCallFor};
 
 use crate::calls::call_of;
-use crate::cases::Cases;
 use base_types::{Kind, NoMemory, Rows, Text};
-use call_checks::{are_chains, is_call_for};
+use call_checks::{are_chains, call_by_shifts, is_call_for};
 use retarget::{judge_call, map_of, retarget_call};
+use row_forms::Cases;
 use std::alloc::Global;
 use stil_tester::{ChainBits, Chains, Symbol, scan_call};
 use stil_types::ScanCall;
@@ -332,8 +333,8 @@ fn run_calls(
                 let mut cells = filling(number, turn);
                 let mut others = cells;
                 let room = old.cells as usize;
-                let verdict = scan_call(alloc, old, &mut cells[..room], &call)?;
-                let passed = scan_call(alloc, new, &mut others[..room], &written)?;
+                let verdict = call_by_shifts(alloc, old, &mut cells[..room], &call)?;
+                let passed = call_by_shifts(alloc, new, &mut others[..room], &written)?;
                 if verdict != passed || cells != others {
                     let came = format!(in alloc; "{call:?} on {old:?} and {new:?}")?;
                     cases.compare("shifted", came.as_str(), "alike")?;
@@ -438,7 +439,34 @@ fn run_all_parities(
     Ok(())
 }
 
-/// How many calls are accepted, and how many are refused for a short load or a long compare, where all strings come.
+/// A call of the tester, which makes no single shifts, beside these.
+fn hold(
+    cases: &mut Cases,
+    chains: &Chains,
+    call: &ScanCall,
+    filling: [Symbol; CELLS],
+) -> Result<(), NoMemory>
+    requires chains { AreChains chains.now }
+    requires call { IsCallFor chains.now call.now }
+{
+    let alloc = cases.alloc;
+    let room = (chains.cells as usize).min(CELLS);
+    if room < chains.cells as usize {
+        return cases.compare("chains", "of more cells", "of at most six");
+    }
+    let mut cells = filling;
+    let mut shifted = filling;
+    let verdict = scan_call(alloc, chains, &mut cells[..room], call)?;
+    let passed = call_by_shifts(alloc, chains, &mut shifted[..room], call)?;
+    if verdict != passed || cells != shifted {
+        let came = format!(in alloc; "{call:?} on {chains:?}")?;
+        cases.compare("played", came.as_str(), "as by single shifts")?;
+    }
+    Ok(())
+}
+
+/// How many calls are accepted, and how many are refused for a short load or a long compare, where all strings come. Each is
+/// played, too.
 fn judged(
     cases: &mut Cases,
     chains: &Option<Chains>,
@@ -453,6 +481,7 @@ fn judged(
     for number in 0..PRIME * PRIME {
         let call = call(cases.alloc, strings, paired(number))?;
         if is_call_for(chains, &call) {
+            hold(cases, chains, &call, filling(number, 0))?;
             let place = match judge_call(chains, &call) {
                 None => 0,
                 Some(Kind::ShortLoad) => 1,
