@@ -6,6 +6,7 @@
 mod file_desk;
 #[cfg(test)]
 mod tests;
+mod usage;
 
 use base_types::Word;
 use file_desk::FileDesk;
@@ -14,16 +15,13 @@ use std::alloc::Global;
 use std::io::ErrorKind;
 use std::process::ExitCode;
 use std::{env, io};
+use usage::USAGE;
 
 /// The status of words that are of no written form.
 const NO_FORM: u8 = 1;
 
 /// The status of want of memory.
 const NO_MEMORY: u8 = 5;
-
-/// What is written to standard error where the words are of no written form.
-const USAGE: &str =
-    "usage: wrenpewter rewire --verilog FILE --cell NAME --in-pin NAME --out-pin NAME --scan-in NAME --scan-out NAME --out-verilog FILE INSTANCE ..\n       wrenpewter trace --table FILE --verilog FILE --scan-out NAME\n       wrenpewter check --table FILE --lef FILE --verilog FILE --def FILE\n       wrenpewter reorder --table FILE --lef FILE --verilog FILE --def FILE --out-verilog FILE --out-def FILE --effort order|full [--stil FILE --out-stil FILE]\n       wrenpewter play --table FILE --verilog FILE --stil FILE --device hold|mix";
 
 /// The words behind the program's name.
 fn words_of(rt: &HostRuntime, alloc: Global) -> io::Result<Vec<Word>> {

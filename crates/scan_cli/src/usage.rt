@@ -1,0 +1,15 @@
+/// What is written to standard error where the words are of no written form: each command's, and what it does.
+pub(crate) const USAGE: &str = "usage: wrenpewter COMMAND OPTIONS
+
+  reorder --table FILE --lef FILE --verilog FILE --def FILE --out-verilog FILE --out-def FILE --effort order|full [--stil FILE --out-stil FILE]
+      puts the scan chains of a placed design into a shorter order, and changes its scan patterns to match
+  check --table FILE --lef FILE --verilog FILE --def FILE
+      says whether a placed design, its scan chains and its netlist agree, and how long the chains are
+  play --table FILE --verilog FILE --stil FILE --device hold|mix
+      tells whether scan patterns pass on a netlist as it stands
+  trace --table FILE --verilog FILE --scan-out NAME
+      tells the scan path of one output
+  rewire --verilog FILE --cell NAME --in-pin NAME --out-pin NAME --scan-in NAME --scan-out NAME --out-verilog FILE INSTANCE ..
+      puts one scan chain of one cell kind into the order of the instances
+
+status: 0 done, 1 words of no such form, 2 refused, 3 an input failed, 4 an output failed, 5 want of memory";
