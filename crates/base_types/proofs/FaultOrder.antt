@@ -6,11 +6,11 @@ use Rattle.std.proofs.lemmas.Cmp.{nat_list_cmp_total}
 use Rattle.std.proofs.lemmas.Map.Lookups.{exact_bytes}
 use Rattle.base_types.specs.declared.fault.Fault.{Fault}
 use Rattle.base_types.specs.declared.fault.FileKind.{FileKind}
-use Rattle.base_types.specs.declared.fault.FileKind.TheVariants.{Table, Lef, Verilog, Def, Stil, Words}
+use Rattle.base_types.specs.declared.fault.FileKind.TheVariants.{Table, Lef, Verilog, Def, Stil, NewVerilog, NewStil, Log, Words}
 use Rattle.base_types.specs.declared.fault.Spot.{Spot}
 use Rattle.base_types.specs.declared.fault.Spot.TheVariants.{Line, Cell, Nowhere}
 use Rattle.base_types.specs.declared.kind.Kind.{Kind}
-use Rattle.base_types.specs.declared.kind.Kind.TheVariants.{FileSize, TableSyntax, TableShape, LefSyntax, LefNumber, LefTwice, VerilogSyntax, SecondModule, VerilogNumber, VerilogTwice, BadSelect, DefSyntax, DefNumber, DefTwice, ElementUnknown, ElementTwice, ElementUnplaced, ElementPin, BitsDiffer, NoMacro, TooManyElements, InstanceMissing, CellDiffers, NetDiffers, StilSyntax, StilTwice, Unsupported, ChainUndeclared, NoPort, TooManyPaths, NoDriver, TwoDrivers, Loop, SharedCell, WrongPort, LengthDiffers, InversionDiffers, CellsDiffer, TooManyBits, PinMissing, NotAStretch, UnlistedBits, OrderBroken, OverMaxBits, PlaceUnknown, TooManyUnits, PatternSyntax, PatternUnsupported, ScanCharacter, ForeignData, ShortLoad, LongCompare, TooManyShifts, StatementSize, PatternSize, NotPermutation, PinnedLast}
+use Rattle.base_types.specs.declared.kind.Kind.TheVariants.{FileSize, TableSyntax, TableShape, LefSyntax, LefNumber, LefTwice, VerilogSyntax, SecondModule, VerilogNumber, VerilogTwice, BadSelect, DefSyntax, DefNumber, DefTwice, ElementUnknown, ElementTwice, ElementUnplaced, ElementPin, BitsDiffer, NoMacro, TooManyElements, InstanceMissing, CellDiffers, NetDiffers, StilSyntax, StilTwice, Unsupported, ChainUndeclared, NoPort, TooManyPaths, NoDriver, TwoDrivers, Loop, SharedCell, WrongPort, LengthDiffers, InversionDiffers, CellsDiffer, TooManyBits, PinMissing, NotAStretch, UnlistedBits, OrderBroken, OverMaxBits, PlaceUnknown, TooManyUnits, PatternSyntax, PatternUnsupported, ScanCharacter, ForeignData, ShortLoad, LongCompare, TooManyShifts, StatementSize, PatternSize, NotPermutation, PinnedLast, NotSame, LogSyntax, LogPlace, LogTwice}
 use Rattle.base_types.specs.Faults.{number_of}
 use Rattle.base_types.specs.FirstFault.{file_number, spot_key, fault_key, ComesBefore, FaultLaw}
 
@@ -73,7 +73,11 @@ kind_at n =
     if n == 87 then StatementSize else
     if n == 88 then PatternSize else
     if n == 91 then NotPermutation else
-    PinnedLast
+    if n == 92 then PinnedLast else
+    if n == 93 then NotSame else
+    if n == 94 then LogSyntax else
+    if n == 95 then LogPlace else
+    LogTwice
 
 kind_back : (k : Kind) → kind_at (number_of k) ≡ k
 unfolding kind_at
@@ -134,12 +138,16 @@ kind_back StatementSize = refl
 kind_back PatternSize = refl
 kind_back NotPermutation = refl
 kind_back PinnedLast = refl
+kind_back NotSame = refl
+kind_back LogSyntax = refl
+kind_back LogPlace = refl
+kind_back LogTwice = refl
 
 same_kind : (a b : Kind) → number_of a ≡ number_of b → a ≡ b
 same_kind a b e = sym (kind_back a) ∙ ap kind_at e ∙ kind_back b
 
 file_at : ℕ → FileKind
-file_at n = if n == 0 then Table else if n == 1 then Lef else if n == 2 then Verilog else if n == 3 then Def else if n == 4 then Stil else Words
+file_at n = if n == 0 then Table else if n == 1 then Lef else if n == 2 then Verilog else if n == 3 then Def else if n == 4 then Stil else if n == 5 then NewVerilog else if n == 6 then NewStil else if n == 7 then Log else Words
 
 file_back : (f : FileKind) → file_at (file_number f) ≡ f
 unfolding file_at
@@ -148,6 +156,9 @@ file_back Lef = refl
 file_back Verilog = refl
 file_back Def = refl
 file_back Stil = refl
+file_back NewVerilog = refl
+file_back NewStil = refl
+file_back Log = refl
 file_back Words = refl
 
 same_file : (a b : FileKind) → file_number a ≡ file_number b → a ≡ b

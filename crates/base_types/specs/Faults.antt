@@ -5,7 +5,7 @@ use Rattle.base_types.specs.declared.fault.FileKind.{FileKind}
 use Rattle.base_types.specs.declared.fault.FileKind.TheVariants as files
 use Rattle.base_types.specs.declared.fault.Spot.TheVariants as spots
 use Rattle.base_types.specs.declared.kind.Kind.{Kind}
-use Rattle.base_types.specs.declared.kind.Kind.TheVariants.{FileSize, TableSyntax, TableShape, LefSyntax, LefNumber, LefTwice, VerilogSyntax, SecondModule, VerilogNumber, VerilogTwice, BadSelect, DefSyntax, DefNumber, DefTwice, ElementUnknown, ElementTwice, ElementUnplaced, ElementPin, BitsDiffer, NoMacro, TooManyElements, InstanceMissing, CellDiffers, NetDiffers, StilSyntax, StilTwice, Unsupported, ChainUndeclared, NoPort, TooManyPaths, NoDriver, TwoDrivers, Loop, SharedCell, WrongPort, LengthDiffers, InversionDiffers, CellsDiffer, TooManyBits, PinMissing, NotAStretch, UnlistedBits, OrderBroken, OverMaxBits, PlaceUnknown, TooManyUnits, PatternSyntax, PatternUnsupported, ScanCharacter, ForeignData, ShortLoad, LongCompare, TooManyShifts, StatementSize, PatternSize, NotPermutation, PinnedLast}
+use Rattle.base_types.specs.declared.kind.Kind.TheVariants.{FileSize, TableSyntax, TableShape, LefSyntax, LefNumber, LefTwice, VerilogSyntax, SecondModule, VerilogNumber, VerilogTwice, BadSelect, DefSyntax, DefNumber, DefTwice, ElementUnknown, ElementTwice, ElementUnplaced, ElementPin, BitsDiffer, NoMacro, TooManyElements, InstanceMissing, CellDiffers, NetDiffers, StilSyntax, StilTwice, Unsupported, ChainUndeclared, NoPort, TooManyPaths, NoDriver, TwoDrivers, Loop, SharedCell, WrongPort, LengthDiffers, InversionDiffers, CellsDiffer, TooManyBits, PinMissing, NotAStretch, UnlistedBits, OrderBroken, OverMaxBits, PlaceUnknown, TooManyUnits, PatternSyntax, PatternUnsupported, ScanCharacter, ForeignData, ShortLoad, LongCompare, TooManyShifts, StatementSize, PatternSize, NotPermutation, PinnedLast, NotSame, LogSyntax, LogPlace, LogTwice}
 
 -- kinds are answered by this number, the least first
 abbrev pub number_of : Kind → ℕ
@@ -66,6 +66,10 @@ number_of StatementSize = 87
 number_of PatternSize = 88
 number_of NotPermutation = 91
 number_of PinnedLast = 92
+number_of NotSame = 93
+number_of LogSyntax = 94
+number_of LogPlace = 95
+number_of LogTwice = 96
 
 -- the name of a kind, as it is printed
 abbrev pub kind_name : Kind → List ℕ
@@ -126,6 +130,10 @@ kind_name StatementSize = codes "StatementSize"
 kind_name PatternSize = codes "PatternSize"
 kind_name NotPermutation = codes "NotPermutation"
 kind_name PinnedLast = codes "PinnedLast"
+kind_name NotSame = codes "NotSame"
+kind_name LogSyntax = codes "LogSyntax"
+kind_name LogPlace = codes "LogPlace"
+kind_name LogTwice = codes "LogTwice"
 
 -- a fault at a line of a file, in the words, or at a cell of the table
 abbrev pub at_line : Kind → FileKind → ℕ → Fault

@@ -6,7 +6,7 @@ use Rattle.std.specs.declared.cmp.Ordering.TheVariants.{Less}
 use Rattle.std.specs.Cmp.Lexicographic.{slice_cmp}
 use Rattle.base_types.specs.declared.fault.Fault.{Fault}
 use Rattle.base_types.specs.declared.fault.FileKind.{FileKind}
-use Rattle.base_types.specs.declared.fault.FileKind.TheVariants.{Table, Lef, Verilog, Def, Stil, Words}
+use Rattle.base_types.specs.declared.fault.FileKind.TheVariants.{Table, Lef, Verilog, Def, Stil, NewVerilog, NewStil, Log, Words}
 use Rattle.base_types.specs.declared.fault.ReadFault.{ReadFault}
 use Rattle.base_types.specs.declared.fault.ReadFault.TheVariants as read_faults
 use Rattle.base_types.specs.declared.fault.Spot.{Spot}
@@ -20,7 +20,10 @@ file_number Lef = 1
 file_number Verilog = 2
 file_number Def = 3
 file_number Stil = 4
-file_number Words = 5
+file_number NewVerilog = 5
+file_number NewStil = 6
+file_number Log = 7
+file_number Words = 8
 
 -- lines by their numbers, cells by the bytes of their names
 abbrev pub spot_key : Spot → List ℕ

@@ -15,6 +15,12 @@ pub enum FileKind {
     Verilog,
     Def,
     Stil,
+    /// The Verilog of the set that is compared with the first.
+    NewVerilog,
+    /// The STIL of that set.
+    NewStil,
+    /// The log of fails.
+    Log,
     Words,
 }
 

@@ -129,6 +129,14 @@ pub enum Kind {
     NotPermutation,
     /// The last unit is pinned and another name is given last.
     PinnedLast,
+    /// The two sets of files don't mean the same.
+    NotSame,
+    /// A line of the log isn't four decimals without sign that single blanks part, or one of them exceeds 9223372036854775807.
+    LogSyntax,
+    /// A line of the log names no pattern, run scan, chain or index of the new patterns, or a place at which nothing is expected.
+    LogPlace,
+    /// The four numbers of a line of the log stand in an earlier line.
+    LogTwice,
 }
 
 impl Kind {
@@ -194,6 +202,10 @@ impl Kind {
             Kind::PatternSize => 88,
             Kind::NotPermutation => 91,
             Kind::PinnedLast => 92,
+            Kind::NotSame => 93,
+            Kind::LogSyntax => 94,
+            Kind::LogPlace => 95,
+            Kind::LogTwice => 96,
         }
     }
 
@@ -259,6 +271,10 @@ impl Kind {
             Kind::PatternSize => "PatternSize",
             Kind::NotPermutation => "NotPermutation",
             Kind::PinnedLast => "PinnedLast",
+            Kind::NotSame => "NotSame",
+            Kind::LogSyntax => "LogSyntax",
+            Kind::LogPlace => "LogPlace",
+            Kind::LogTwice => "LogTwice",
         }
     }
 }

@@ -21,4 +21,7 @@ slot_of kinds.Lef = Some Lef
 slot_of kinds.Verilog = Some Verilog
 slot_of kinds.Def = Some Def
 slot_of kinds.Stil = Some Stil
+slot_of kinds.NewVerilog = None
+slot_of kinds.NewStil = None
+slot_of kinds.Log = None
 slot_of kinds.Words = None

@@ -97,7 +97,7 @@ pub fn slot_of(file: FileKind) -> Option<Slot>
         FileKind::Verilog => Some(Slot::Verilog),
         FileKind::Def => Some(Slot::Def),
         FileKind::Stil => Some(Slot::Stil),
-        FileKind::Words => None,
+        FileKind::NewVerilog | FileKind::NewStil | FileKind::Log | FileKind::Words => None,
     }
 }
 

@@ -26,6 +26,9 @@ pub fn fault_text(alloc: Global, fault: &Fault) -> Result<String, NoMemory> {
         FileKind::Verilog => "v.v",
         FileKind::Def => "d.def",
         FileKind::Stil => "s.stil",
+        FileKind::NewVerilog => "nv.v",
+        FileKind::NewStil => "ns.stil",
+        FileKind::Log => "l.log",
         FileKind::Words => "words",
     };
     let (place, kind) = (place_text(alloc, &fault.spot)?, fault.kind.name());
