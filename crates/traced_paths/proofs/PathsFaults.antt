@@ -8,7 +8,7 @@ use Rattle.std.proofs.lemmas.List.{length-map, get_or-map, get_or_default, lengt
 use Rattle.std.proofs.lemmas.List.Elements.{All-contains, All-head, All-tail, Contains-get_or, Contains-append_left, Contains-append_right}
 use Rattle.base_types.specs.declared.fault.Fault.{Fault}
 use Rattle.base_types.specs.declared.fault.FileKind.{FileKind}
-use Rattle.base_types.specs.declared.fault.FileKind.TheVariants.{Table, Lef, Verilog, Def, Stil, Words}
+use Rattle.base_types.specs.declared.fault.FileKind.TheVariants.{Table, Lef, Verilog, Def, Stil, NewVerilog, NewStil, Log, Words}
 use Rattle.base_types.specs.declared.kind.Kind.{Kind}
 use Rattle.base_types.specs.declared.kind.Kind.TheVariants.{NoPort, TooManyPaths, SharedCell}
 use Rattle.base_types.specs.Faults.{at_line, number_of}
@@ -45,6 +45,9 @@ port_line Lef a b le e = line_case a b (nat_cmp b a) Equal refl le refl e
 port_line Verilog a b le e = line_case a b (nat_cmp b a) Equal refl le refl e
 port_line Def a b le e = line_case a b (nat_cmp b a) Equal refl le refl e
 port_line Stil a b le e = line_case a b (nat_cmp b a) Equal refl le refl e
+port_line NewVerilog a b le e = line_case a b (nat_cmp b a) Equal refl le refl e
+port_line NewStil a b le e = line_case a b (nat_cmp b a) Equal refl le refl e
+port_line Log a b le e = line_case a b (nat_cmp b a) Equal refl le refl e
 port_line Words a b le e = line_case a b (nat_cmp b a) Equal refl le refl e
 
 cell_line : (a b : ℕ) → a ≤ b → ComesBefore (at_line SharedCell Verilog b) (at_line SharedCell Verilog a) → ⊥
