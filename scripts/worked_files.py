@@ -15,10 +15,15 @@ REWIRE = ("rewire --verilog v.v --cell SDF --in-pin SI --out-pin Q --scan-in si 
           " --out-verilog w.v a c b").split()
 
 
+def all_worked():
+    """The bytes of the files of all worked texts, by their names."""
+    with open(os.path.join(CRATES, "command_rows", "data", "worked.toml"), "rb") as file:
+        return {name: {file_name: text.encode() for file_name, text in texts.items()} for name, texts in tomllib.load(file).items()}
+
+
 def worked(name):
     """The bytes of the files of worked texts, by their names."""
-    with open(os.path.join(CRATES, "command_rows", "data", "worked.toml"), "rb") as file:
-        return {file_name: text.encode() for file_name, text in tomllib.load(file)[name].items()}
+    return all_worked()[name]
 
 
 def write(folder, files):

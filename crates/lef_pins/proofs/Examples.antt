@@ -5,7 +5,7 @@ use Rattle.std.specs.Prelude.{codes, pos}
 use Rattle.token_forms.specs.Tokens.{Token}
 use Rattle.def_tokens.specs.DefStatements.{statement_len}
 use Rattle.def_tokens.specs.Numbers.{decimal_of}
-use Rattle.lef_pins.specs.Blocks.{FileItem, items_within, passing_len, inner_len, pin_item_at, macro_item_at, file_item_at, lef_at}
+use Rattle.lef_pins.specs.Blocks.{name_of, FileItem, items_within, passing_len, inner_len, pin_item_at, macro_item_at, file_item_at, lef_at}
 use Rattle.lef_pins.specs.Statements.{is_size, is_origin, is_read_rect, is_rect, is_fit_rect, rect_values, begins_size, begins_origin, is_fit_size, is_fit_origin, size_values, origin_values}
 use Rattle.lef_pins.specs.Faults.{macros_of, syntax_places, number_places, twice_places}
 use Rattle.lef_pins.specs.Macros.{NamedMacros}
@@ -18,7 +18,7 @@ tokens at (w ∷ ws) = record { text = codes w; start = at; end = at + 9 } ∷ t
 
 -- the macros of these tokens with their names
 named : List FileItem → NamedMacros
-named items = map (λ m. (m.0.text, macro_of m.1.items)) (macros_of items)
+named items = map (λ m. (name_of m.0, macro_of m.1.items)) (macros_of items)
 
 abbrev pin_texts : List String
 pin_texts =

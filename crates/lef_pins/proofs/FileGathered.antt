@@ -10,7 +10,7 @@ use Rattle.lef_pins.specs.declared.blocks.MacroReading.{MacroReading}
 use Rattle.lef_pins.specs.declared.file.FileReading.{FileReading}
 use Rattle.lef_pins.specs.declared.macros.Macro.{Macro as macro_value}
 use Rattle.lef_pins.specs.declared.macros.MacroPin.{MacroPin}
-use Rattle.lef_pins.specs.Blocks.{Block, MacroItem, FileItem, Macro, Passed}
+use Rattle.lef_pins.specs.Blocks.{name_of, Block, MacroItem, FileItem, Macro, Passed}
 use Rattle.lef_pins.specs.Faults.{NamedBlock, place_if, unclosed, syntax_in_items, is_size_item, unsized, syntax_in_macro, numbers_in_macro, again_in, pin_rows, macro_rows, macros_of, pins_again, syntax_places, number_places, twice_places}
 use Rattle.lef_pins.specs.Macros.{NamedMacros, macro_at}
 use Rattle.lef_pins.specs.Denoted.{macro_of, size_from, origin_from}
@@ -70,11 +70,11 @@ passed-twice f s = refl
 abbrev has_macro : FileReading → List ℕ → Bool
 has_macro f q = is_some (macro_at q f.macros)
 
-macros_next : (f : FileReading) (name : Token) (b : Block MacroItem) (q : List ℕ) → has_macro (put_file_item f (Macro name b)) q ≡ (has_macro f q || bytes_eq q name.text)
+macros_next : (f : FileReading) (name : Token) (b : Block MacroItem) (q : List ℕ) → has_macro (put_file_item f (Macro name b)) q ≡ (has_macro f q || bytes_eq q (name_of name))
 unfolding put_file_item put_macro
-macros_next f name b q = has_macro-added q name.text (macro_read (read f.least b)) f.macros
+macros_next f name b q = has_macro-added q (name_of name) (macro_read (read f.least b)) f.macros
 
-again_next : (f : FileReading) (name : Token) (b : Block MacroItem) → (put_file_item f (Macro name b)).again ≡ lesser f.again (found_if (has_macro f name.text) b.mark.start)
+again_next : (f : FileReading) (name : Token) (b : Block MacroItem) → (put_file_item f (Macro name b)).again ≡ lesser f.again (found_if (has_macro f (name_of name)) b.mark.start)
 unfolding put_file_item put_macro
 again_next f name b = refl
 
@@ -82,11 +82,11 @@ in_file-again : (f : FileReading) (is : List FileItem) (before : List (List ℕ)
 unfolding put_file_item
 in_file-again f [] before h = sym (lesser_none f.again)
 in_file-again f (Macro name b ∷ is) before h =
-    let more = again_in (before ++ name.text ∷ []) (macro_rows (macros_of is)) in
-    in_file-again (put_file_item f (Macro name b)) is (before ++ name.text ∷ []) (with_more before name.text (has_macro f) (has_macro (put_file_item f (Macro name b))) h (macros_next f name b))
+    let more = again_in (before ++ (name_of name) ∷ []) (macro_rows (macros_of is)) in
+    in_file-again (put_file_item f (Macro name b)) is (before ++ (name_of name) ∷ []) (with_more before (name_of name) (has_macro f) (has_macro (put_file_item f (Macro name b))) h (macros_next f name b))
     ∙ ap (λ (o : Option ℕ). lesser o (least_of more)) (again_next f name b)
-    ∙ ap (λ (k : Bool). lesser (lesser f.again (found_if k b.mark.start)) (least_of more)) (sym (h.same name.text))
-    ∙ then_more f.again (list_any (bytes_eq name.text) before) b.mark.start more
+    ∙ ap (λ (k : Bool). lesser (lesser f.again (found_if k b.mark.start)) (least_of more)) (sym (h.same (name_of name)))
+    ∙ then_more f.again (list_any (bytes_eq (name_of name)) before) b.mark.start more
 in_file-again f (Passed s ∷ is) before h = in_file-again f is before h
 
 -- what a macro says
@@ -103,21 +103,21 @@ not_again false place more e = (refl, e)
 
 -- the macros with their names
 abbrev named : NamedBlock → List ℕ × macro_value
-named m = (m.0.text, macro_of m.1.items)
+named m = (name_of m.0, macro_of m.1.items)
 
-added_next : (f : FileReading) (name : Token) (b : Block MacroItem) → has_macro f name.text ≡ false → (put_file_item f (Macro name b)).macros ≡ f.macros ++ named (name, b) ∷ []
+added_next : (f : FileReading) (name : Token) (b : Block MacroItem) → has_macro f (name_of name) ≡ false → (put_file_item f (Macro name b)).macros ≡ f.macros ++ named (name, b) ∷ []
 unfolding put_file_item put_macro
 added_next f name b none =
-    macro_added name.text (macro_read (read f.least b)) f.macros none ∙ ap (λ (m : macro_value). f.macros ++ (name.text, m) ∷ []) (value_is f.least b)
+    macro_added (name_of name) (macro_read (read f.least b)) f.macros none ∙ ap (λ (m : macro_value). f.macros ++ ((name_of name), m) ∷ []) (value_is f.least b)
 
 in_file-macros : (f : FileReading) (is : List FileItem) (before : List (List ℕ)) → SameNames before (has_macro f) → again_in before (macro_rows (macros_of is)) ≡ []
     → (gathered put_file_item f is).macros ≡ f.macros ++ map named (macros_of is)
 unfolding put_file_item
 in_file-macros f [] before h once = sym (append-nil f.macros)
 in_file-macros f (Macro name b ∷ is) before h once =
-    let first = not_again (list_any (bytes_eq name.text) before) b.mark.start (again_in (before ++ name.text ∷ []) (macro_rows (macros_of is))) once in
-    in_file-macros (put_file_item f (Macro name b)) is (before ++ name.text ∷ []) (with_more before name.text (has_macro f) (has_macro (put_file_item f (Macro name b))) h (macros_next f name b)) first.1
-    ∙ ap (λ (ms : NamedMacros). ms ++ map named (macros_of is)) (added_next f name b (sym (h.same name.text) ∙ first.0))
+    let first = not_again (list_any (bytes_eq (name_of name)) before) b.mark.start (again_in (before ++ (name_of name) ∷ []) (macro_rows (macros_of is))) once in
+    in_file-macros (put_file_item f (Macro name b)) is (before ++ (name_of name) ∷ []) (with_more before (name_of name) (has_macro f) (has_macro (put_file_item f (Macro name b))) h (macros_next f name b)) first.1
+    ∙ ap (λ (ms : NamedMacros). ms ++ map named (macros_of is)) (added_next f name b (sym (h.same (name_of name)) ∙ first.0))
     ∙ append_assoc f.macros (named (name, b) ∷ []) (map named (macros_of is))
 in_file-macros f (Passed s ∷ is) before h once = in_file-macros f is before h once
 
@@ -144,5 +144,5 @@ append_none : (ps qs : List ℕ) → ps ++ qs ≡ [] → qs ≡ []
 append_none [] qs e = e
 append_none (p ∷ ps) qs e = absurd cc
 
-pub file_macros : (is : List FileItem) → twice_places is ≡ [] → (gathered put_file_item file_start is).macros ≡ map (λ m. (m.0.text, macro_of m.1.items)) (macros_of is)
+pub file_macros : (is : List FileItem) → twice_places is ≡ [] → (gathered put_file_item file_start is).macros ≡ map (λ m. (name_of m.0, macro_of m.1.items)) (macros_of is)
 file_macros is once = in_file-macros file_start is [] no_macros (append_none (pins_again (macros_of is)) (again_in [] (macro_rows (macros_of is))) once)

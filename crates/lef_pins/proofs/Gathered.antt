@@ -9,7 +9,7 @@ use Rattle.lef_pins.specs.declared.least.Least.{Least}
 use Rattle.lef_pins.specs.declared.pins.PinReading.{PinReading}
 use Rattle.lef_pins.specs.declared.blocks.MacroReading.{MacroReading}
 use Rattle.lef_pins.specs.declared.macros.MacroPin.{MacroPin}
-use Rattle.lef_pins.specs.Blocks.{Block, PinItem, Port, OfPin, MacroItem, Pin, Shapes, OfMacro}
+use Rattle.lef_pins.specs.Blocks.{name_of, Block, PinItem, Port, OfPin, MacroItem, Pin, Shapes, OfMacro}
 use Rattle.lef_pins.specs.Statements.{start_of, is_read_rect, rect_values, is_bad_rect, is_far_rect, is_bad, is_far}
 use Rattle.lef_pins.specs.Faults.{place_if, syntax_in_port, syntax_in_pin_item, syntax_in_pin, syntax_in_item, syntax_in_items, is_size_item, numbers_in_port, numbers_in_pin_item, numbers_in_item}
 use Rattle.lef_pins.specs.Denoted.{port_rect, item_rect, pin_rect, pins_of, size_from, origin_from}
@@ -164,9 +164,9 @@ macro_origin m (Pin name b ∷ is) = macro_origin (put_macro_item m (Pin name b)
 macro_origin m (Shapes b ∷ is) = macro_origin (put_macro_item m (Shapes b)) is
 macro_origin m (OfMacro s ∷ is) = macro_origin (put_macro_item m (OfMacro s)) is
 
-pins_next : (m : MacroReading) (name : Token) (b : Block PinItem) → (put_macro_item m (Pin name b)).pins ≡ m.pins ++ record { name = name.text; rect = pin_rect b.items } ∷ []
+pins_next : (m : MacroReading) (name : Token) (b : Block PinItem) → (put_macro_item m (Pin name b)).pins ≡ m.pins ++ record { name = name_of name; rect = pin_rect b.items } ∷ []
 unfolding put_macro_item put_pin
-pins_next m name b = ap (λ (r : Option (List ℤ)). m.pins ++ record { name = name.text; rect = r } ∷ []) (pin_first (fresh m.least) b.items)
+pins_next m name b = ap (λ (r : Option (List ℤ)). m.pins ++ record { name = name_of name; rect = r } ∷ []) (pin_first (fresh m.least) b.items)
 
 pub macro_pins : (m : MacroReading) (is : List MacroItem) → (gathered put_macro_item m is).pins ≡ m.pins ++ pins_of is
 unfolding put_macro_item put_statement
@@ -174,6 +174,6 @@ macro_pins m [] = sym (append-nil m.pins)
 macro_pins m (Pin name b ∷ is) =
     macro_pins (put_macro_item m (Pin name b)) is
     ∙ ap (λ (ps : List MacroPin). ps ++ pins_of is) (pins_next m name b)
-    ∙ append_assoc m.pins (record { name = name.text; rect = pin_rect b.items } ∷ []) (pins_of is)
+    ∙ append_assoc m.pins (record { name = name_of name; rect = pin_rect b.items } ∷ []) (pins_of is)
 macro_pins m (Shapes b ∷ is) = macro_pins (put_macro_item m (Shapes b)) is
 macro_pins m (OfMacro s ∷ is) = macro_pins (put_macro_item m (OfMacro s)) is

@@ -14,7 +14,7 @@ use Rattle.base_types.proofs.LineLemmas.{line_at-from}
 use Rattle.base_types.specs.declared.span.Span.{Span}
 use Rattle.token_forms.specs.Tokens.{Token, tokens_of}
 use Rattle.def_tokens.specs.DefTokens.{def_tokens, tokens_in}
-use Rattle.lef_pins.specs.Blocks.{FileItem, IsLef, lef_at}
+use Rattle.lef_pins.specs.Blocks.{name_of, FileItem, IsLef, lef_at}
 use Rattle.lef_pins.specs.Faults.{macros_of, syntax_places, number_places, twice_places, HoldsInLef, Syntax, Number, Twice}
 use Rattle.lef_pins.specs.Macros.{NamedMacros}
 use Rattle.lef_pins.specs.Denoted.{macro_of, DenotesMacros}
@@ -135,4 +135,4 @@ module _ (text : List ℕ) (file : FileReading) (is : IsRead text file) where
 pub only_one : (text : List ℕ) (a : NamedMacros) → DenotesMacros text a → (b : NamedMacros) → DenotesMacros text b → b ≡ a
 only_one text a d b e =
     let same = only_lef_law (tokens_in text) e.items e.is ∙ sym (only_lef_law (tokens_in text) d.items d.is) in
-    e.values ∙ ap (λ (is : List FileItem). Rattle.std.specs.Prelude.map {B = List ℕ × Rattle.lef_pins.specs.declared.macros.Macro.Macro} (λ m. (m.0.text, macro_of m.1.items)) (macros_of is)) same ∙ sym d.values
+    e.values ∙ ap (λ (is : List FileItem). Rattle.std.specs.Prelude.map {B = List ℕ × Rattle.lef_pins.specs.declared.macros.Macro.Macro} (λ m. (name_of m.0, macro_of m.1.items)) (macros_of is)) same ∙ sym d.values

@@ -1,5 +1,5 @@
 -- A look-up by bytes among the entries of the map of macros, as they are seen.
-use Rattle.std.proofs.Common.{◌≡◌, ℕ, Bool, true, false, ◌||◌, cond, List, [], ◌∷◌, ◌++◌, map, Bor, Some, Global, Vec, refl, ap, ◌∙◌}
+use Rattle.std.proofs.Common.{◌≡◌, ℕ, Bool, true, false, ◌||◌, cond, List, [], ◌∷◌, ◌++◌, map, Some, Global, Vec, refl, ap, ◌∙◌}
 use Rattle.std.specs.List.{list_any}
 use Rattle.std.specs.Map.{lookup}
 use Rattle.std.proofs.lemmas.List.{map-append}
@@ -32,16 +32,16 @@ macros_view-insert k m (e ∷ es) =
     ∙ ap (λ (l : NamedMacros). cond (bytes_eq k.items e.0.items) ((e.0.items, m) ∷ macros_view es) ((e.0.items, e.1) ∷ l)) (macros_view-insert k m es)
 
 -- names as they are seen
-abbrev names_view : List (Bor (List ℕ)) → List (List ℕ)
-names_view ks = map (λ k. k.now) ks
+abbrev names_view : List (Vec ℕ Global) → List (List ℕ)
+names_view ks = map (λ k. k.items) ks
 
-pub list_any-names_view : (k : Bor (List ℕ)) (ks : List (Bor (List ℕ))) → list_any (λ (x : Bor (List ℕ)). bytes_eq k.now x.now) ks ≡ list_any (bytes_eq k.now) (names_view ks)
+pub list_any-names_view : (k : Vec ℕ Global) (ks : List (Vec ℕ Global)) → list_any (λ (x : Vec ℕ Global). bytes_eq k.items x.items) ks ≡ list_any (bytes_eq k.items) (names_view ks)
 list_any-names_view k [] = refl
-list_any-names_view k (x ∷ xs) = ap (λ (b : Bool). bytes_eq k.now x.now || b) (list_any-names_view k xs)
+list_any-names_view k (x ∷ xs) = ap (λ (b : Bool). bytes_eq k.items x.items || b) (list_any-names_view k xs)
 
-pub names_view-insert : (k : Bor (List ℕ)) (ks : List (Bor (List ℕ))) → names_view (insert_key (λ x y. bytes_eq x.now y.now) ks k) ≡ with_name (names_view ks) k.now
+pub names_view-insert : (k : Vec ℕ Global) (ks : List (Vec ℕ Global)) → names_view (insert_key (λ x y. bytes_eq x.items y.items) ks k) ≡ with_name (names_view ks) k.items
 unfolding with_name
 names_view-insert k ks =
-    seen names_view (list_any (λ (x : Bor (List ℕ)). bytes_eq k.now x.now) ks) ks (ks ++ k ∷ [])
-    ∙ ap (λ (l : List (List ℕ)). cond (list_any (λ (x : Bor (List ℕ)). bytes_eq k.now x.now) ks) (names_view ks) l) (map-append (λ (x : Bor (List ℕ)). x.now) ks (k ∷ []))
-    ∙ ap (λ (b : Bool). cond b (names_view ks) (names_view ks ++ k.now ∷ [])) (list_any-names_view k ks)
+    seen names_view (list_any (λ (x : Vec ℕ Global). bytes_eq k.items x.items) ks) ks (ks ++ k ∷ [])
+    ∙ ap (λ (l : List (List ℕ)). cond (list_any (λ (x : Vec ℕ Global). bytes_eq k.items x.items) ks) (names_view ks) l) (map-append (λ (x : Vec ℕ Global). x.items) ks (k ∷ []))
+    ∙ ap (λ (b : Bool). cond b (names_view ks) (names_view ks ++ k.items ∷ [])) (list_any-names_view k ks)

@@ -8,7 +8,7 @@ use Rattle.std.proofs.lemmas.Int.{ints}
 use Rattle.token_forms.specs.Tokens.{Token}
 use Rattle.def_tokens.specs.Numbers.{is_decimal, fraction_of, millionths_of, with_sign, has_minus, decimal_of}
 use Rattle.lef_pins.specs.declared.macros.MacroPin.{MacroPin}
-use Rattle.lef_pins.specs.Blocks.{PinItem, Port, OfPin, MacroItem, Pin, Shapes, OfMacro}
+use Rattle.lef_pins.specs.Blocks.{name_of, PinItem, Port, OfPin, MacroItem, Pin, Shapes, OfMacro}
 use Rattle.lef_pins.specs.Faults.{NamedBlock, macros_of}
 use Rattle.lef_pins.specs.Macros.{NamedMacros}
 use Rattle.lef_pins.specs.Statements.{text_at, value_at, corner_place, is_read_rect, rect_values, begins_size, begins_origin, size_values, origin_values}
@@ -104,7 +104,7 @@ macro_measured is =
     let origin = last_origin (pos 0, pos 0) is none_yet in
     record { w = size.a; h = size.b; ox = origin.a; oy = origin.b; pins = pins_lengths is }
 
-all_measured : (ms : List NamedBlock) → AreMeasured (map (λ m. (m.0.text, macro_of m.1.items)) ms)
+all_measured : (ms : List NamedBlock) → AreMeasured (map (λ m. (name_of m.0, macro_of m.1.items)) ms)
 all_measured [] k d lt = absurd (omega arith)
 all_measured (m ∷ ms) zero d lt = macro_measured m.1.items
 all_measured (m ∷ ms) (suc k) d lt = all_measured ms k d (omega arith)

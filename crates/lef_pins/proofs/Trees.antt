@@ -1,11 +1,11 @@
 -- Each LEF has the blocks that lef_at finds, and no others.
-use Rattle.std.proofs.Common.{◌≡◌, ℕ, zero, suc, ◌+◌, ◌<◌, ◌≤◌, Bool, true, false, cond, min, List, [], ◌∷◌, length, take, drop, inl, inr, refl, sym, ap, ◌∙◌, subst, arith, length-drop, codes}
+use Rattle.std.proofs.Common.{◌≡◌, ℕ, zero, suc, ◌+◌, ◌<◌, ◌≤◌, Bool, true, false, ◌&&◌, not, cond, min, List, [], ◌∷◌, length, take, drop, inl, inr, refl, sym, ap, ◌∙◌, subst, arith, length-drop, codes}
 use Rattle.std.specs.Str.{bytes_eq}
 use Rattle.std.proofs.lemmas.Bool.{cond_both}
 use Rattle.token_forms.specs.Tokens.{Token}
 use Rattle.token_forms.proofs.Spelled.{same_bytes}
 use Rattle.def_tokens.proofs.DefCuts.{statement_len-some}
-use Rattle.lef_pins.specs.Blocks.{passing_len, extended_behind, definitions_len, outer_len, inner_len, Block, PinItem, Port, OfPin, MacroItem, Pin, Shapes, OfMacro, FileItem, Macro, Passed, AreItems, IsBlock, ends_shapes, ends_named, ends_never, IsInner, IsShapes, is_port, is_shapes, begins_named, IsPinItem, IsNamed, IsMacroItem, IsFileItem, Taken, items_within, block_at, inner_at, pin_item_at, pin_at, macro_item_at, macro_at, file_item_at, lef_at, LefLaw, OnlyLefLaw}
+use Rattle.lef_pins.specs.Blocks.{name_of, is_no_name, passing_len, extended_behind, definitions_len, outer_len, inner_len, Block, PinItem, Port, OfPin, MacroItem, Pin, Shapes, OfMacro, FileItem, Macro, Passed, AreItems, IsBlock, ends_shapes, ends_named, ends_never, IsInner, IsShapes, is_port, is_shapes, begins_named, IsPinItem, IsNamed, IsMacroItem, IsFileItem, Taken, items_within, block_at, inner_at, pin_item_at, pin_at, macro_item_at, macro_at, file_item_at, lef_at, LefLaw, OnlyLefLaw}
 
 -- an item stands at the front of some tokens, and fewer are behind it
 pub record IsTaken {I : Type 0} (IsItem : I → List Token → List Token → Type 0) (x : Taken I) (ts : List Token) : Type 0 where
@@ -165,12 +165,16 @@ pin_reads ends = record { takes = λ t ts e. pin_item_takes t ts; only = pin_ite
 
 -- a pin or a macro, by its name
 named_is : {I : Type 0} (w : List ℕ) (IsItem : I → List Token → List Token → Type 0) (item : List Token → Taken I) → ((ends : List Token → Bool) → Reads ends IsItem item) → (t n : Token) (ts : List Token)
-    → bytes_eq t.text w ≡ true → IsNamed w IsItem n (block_at (ends_named n.text) 2 item t ts).0 (t ∷ n ∷ ts) (block_at (ends_named n.text) 2 item t ts).1
-named_is w IsItem item reads t n ts e = (e, refl, refl, block_is (ends_named n.text) IsItem item (reads (ends_named n.text)) 2 t ts)
+    → begins_named w (t ∷ n ∷ ts) ≡ true → IsNamed w IsItem n (block_at (ends_named (name_of n)) 2 item t ts).0 (t ∷ n ∷ ts) (block_at (ends_named (name_of n)) 2 item t ts).1
+named_is w IsItem item reads t n ts e = (e, refl, refl, block_is (ends_named (name_of n)) IsItem item (reads (ends_named (name_of n))) 2 t ts)
 
 named_less : {I : Type 0} (IsItem : I → List Token → List Token → Type 0) (item : List Token → Taken I) → ((ends : List Token → Bool) → Reads ends IsItem item) → (t n : Token) (ts : List Token)
-    → length (block_at (ends_named n.text) 2 item t ts).1 < length (t ∷ n ∷ ts)
-named_less IsItem item reads t n ts = let less = block_less (ends_named n.text) IsItem item (reads (ends_named n.text)) 2 t ts in omega arith
+    → length (block_at (ends_named (name_of n)) 2 item t ts).1 < length (t ∷ n ∷ ts)
+named_less IsItem item reads t n ts = let less = block_less (ends_named (name_of n)) IsItem item (reads (ends_named (name_of n))) 2 t ts in omega arith
+
+and_false : (b : Bool) → (b && false) ≡ false
+and_false true = refl
+and_false false = refl
 
 -- a statement of a macro
 macro_statement : (t : Token) (ts : List Token) → begins_named (codes "PIN") (t ∷ ts) ≡ false → is_shapes t.text ≡ false → IsTaken IsMacroItem (OfMacro (inner_at (t ∷ ts)).0, (inner_at (t ∷ ts)).1) (t ∷ ts)
@@ -178,7 +182,19 @@ macro_statement t ts no_pin no_shapes = record { is = (no_pin, no_shapes, (refl,
 
 no_name : (w : List ℕ) (t : Token) (ts : List Token) → bytes_eq t.text w ≡ false → begins_named w (t ∷ ts) ≡ false
 no_name w t [] e = refl
-no_name w t (n ∷ ts) e = e
+no_name w t (n ∷ ts) e = rw e refl
+
+-- nor where a semicolon stands behind the word
+no_semicolon : (w : List ℕ) (t n : Token) (ts : List Token) → is_no_name n ≡ true → begins_named w (t ∷ n ∷ ts) ≡ false
+no_semicolon w t n ts e = rw e (and_false (bytes_eq t.text w))
+
+a_name : (w : List ℕ) (t n : Token) (ts : List Token) → bytes_eq t.text w ≡ true → is_no_name n ≡ false → begins_named w (t ∷ n ∷ ts) ≡ true
+a_name w t n ts e named = rw (e, named) refl
+
+named_parts : (b none : Bool) → (b && not none) ≡ true → (b ≡ true) × (none ≡ false)
+named_parts true true e = absurd cc
+named_parts true false e = (refl, refl)
+named_parts false none e = absurd cc
 
 -- PIN is no word of shapes
 pub pin_only : (w : List ℕ) → bytes_eq w (codes "PIN") ≡ true → is_shapes w ≡ false
@@ -186,7 +202,9 @@ pin_only w e = let same = same_bytes w (codes "PIN") e in subst (λ (x : List �
 
 pin_takes : (t : Token) (ts : List Token) → bytes_eq t.text (codes "PIN") ≡ true → IsTaken IsMacroItem (pin_at t ts) (t ∷ ts)
 pin_takes t [] e = macro_statement t [] refl (pin_only t.text e)
-pin_takes t (n ∷ ts) e = record { is = named_is (codes "PIN") IsPinItem pin_item_at pin_reads t n ts e; less = named_less IsPinItem pin_item_at pin_reads t n ts }
+pin_takes t (n ∷ ts) e =
+    pick (λ (x : Taken MacroItem). IsTaken IsMacroItem x (t ∷ n ∷ ts)) (is_no_name n) _ _ (λ none. macro_statement t (n ∷ ts) (no_semicolon (codes "PIN") t n ts none) (pin_only t.text e))
+    (λ named. record { is = named_is (codes "PIN") IsPinItem pin_item_at pin_reads t n ts (a_name (codes "PIN") t n ts e named); less = named_less IsPinItem pin_item_at pin_reads t n ts })
 
 macro_item_takes : (t : Token) (ts : List Token) → IsTaken IsMacroItem (macro_item_at (t ∷ ts)) (t ∷ ts)
 unfolding macro_item_at
@@ -198,18 +216,21 @@ macro_item_takes t ts =
 pin_same : (t : Token) (ts : List Token) (name : Token) (b : Block PinItem) (rest : List Token) → IsMacroItem (Pin name b) (t ∷ ts) rest → IsSame (pin_at t ts) (Pin name b) rest
 pin_same t [] name b rest is = absurd is
 pin_same t (n ∷ ts) name b rest is =
-    let same = block_only (ends_named n.text) IsPinItem pin_item_at (pin_reads (ends_named n.text)) 2 t ts b rest is.1 is.3 in
-    record { item = (λ k. Pin (is.2 k) (same.item k)); behind = same.behind }
+    let same = block_only (ends_named (name_of n)) IsPinItem pin_item_at (pin_reads (ends_named (name_of n))) 2 t ts b rest is.1 is.3 in
+    let both = named_parts (bytes_eq t.text (codes "PIN")) (is_no_name n) is.0 in
+    pick (λ (x : Taken MacroItem). IsSame x (Pin name b) rest) (is_no_name n) _ _ (λ none. let named = both.1 in absurd cc) (λ named. record { item = (λ k. Pin (is.2 k) (same.item k)); behind = same.behind })
 
 -- the word that a named block begins with
 named_word : {I : Type 0} (w : List ℕ) (IsItem : I → List Token → List Token → Type 0) (t : Token) (ts : List Token) (name : Token) (b : Block I) (rest : List Token) → IsNamed w IsItem name b (t ∷ ts) rest → bytes_eq t.text w ≡ true
 named_word w IsItem t [] name b rest is = absurd is
-named_word w IsItem t (n ∷ ts) name b rest is = is.0
+named_word w IsItem t (n ∷ ts) name b rest is = (named_parts (bytes_eq t.text w) (is_no_name n) is.0).0
 
--- a PIN at the text's end is a statement
+-- a PIN at the text's end or before a semicolon is a statement
 lone_pin : (t : Token) (ts : List Token) (s rest : List Token) → bytes_eq t.text (codes "PIN") ≡ true → IsMacroItem (OfMacro s) (t ∷ ts) rest → IsSame (pin_at t ts) (OfMacro s) rest
 lone_pin t [] s rest e is = record { item = ap (λ (x : List Token). OfMacro x) is.2.0; behind = is.2.1 }
-lone_pin t (n ∷ ts) s rest e is = let none = is.0 in absurd cc
+lone_pin t (n ∷ ts) s rest e is =
+    pick (λ (x : Taken MacroItem). IsSame x (OfMacro s) rest) (is_no_name n) _ _ (λ none. record { item = ap (λ (x : List Token). OfMacro x) is.2.0; behind = is.2.1 })
+    (λ named. let begins = a_name (codes "PIN") t n ts e named in let none = is.0 in absurd cc)
 
 macro_item_only : (t : Token) (ts : List Token) (i : MacroItem) (rest : List Token) → IsMacroItem i (t ∷ ts) rest → IsSame (macro_item_at (t ∷ ts)) i rest
 unfolding macro_item_at
@@ -236,7 +257,9 @@ passed_takes t ts no_macro = record { is = (no_macro, refl, refl); less = droppe
 
 macro_takes : (t : Token) (ts : List Token) → bytes_eq t.text (codes "MACRO") ≡ true → IsTaken IsFileItem (macro_at t ts) (t ∷ ts)
 macro_takes t [] e = passed_takes t [] refl
-macro_takes t (n ∷ ts) e = record { is = named_is (codes "MACRO") IsMacroItem macro_item_at macro_reads t n ts e; less = named_less IsMacroItem macro_item_at macro_reads t n ts }
+macro_takes t (n ∷ ts) e =
+    pick (λ (x : Taken FileItem). IsTaken IsFileItem x (t ∷ n ∷ ts)) (is_no_name n) _ _ (λ none. passed_takes t (n ∷ ts) (no_semicolon (codes "MACRO") t n ts none))
+    (λ named. record { is = named_is (codes "MACRO") IsMacroItem macro_item_at macro_reads t n ts (a_name (codes "MACRO") t n ts e named); less = named_less IsMacroItem macro_item_at macro_reads t n ts })
 
 file_item_takes : (t : Token) (ts : List Token) → IsTaken IsFileItem (file_item_at (t ∷ ts)) (t ∷ ts)
 unfolding file_item_at
@@ -246,12 +269,15 @@ file_item_takes t ts =
 macro_same : (t : Token) (ts : List Token) (name : Token) (b : Block MacroItem) (rest : List Token) → IsFileItem (Macro name b) (t ∷ ts) rest → IsSame (macro_at t ts) (Macro name b) rest
 macro_same t [] name b rest is = absurd is
 macro_same t (n ∷ ts) name b rest is =
-    let same = block_only (ends_named n.text) IsMacroItem macro_item_at (macro_reads (ends_named n.text)) 2 t ts b rest is.1 is.3 in
-    record { item = (λ k. Macro (is.2 k) (same.item k)); behind = same.behind }
+    let same = block_only (ends_named (name_of n)) IsMacroItem macro_item_at (macro_reads (ends_named (name_of n))) 2 t ts b rest is.1 is.3 in
+    let both = named_parts (bytes_eq t.text (codes "MACRO")) (is_no_name n) is.0 in
+    pick (λ (x : Taken FileItem). IsSame x (Macro name b) rest) (is_no_name n) _ _ (λ none. let named = both.1 in absurd cc) (λ named. record { item = (λ k. Macro (is.2 k) (same.item k)); behind = same.behind })
 
 lone_macro : (t : Token) (ts : List Token) (s rest : List Token) → bytes_eq t.text (codes "MACRO") ≡ true → IsFileItem (Passed s) (t ∷ ts) rest → IsSame (macro_at t ts) (Passed s) rest
 lone_macro t [] s rest e is = record { item = ap (λ (x : List Token). Passed x) is.1; behind = is.2 }
-lone_macro t (n ∷ ts) s rest e is = let none = is.0 in absurd cc
+lone_macro t (n ∷ ts) s rest e is =
+    pick (λ (x : Taken FileItem). IsSame x (Passed s) rest) (is_no_name n) _ _ (λ none. record { item = ap (λ (x : List Token). Passed x) is.1; behind = is.2 })
+    (λ named. let begins = a_name (codes "MACRO") t n ts e named in let none = is.0 in absurd cc)
 
 file_item_only : (t : Token) (ts : List Token) (i : FileItem) (rest : List Token) → IsFileItem i (t ∷ ts) rest → IsSame (file_item_at (t ∷ ts)) i rest
 unfolding file_item_at

@@ -9,7 +9,7 @@ use Rattle.token_forms.specs.Tokens.{Token}
 use Rattle.token_forms.proofs.Spelled.{same_bytes}
 use Rattle.lef_pins.specs.declared.macros.Macro.{Macro}
 use Rattle.lef_pins.specs.declared.blocks.MacroReading.{MacroReading}
-use Rattle.lef_pins.specs.Blocks.{Block, PinItem, MacroItem, Pin, Shapes, OfMacro}
+use Rattle.lef_pins.specs.Blocks.{name_of, Block, PinItem, MacroItem, Pin, Shapes, OfMacro}
 use Rattle.lef_pins.specs.Faults.{again_in, pin_rows}
 use Rattle.lef_pins.specs.Macros.{NamedMacros, macro_at, with_macro}
 use Rattle.lef_pins.specs.Reading.{gathered, lesser, least_of, found_if, with_name, with_syntax, with_number, with_twice, put_pin, put_statement, put_macro_item}
@@ -52,22 +52,22 @@ with_more before name has now h step = record { same = λ q. one_name q name bef
 abbrev pub has_pin : MacroReading → List ℕ → Bool
 has_pin m q = list_any (bytes_eq q) m.names
 
-names_next : (m : MacroReading) (name : Token) (b : Block PinItem) (q : List ℕ) → has_pin (put_macro_item m (Pin name b)) q ≡ (has_pin m q || bytes_eq q name.text)
+names_next : (m : MacroReading) (name : Token) (b : Block PinItem) (q : List ℕ) → has_pin (put_macro_item m (Pin name b)) q ≡ (has_pin m q || bytes_eq q (name_of name))
 unfolding put_macro_item put_pin
-names_next m name b q = name_added q name.text m.names
+names_next m name b q = name_added q (name_of name) m.names
 
-twice_next : (m : MacroReading) (name : Token) (b : Block PinItem) → (put_macro_item m (Pin name b)).least.twice ≡ lesser m.least.twice (found_if (has_pin m name.text) b.mark.start)
+twice_next : (m : MacroReading) (name : Token) (b : Block PinItem) → (put_macro_item m (Pin name b)).least.twice ≡ lesser m.least.twice (found_if (has_pin m (name_of name)) b.mark.start)
 unfolding put_macro_item put_pin with_twice with_syntax
-twice_next m name b = ap (λ (o : Option ℕ). lesser o (found_if (has_pin m name.text) b.mark.start)) (pin_twice m.least b.items)
+twice_next m name b = ap (λ (o : Option ℕ). lesser o (found_if (has_pin m (name_of name)) b.mark.start)) (pin_twice m.least b.items)
 
 pub macro_twice : (m : MacroReading) (is : List MacroItem) (before : List (List ℕ)) → SameNames before (has_pin m) → (gathered put_macro_item m is).least.twice ≡ lesser m.least.twice (least_of (again_in before (pin_rows is)))
 unfolding put_macro_item put_statement with_syntax with_number
 macro_twice m [] before h = sym (lesser_none m.least.twice)
 macro_twice m (Pin name b ∷ is) before h =
-    macro_twice (put_macro_item m (Pin name b)) is (before ++ name.text ∷ []) (with_more before name.text (has_pin m) (has_pin (put_macro_item m (Pin name b))) h (names_next m name b))
-    ∙ ap (λ (o : Option ℕ). lesser o (least_of (again_in (before ++ name.text ∷ []) (pin_rows is)))) (twice_next m name b)
-    ∙ ap (λ (k : Bool). lesser (lesser m.least.twice (found_if k b.mark.start)) (least_of (again_in (before ++ name.text ∷ []) (pin_rows is)))) (sym (h.same name.text))
-    ∙ then_more m.least.twice (list_any (bytes_eq name.text) before) b.mark.start (again_in (before ++ name.text ∷ []) (pin_rows is))
+    macro_twice (put_macro_item m (Pin name b)) is (before ++ (name_of name) ∷ []) (with_more before (name_of name) (has_pin m) (has_pin (put_macro_item m (Pin name b))) h (names_next m name b))
+    ∙ ap (λ (o : Option ℕ). lesser o (least_of (again_in (before ++ (name_of name) ∷ []) (pin_rows is)))) (twice_next m name b)
+    ∙ ap (λ (k : Bool). lesser (lesser m.least.twice (found_if k b.mark.start)) (least_of (again_in (before ++ (name_of name) ∷ []) (pin_rows is)))) (sym (h.same (name_of name)))
+    ∙ then_more m.least.twice (list_any (bytes_eq (name_of name)) before) b.mark.start (again_in (before ++ (name_of name) ∷ []) (pin_rows is))
 macro_twice m (Shapes b ∷ is) before h = macro_twice (put_macro_item m (Shapes b)) is before h
 macro_twice m (OfMacro s ∷ is) before h = macro_twice (put_macro_item m (OfMacro s)) is before h
 

@@ -1,6 +1,7 @@
 -- The blocks of a LEF (LEF 5.8): its macros, their pins and ports, and the statements in them, with all else passed over.
 use Rattle.std.specs.Prelude.{◌≡◌, ℕ, zero, suc, ◌+◌, ◌<◌, Bool, true, false, ◌&&◌, ◌||◌, not, if◌then◌else◌, min, List, [], ◌∷◌, length, take, drop, codes, ◌⊎◌}
 use Rattle.std.specs.Str.{bytes_eq}
+use Rattle.base_types.specs.Names.{plain_name}
 use Rattle.token_forms.specs.Tokens.{Token}
 use Rattle.def_tokens.specs.DefStatements.{count_with, statement_len}
 
@@ -9,10 +10,28 @@ abbrev pub begins_with : List ℕ → List Token → Bool
 begins_with w [] = false
 begins_with w (t ∷ ts) = bytes_eq t.text w
 
--- the first two tokens have these texts
+-- the name that a token says
+abbrev pub name_of : Token → List ℕ
+name_of t = plain_name t.text
+
+-- the first token says this name
+abbrev pub begins_with_name : List ℕ → List Token → Bool
+begins_with_name name [] = false
+begins_with_name name (t ∷ ts) = bytes_eq (name_of t) name
+
+-- the first token has this text, and the second says this name
 abbrev pub begins_with_two : List ℕ → List ℕ → List Token → Bool
-begins_with_two v w [] = false
-begins_with_two v w (t ∷ ts) = bytes_eq t.text v && begins_with w ts
+begins_with_two v name [] = false
+begins_with_two v name (t ∷ ts) = bytes_eq t.text v && begins_with_name name ts
+
+-- a semicolon is no name
+abbrev pub is_no_name : Token → Bool
+is_no_name t = bytes_eq t.text (codes ";")
+
+-- a token stands first that is a name
+abbrev pub begins_with_any_name : List Token → Bool
+begins_with_any_name [] = false
+begins_with_any_name (t ∷ ts) = not (is_no_name t)
 
 -- behind PROPERTYDEFINITIONS: the tokens up to and with an END and the token behind it
 abbrev pub definitions_len : List Token → ℕ
@@ -115,17 +134,17 @@ abbrev pub IsPinItem : PinItem → List Token → List Token → Type 0
 IsPinItem (Port b) ts rest = IsShapes is_port b ts rest
 IsPinItem (OfPin s) ts rest = (begins_with (codes "PORT") ts ≡ false) × IsInner s ts rest
 
+-- a word and a name
+abbrev pub begins_named : List ℕ → List Token → Bool
+begins_named w [] = false
+begins_named w (t ∷ []) = false
+begins_named w (t ∷ n ∷ ts) = bytes_eq t.text w && not (is_no_name n)
+
 -- this word, a name, and a block that the name closes
 abbrev pub IsNamed : {I : Type 0} → List ℕ → (I → List Token → List Token → Type 0) → Token → Block I → List Token → List Token → Type 0
 IsNamed w IsItem name b [] rest = ⊥
 IsNamed w IsItem name b (t ∷ []) rest = ⊥
-IsNamed w IsItem name b (t ∷ n ∷ ts) rest = (bytes_eq t.text w ≡ true) × (b.mark ≡ t) × (name ≡ n) × IsBlock (ends_named n.text) 2 IsItem b ts rest
-
--- a word and one token more
-abbrev pub begins_named : List ℕ → List Token → Bool
-begins_named w [] = false
-begins_named w (t ∷ []) = false
-begins_named w (t ∷ n ∷ ts) = bytes_eq t.text w
+IsNamed w IsItem name b (t ∷ n ∷ ts) rest = (begins_named w (t ∷ n ∷ ts) ≡ true) × (b.mark ≡ t) × (name ≡ n) × IsBlock (ends_named (name_of n)) 2 IsItem b ts rest
 
 -- an item of a macro
 abbrev pub IsMacroItem : MacroItem → List Token → List Token → Type 0
@@ -181,10 +200,13 @@ pin_item_at (t ∷ ts) =
     let s = inner_at (t ∷ ts) in
     if is_port t.text then (Port shapes.0, shapes.1) else (OfPin s.0, s.1)
 
--- the pin behind its word, or a statement
+-- the pin behind its word and its name, or a statement
 abbrev pub pin_at : Token → List Token → Taken MacroItem
 pin_at t [] = (OfMacro (inner_at (t ∷ [])).0, (inner_at (t ∷ [])).1)
-pin_at t (n ∷ ts) = let pin = block_at (ends_named n.text) 2 pin_item_at t ts in (Pin n pin.0, pin.1)
+pin_at t (n ∷ ts) =
+    let pin = block_at (ends_named (name_of n)) 2 pin_item_at t ts in
+    let s = inner_at (t ∷ n ∷ ts) in
+    if is_no_name n then (OfMacro s.0, s.1) else (Pin n pin.0, pin.1)
 
 -- the item of a macro at the front
 unfoldable pub macro_item_at : List Token → Taken MacroItem
@@ -194,10 +216,12 @@ macro_item_at (t ∷ ts) =
     let s = inner_at (t ∷ ts) in
     if bytes_eq t.text (codes "PIN") then pin_at t ts else (if is_shapes t.text then (Shapes shapes.0, shapes.1) else (OfMacro s.0, s.1))
 
--- the macro behind its word, or tokens that are passed over
+-- the macro behind its word and its name, or tokens that are passed over
 abbrev pub macro_at : Token → List Token → Taken FileItem
 macro_at t [] = (Passed (take (outer_len (t ∷ [])) (t ∷ [])), drop (outer_len (t ∷ [])) (t ∷ []))
-macro_at t (n ∷ ts) = let m = block_at (ends_named n.text) 2 macro_item_at t ts in (Macro n m.0, m.1)
+macro_at t (n ∷ ts) =
+    let m = block_at (ends_named (name_of n)) 2 macro_item_at t ts in
+    if is_no_name n then (Passed (take (outer_len (t ∷ n ∷ ts)) (t ∷ n ∷ ts)), drop (outer_len (t ∷ n ∷ ts)) (t ∷ n ∷ ts)) else (Macro n m.0, m.1)
 
 -- the item of a LEF at the front
 unfoldable pub file_item_at : List Token → Taken FileItem

@@ -5,7 +5,7 @@ use Rattle.token_forms.specs.Tokens.{Token}
 use Rattle.def_tokens.specs.DefTokens.{tokens_in}
 use Rattle.lef_pins.specs.declared.macros.Macro.{Macro as macro_value}
 use Rattle.lef_pins.specs.declared.macros.MacroPin.{MacroPin}
-use Rattle.lef_pins.specs.Blocks.{PinItem, Port, OfPin, MacroItem, Pin, Shapes, OfMacro, FileItem, IsLef}
+use Rattle.lef_pins.specs.Blocks.{name_of, PinItem, Port, OfPin, MacroItem, Pin, Shapes, OfMacro, FileItem, IsLef}
 use Rattle.lef_pins.specs.Statements.{is_read_rect, rect_values, begins_size, begins_origin, size_values, origin_values}
 use Rattle.lef_pins.specs.Faults.{macros_of, syntax_places, number_places, twice_places}
 use Rattle.lef_pins.specs.Macros.{NamedMacros}
@@ -29,7 +29,7 @@ pin_rect (i ∷ is) = option_or (item_rect i) (pin_rect is)
 -- the pins of a macro, in order
 abbrev pub pins_of : List MacroItem → List MacroPin
 pins_of [] = []
-pins_of (Pin name b ∷ is) = record { name = name.text; rect = pin_rect b.items } ∷ pins_of is
+pins_of (Pin name b ∷ is) = record { name = name_of name; rect = pin_rect b.items } ∷ pins_of is
 pins_of (Shapes b ∷ is) = pins_of is
 pins_of (OfMacro s ∷ is) = pins_of is
 
@@ -61,7 +61,7 @@ pub record DenotesMacros (text : List ℕ) (macros : NamedMacros) : Type 0 where
   pub no_syntax : syntax_places items ≡ []
   pub no_number : number_places items ≡ []
   pub no_twice : twice_places items ≡ []
-  pub values : macros ≡ map (λ m. (m.0.text, macro_of m.1.items)) (macros_of items)
+  pub values : macros ≡ map (λ m. (name_of m.0, macro_of m.1.items)) (macros_of items)
 
 -- all numbers are within two metres
 abbrev pub AreMeasured : NamedMacros → Type 0

@@ -10,7 +10,7 @@ use Rattle.base_types.specs.declared.fault.FileKind.TheVariants.{Lef}
 use Rattle.base_types.specs.declared.kind.Kind.TheVariants.{LefSyntax, LefNumber, LefTwice}
 use Rattle.token_forms.specs.Tokens.{Token}
 use Rattle.def_tokens.specs.DefTokens.{tokens_in}
-use Rattle.lef_pins.specs.Blocks.{Block, PinItem, Port, OfPin, MacroItem, Pin, Shapes, OfMacro, FileItem, Macro, Passed, IsLef}
+use Rattle.lef_pins.specs.Blocks.{name_of, Block, PinItem, Port, OfPin, MacroItem, Pin, Shapes, OfMacro, FileItem, Macro, Passed, IsLef}
 use Rattle.lef_pins.specs.Statements.{start_of, begins_size, is_bad_rect, is_bad, is_far_rect, is_far}
 
 -- a place, where a test holds
@@ -110,14 +110,14 @@ again_in before (row ∷ rows) = place_if (list_any (bytes_eq row.0) before) row
 -- the names of pins, with the places of their blocks
 abbrev pub pin_rows : List MacroItem → List (List ℕ × ℕ)
 pin_rows [] = []
-pin_rows (Pin name b ∷ is) = (name.text, b.mark.start) ∷ pin_rows is
+pin_rows (Pin name b ∷ is) = (name_of name, b.mark.start) ∷ pin_rows is
 pin_rows (Shapes b ∷ is) = pin_rows is
 pin_rows (OfMacro s ∷ is) = pin_rows is
 
 -- the names of macros likewise
 abbrev pub macro_rows : List NamedBlock → List (List ℕ × ℕ)
 macro_rows [] = []
-macro_rows (m ∷ ms) = (m.0.text, m.1.mark.start) ∷ macro_rows ms
+macro_rows (m ∷ ms) = (name_of m.0, m.1.mark.start) ∷ macro_rows ms
 
 -- the pins of each macro whose names stand a second time
 abbrev pub pins_again : List NamedBlock → List ℕ

@@ -10,24 +10,24 @@ use crate::names::Names;
 use crate::pins::{PinReading, pass_shapes, read_pin, take_statement};
 use crate::statements::{begins_origin, begins_size, is_bad, is_far, origin_values, size_values};
 use crate::stretch::Stretch;
-use base_types::{Name, NoMemory, Rows};
+use base_types::{Name, NoMemory, Rows, plain_name};
 use std::alloc::Global;
 
 /// What is read of a macro: the least places of faults so far, also of what stands before the macro; whether it has a SIZE;
 /// its SIZE, its ORIGIN, its pins and their names.
 #[derive(Drop)]
-pub(crate) struct MacroReading<'a> {
+pub(crate) struct MacroReading {
     pub(crate) least: Least,
     pub(crate) sized: bool,
     pub(crate) size: (i64, i64),
     pub(crate) origin: (i64, i64),
     pub(crate) pins: Rows<MacroPin>,
-    pub(crate) names: Names<'a>,
+    pub(crate) names: Names,
 }
 
-impl<'a> MacroReading<'a> {
+impl MacroReading {
     /// Nothing of a macro.
-    pub(crate) fn new(alloc: Global, least: Least) -> MacroReading<'a>
+    pub(crate) fn new(alloc: Global, least: Least) -> MacroReading
         ensures value { result ≡ macro_start least }
     {
         MacroReading {
@@ -42,7 +42,7 @@ impl<'a> MacroReading<'a> {
 
     /// The macro.
     pub(crate) fn into_macro(self) -> Macro
-        ensures value { result ≡ macro_read self.entry }
+        ensures value { result ≡ macro_read self }
     {
         Macro {
             w: self.size.0,
@@ -72,19 +72,19 @@ impl<'a> MacroReading<'a> {
         }
     }
 
-    /// Adds a pin.
+    /// Adds a pin of a plain name.
     #[tactic(auto, unfolding(crate::specs::Reading::put_pin))]
     fn put_pin(
         &mut self,
         alloc: Global,
-        name: &'a [u8],
+        name: &[u8],
         place: u32,
         closed: bool,
         pin: PinReading,
     ) -> Result<(), NoMemory>
         ensures value { OnOk result (self.new ≡ put_pin self.old name.now place closed pin) }
     {
-        let again = self.names.add(name)?;
+        let again = self.names.add(Vec::from_slice(alloc, name)?)?;
         self.pins.push(MacroPin {
             name: Name::copy(alloc, name)?,
             rect: pin.rect,
@@ -98,32 +98,32 @@ impl<'a> MacroReading<'a> {
 }
 
 /// Takes the pin at the front of a macro.
-fn read_pin_of<'a>(
+fn read_pin_of(
     alloc: Global,
-    rest: &mut Stretch<'a, '_>,
-    m: &mut MacroReading<'a>,
+    rest: &mut Stretch<'_, '_>,
+    m: &mut MacroReading,
 ) -> Result<(), NoMemory>
     requires pin { begins_named (codes "PIN") rest.old ≡ true }
     ensures value { OnOk result (m.new ≡ put_macro_item m.old (macro_item_at rest.old).0) }
     ensures rest { OnOk result (rest.new ≡ (macro_item_at rest.old).1) }
 {
     let place = rest.start();
-    let name = rest.text(1);
+    let name = plain_name(alloc, rest.text(1))?;
     rest.skip(2);
     let mut pin = PinReading {
         least: m.least,
         rect: None,
     };
-    let closed = read_pin(rest, name, &mut pin);
-    m.put_pin(alloc, name, place, closed, pin)?;
+    let closed = read_pin(rest, name.bytes(), &mut pin);
+    m.put_pin(alloc, name.bytes(), place, closed, pin)?;
     Ok(())
 }
 
 /// Takes the pin, the OBS, the DENSITY or the statement at the front of a macro.
-fn read_macro_item<'a>(
+fn read_macro_item(
     alloc: Global,
-    rest: &mut Stretch<'a, '_>,
-    m: &mut MacroReading<'a>,
+    rest: &mut Stretch<'_, '_>,
+    m: &mut MacroReading,
 ) -> Result<(), NoMemory>
     ensures value { OnOk result (m.new ≡ put_macro_item m.old (macro_item_at rest.old).0) }
     ensures rest { OnOk result (rest.new ≡ (macro_item_at rest.old).1) }
@@ -143,12 +143,12 @@ fn read_macro_item<'a>(
     Ok(())
 }
 
-/// Takes what stands in a macro of a name, with its END, and tells whether the END stands there.
-pub(crate) fn read_macro<'a>(
+/// Takes what stands in a macro of a plain name, with its END, and tells whether the END stands there.
+pub(crate) fn read_macro(
     alloc: Global,
-    rest: &mut Stretch<'a, '_>,
+    rest: &mut Stretch<'_, '_>,
     name: &[u8],
-    m: &mut MacroReading<'a>,
+    m: &mut MacroReading,
 ) -> Result<bool, NoMemory>
     ensures value { OnOk result (m.new ≡ gathered put_macro_item m.old (found_at (ends_named name.now) macro_item_at rest.old).0) }
     ensures closed { IfOk result (λ closed. closed ≡ ends_named name.now (found_at (ends_named name.now) macro_item_at rest.old).1) }

@@ -1,6 +1,8 @@
 //! Where blocks begin and end.
 ghost use Rattle.std.specs.Prelude.{◌≡◌, codes};
-ghost use Rattle.lef_pins.specs.Blocks.{begins_with, begins_named, ends_shapes, ends_named, is_port, is_shapes, begins_shapes};
+ghost use Rattle.std.specs.Str.{bytes_eq};
+ghost use Rattle.base_types.specs.Names.{plain_name};
+ghost use Rattle.lef_pins.specs.Blocks.{begins_with, begins_with_name, begins_with_any_name, begins_named, ends_shapes, ends_named, is_port, is_shapes, begins_shapes};
 ghost use Rattle.lef_pins.specs.Reading.{goes_on};
 
 use crate::stretch::Stretch;
@@ -15,6 +17,16 @@ fn begins_with(word: &[u8], tokens: &Tokens<'_, '_>) -> bool
     }
 }
 
+/// Whether the first token says a name, which is plain.
+fn begins_with_name(name: &[u8], tokens: &Tokens<'_, '_>) -> bool
+    ensures value { result ≡ begins_with_name name.now tokens.now }
+{
+    match tokens.first() {
+        Some(token) => is_name(token.text, name),
+        None => false,
+    }
+}
+
 /// Whether an END stands first, which closes a port, an OBS or a DENSITY.
 pub(crate) fn ends_shapes(rest: &Stretch<'_, '_>) -> bool
     ensures value { result ≡ ends_shapes rest.now }
@@ -22,13 +34,31 @@ pub(crate) fn ends_shapes(rest: &Stretch<'_, '_>) -> bool
     begins_with(b"END", &rest.tokens())
 }
 
-/// Whether the END of a name stands first, which closes a pin or a macro.
+/// Whether a text is this name, once its escapes are taken away.
+fn is_name(text: &[u8], name: &[u8]) -> bool
+    ensures value { result ≡ bytes_eq (plain_name text.now) name.now }
+{
+    let mut unread = text;
+    let mut left = name;
+    while let [byte, others @ ..] = unread {
+        if *byte != b'\\' {
+            match left {
+                [first, behind @ ..] if *first == *byte => left = behind,
+                _ => return false,
+            }
+        }
+        unread = others;
+    }
+    left.is_empty()
+}
+
+/// Whether the END of a name, which is plain, stands first, which closes a pin or a macro.
 pub(crate) fn ends_named(rest: &Stretch<'_, '_>, name: &[u8]) -> bool
     ensures value { result ≡ ends_named name.now rest.now }
 {
     let mut tokens = rest.tokens();
     match tokens.next() {
-        Some(token) => token.text == b"END".as_slice() && begins_with(name, &tokens),
+        Some(token) => token.text == b"END".as_slice() && begins_with_name(name, &tokens),
         None => false,
     }
 }
@@ -49,13 +79,23 @@ pub(crate) fn goes_on_named(rest: &Stretch<'_, '_>, name: &[u8]) -> bool
     !(rest.len() == 0 || ends_named(rest, name))
 }
 
-/// Whether a word and one token more stand first.
+/// Whether a token stands first that isn't a semicolon.
+fn begins_with_any_name(tokens: &Tokens<'_, '_>) -> bool
+    ensures value { result ≡ begins_with_any_name tokens.now }
+{
+    match tokens.first() {
+        Some(token) => token.text != b";".as_slice(),
+        None => false,
+    }
+}
+
+/// Whether a word and a name stand first; a semicolon is no name.
 pub(crate) fn begins_named(rest: &Stretch<'_, '_>, word: &[u8]) -> bool
     ensures value { result ≡ begins_named word.now rest.now }
 {
     let mut tokens = rest.tokens();
     match tokens.next() {
-        Some(token) => token.text == word && 0 < tokens.len(),
+        Some(token) => token.text == word && begins_with_any_name(&tokens),
         None => false,
     }
 }

@@ -20,7 +20,7 @@ use crate::ends::begins_named;
 use crate::least::{Least, found_if, lesser};
 use crate::macros::Macros;
 use crate::stretch::Stretch;
-use base_types::{Fault, FileKind, Kind, Lines, NoMemory, ReadFault};
+use base_types::{Fault, FileKind, Kind, Lines, NoMemory, ReadFault, plain_name};
 use def_tokens::def_tokens;
 use std::alloc::Global;
 
@@ -48,7 +48,7 @@ impl FileReading {
         }
     }
 
-    /// Adds a macro.
+    /// Adds a macro of a plain name.
     #[tactic(auto, unfolding(crate::specs::Reading::put_macro))]
     fn put_macro(
         &mut self,
@@ -56,9 +56,9 @@ impl FileReading {
         name: &[u8],
         place: u32,
         closed: bool,
-        m: MacroReading<'_>,
+        m: MacroReading,
     ) -> Result<(), NoMemory>
-        ensures value { OnOk result (self.new ≡ put_macro self.old name.now place closed m.entry) }
+        ensures value { OnOk result (self.new ≡ put_macro self.old name.now place closed m) }
     {
         self.least = m
             .least
@@ -83,11 +83,11 @@ fn read_macro_of(
     ensures rest { OnOk result (rest.new ≡ (file_item_at rest.old).1) }
 {
     let place = rest.start();
-    let name = rest.text(1);
+    let name = plain_name(alloc, rest.text(1))?;
     rest.skip(2);
     let mut m = MacroReading::new(alloc, file.least);
-    let closed = read_macro(alloc, rest, name, &mut m)?;
-    file.put_macro(alloc, name, place, closed, m)?;
+    let closed = read_macro(alloc, rest, name.bytes(), &mut m)?;
+    file.put_macro(alloc, name.bytes(), place, closed, m)?;
     Ok(())
 }
 
@@ -126,7 +126,7 @@ fn fault_at(bytes: &[u8], kind: Kind, place: u32) -> ReadFault
     ReadFault::Fault(Fault::at_line(kind, FileKind::Lef, line))
 }
 
-/// The macros of a LEF text of less than 4 GiB by their names, with SIZE, ORIGIN and the first RECT of each pin, or its
+/// The macros of a LEF text of less than 4 GiB by their plain names, with SIZE, ORIGIN and the first RECT of each pin, or its
 /// first fault: LefSyntax, where a SIZE, an ORIGIN or a RECT that is read is of no form, a macro hasn't exactly one SIZE, or
 /// a macro, a pin, a port, an OBS or a DENSITY has no END; then LefNumber, where a number of one of these has more than six
 /// digits behind the point or exceeds two metres in size; then LefTwice, where a macro has the name of one before it, or a

@@ -11,21 +11,21 @@ use std::marker::Model;
 
 /// Names of a text, which contracts see as their list.
 #[derive(Drop)]
-pub(crate) struct Names<'a> {
-    names: IndexSet<&'a [u8]>,
+pub(crate) struct Names {
+    names: IndexSet<Vec<u8>>,
 }
 
-impl<'a> Model for Names<'a> {
+impl Model for Names {
     ghost use Rattle.std.specs.Prelude.{List, ℕ, map};
 
     ghost Value = { List (List ℕ) };
 
-    ghost view = { λ n. map (λ name. name.now) n.names.keys };
+    ghost view = { λ n. map (λ name. name.items) n.names.keys };
 }
 
-impl<'a> Names<'a> {
+impl Names {
     /// No names; takes no memory.
-    pub(crate) fn new(alloc: Global) -> Names<'a>
+    pub(crate) fn new(alloc: Global) -> Names
         ensures value { result ≡ [] }
     {
         Names {
@@ -35,9 +35,9 @@ impl<'a> Names<'a> {
 
     /// Adds a name, and tells whether it is there already.
     #[tactic(auto, unfolding(crate::specs::Reading::with_name))]
-    pub(crate) fn add(&mut self, name: &'a [u8]) -> Result<bool, NoMemory>
-        ensures known { IfOk result (λ known. known ≡ list_any (bytes_eq name.now) self.old) }
-        ensures names { OnOk result (self.new ≡ with_name self.old name.now) }
+    pub(crate) fn add(&mut self, name: Vec<u8>) -> Result<bool, NoMemory>
+        ensures known { IfOk result (λ known. known ≡ list_any (bytes_eq name.items) self.old) }
+        ensures names { OnOk result (self.new ≡ with_name self.old name.items) }
     {
         Ok(!self.names.insert(name)?)
     }

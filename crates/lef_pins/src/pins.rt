@@ -102,7 +102,7 @@ fn read_pin_item(rest: &mut Stretch<'_, '_>, pin: &mut PinReading)
     }
 }
 
-/// Takes what stands in a pin of a name, with its END, and tells whether the END stands there.
+/// Takes what stands in a pin of a plain name, with its END, and tells whether the END stands there.
 pub(crate) fn read_pin(rest: &mut Stretch<'_, '_>, name: &[u8], pin: &mut PinReading) -> bool
     ensures pin { pin.new ≡ gathered put_pin_item pin.old (found_at (ends_named name.now) pin_item_at rest.old).0 }
     ensures closed { result ≡ ends_named name.now (found_at (ends_named name.now) pin_item_at rest.old).1 }
