@@ -7,6 +7,7 @@ pub mod Accepted
 pub mod Moved
 pub mod Retargeted
 pub mod Standing
+pub mod Placed
 pub mod MovedCalls
 pub mod ExitOrder
 pub mod Routes

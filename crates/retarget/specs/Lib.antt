@@ -1,4 +1,5 @@
 pub mod Exits
+pub mod Homes
 pub mod Judging
 pub mod Moved
 pub mod Places

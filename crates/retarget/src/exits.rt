@@ -62,7 +62,7 @@ impl Exits {
 }
 
 /// The sum of the parities, modulo 2.
-fn sum_of(parities: &[bool]) -> bool
+pub fn sum_of(parities: &[bool]) -> bool
     ensures { result ≡ parity_of parities.now }
 {
     let mut sum = false;

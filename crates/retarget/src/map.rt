@@ -1,6 +1,11 @@
-ghost use Rattle.std.specs.Prelude.{◌≡◌, length, IfOk};
+ghost use Rattle.std.specs.Prelude.{◌≡◌, ◌<◌, length, IfOk};
 ghost use Rattle.stil_tester.specs.Shifting.{AreChains};
+ghost use Rattle.retarget.specs.Places.{StandsAt};
+ghost use Rattle.retarget.specs.Homes.{home_of};
+ghost use Rattle.retarget.specs.Retargeting.{HaveSameCells};
 
+use crate::home::Home;
+use crate::homes::homes_of;
 use crate::judge::longest_chain;
 use crate::route::Route;
 use base_types::{NoMemory, Rows};
@@ -8,7 +13,7 @@ use std::alloc::Global;
 use std::marker::Model;
 use stil_tester::{ChainBits, Chains};
 
-/// What a call's way from old chains to new ones needs: both, and the way of each character.
+/// What a call's way from old chains to new ones needs: both, and the way of each character; and where each cell stands.
 /// Contracts see it as the pair of the old and the new chains.
 #[derive(Debug)]
 pub struct Map {
@@ -17,6 +22,8 @@ pub struct Map {
     /// The bits of the longest new chain.
     pub(crate) shifts: usize,
     pub(crate) route: Route,
+    old_homes: Rows<Home>,
+    new_homes: Rows<Home>,
 }
 
 // By hand, so that it is proved here and not again wherever one is dropped.
@@ -27,6 +34,8 @@ impl Drop for Map {
             new: _new,
             shifts: _shifts,
             route: _route,
+            old_homes: _old_homes,
+            new_homes: _new_homes,
         } = self;
     }
 }
@@ -34,12 +43,49 @@ impl Drop for Map {
 impl Model for Map {
     ghost use Rattle.stil_tester.specs.declared.chains.Chains.{Chains};
     ghost use Rattle.retarget.specs.Exits.{IsMap};
+    ghost use Rattle.retarget.specs.Homes.{AreHomes};
 
     ghost Value = { Chains × Chains };
 
     ghost view = { λ map. (map.old, map.new) };
 
-    ghost invariant = { λ map. IsMap map.old map.new map.shifts map.route };
+    ghost invariant = { λ map. IsMap map.old map.new map.shifts map.route × AreHomes map.old map.old_homes × AreHomes map.new map.new_homes };
+}
+
+impl Map {
+    /// The old chains. They have the cells of the new ones.
+    pub fn old_chains(&self) -> &Chains
+        ensures value { result.now ≡ self.now.0 }
+        ensures same { HaveSameCells self.now.0 self.now.1 }
+    {
+        &self.old
+    }
+
+    /// The new chains. They have the cells of the old ones.
+    pub fn new_chains(&self) -> &Chains
+        ensures value { result.now ≡ self.now.1 }
+        ensures same { HaveSameCells self.now.0 self.now.1 }
+    {
+        &self.new
+    }
+
+    /// Where a cell stands in the old chains (IEEE 1450-1999, ScanStructures). Takes no memory.
+    pub fn old_home(&self, cell: u32) -> Home
+        requires within { cell < self.now.0.cells }
+        ensures value { result ≡ home_of self.now.0 cell }
+        ensures stands { StandsAt self.now.0 cell result.chain result.place }
+    {
+        self.old_homes.as_slice()[cell as usize]
+    }
+
+    /// Where a cell stands in the new chains (IEEE 1450-1999, ScanStructures). Takes no memory.
+    pub fn new_home(&self, cell: u32) -> Home
+        requires within { cell < self.now.1.cells }
+        ensures value { result ≡ home_of self.now.1 cell }
+        ensures stands { StandsAt self.now.1 cell result.chain result.place }
+    {
+        self.new_homes.as_slice()[cell as usize]
+    }
 }
 
 /// The way from old chains to new chains of the same cells, for any number of calls. It takes
@@ -53,6 +99,8 @@ pub fn map_of(alloc: Global, old: &Chains, new: &Chains) -> Result<Map, NoMemory
 {
     let shifts = longest_chain(new);
     let route = Route::of(alloc, old, new)?;
+    let old_homes = homes_of(alloc, old)?;
+    let new_homes = homes_of(alloc, new)?;
     let old = copy_of(alloc, old)?;
     let new = copy_of(alloc, new)?;
     Ok(Map {
@@ -60,6 +108,8 @@ pub fn map_of(alloc: Global, old: &Chains, new: &Chains) -> Result<Map, NoMemory
         new,
         shifts,
         route,
+        old_homes,
+        new_homes,
     })
 }
 

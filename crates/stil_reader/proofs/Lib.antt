@@ -1,3 +1,4 @@
+pub mod Ahead
 pub mod Heads
 pub mod Only
 pub mod Said

@@ -19,11 +19,11 @@ use Rattle.stil_reader.specs.Patterns.{names_in, statements_in, gaps_from, piece
 use Rattle.stil_reader.specs.Reading.{Progress, begun, named_one, with_piece, finished, piece_says, IsPiece, Steps, IsDone, IsSoFar, IsReadBy}
 
 -- bytes of a gap in front
-names-bytes : (text : List ℕ) (says : List Saying) → names_in (map GapByte text ++ says) ≡ names_in says
+pub names-bytes : (text : List ℕ) (says : List Saying) → names_in (map GapByte text ++ says) ≡ names_in says
 names-bytes [] says = refl
 names-bytes (b ∷ bs) says = names-bytes bs says
 
-statements-bytes : (text : List ℕ) (says : List Saying) → statements_in (map GapByte text ++ says) ≡ statements_in says
+pub statements-bytes : (text : List ℕ) (says : List Saying) → statements_in (map GapByte text ++ says) ≡ statements_in says
 statements-bytes [] says = refl
 statements-bytes (b ∷ bs) says = statements-bytes bs says
 
@@ -32,11 +32,11 @@ gaps-bytes gap [] says = ap (λ (g : List ℕ). gaps_from g says) (sym (append-n
 gaps-bytes gap (b ∷ bs) says = gaps-bytes (gap ++ b ∷ []) bs says ∙ ap (λ (g : List ℕ). gaps_from g says) (append_assoc gap (b ∷ []) bs)
 
 -- and a name behind them
-names-named : (name : Option (List ℕ)) (says : List Saying) → names_in (named name ++ says) ≡ named_one name ++ names_in says
+pub names-named : (name : Option (List ℕ)) (says : List Saying) → names_in (named name ++ says) ≡ named_one name ++ names_in says
 names-named None says = refl
 names-named (Some name) says = refl
 
-statements-named : (name : Option (List ℕ)) (says : List Saying) → statements_in (named name ++ says) ≡ statements_in says
+pub statements-named : (name : Option (List ℕ)) (says : List Saying) → statements_in (named name ++ says) ≡ statements_in says
 statements-named None says = refl
 statements-named (Some name) says = refl
 
@@ -44,7 +44,7 @@ gaps-named : (gap : List ℕ) (name : Option (List ℕ)) (says : List Saying) �
 gaps-named gap None says = refl
 gaps-named gap (Some name) says = refl
 
-split : (text : List ℕ) (name : Option (List ℕ)) (says : List Saying) → (map GapByte text ++ named name) ++ says ≡ map GapByte text ++ (named name ++ says)
+pub split : (text : List ℕ) (name : Option (List ℕ)) (says : List Saying) → (map GapByte text ++ named name) ++ says ≡ map GapByte text ++ (named name ++ says)
 split text name says = append_assoc (map GapByte text) (named name) says
 
 -- a statement more between the pieces

@@ -124,12 +124,22 @@ module _ (judging : Judging) (head : StilHead) (p : Point) (rest : List ℕ) whe
   pub stop-fault : (f : PartFault) → IsStopped (judge_by judging head) true p rest f → (told_by judging head p rest).fault ≡ Some f
   stop-fault f s = ap (λ (t : Told). t.fault) (comes-whole _ (s.comes [] refl))
 
+  pub stop-nothing : (f : PartFault) → IsStopped (judge_by judging head) true p rest f → (told_by judging head p rest).says ≡ []
+  stop-nothing f s = ap (λ (t : Told). t.says) (comes-whole _ (s.comes [] refl))
+
   pub part-fault : (part : Part) (q : Point) (n : ℕ) (fault : Fault) → n ≡ part_len part → IsPart (judge_by judging head) true p rest part q → IsFaultOf (judge_by judging head p part (take n rest)) fault
       → IsFaultOf (told_by judging head p rest).fault fault
   part-fault part q n fault e is h =
       let es = part_events p part (take (part_len part) rest) in
       let found : judge_by judging head p part (take (part_len part) rest) ≡ Some h.0 = ap (λ (m : ℕ). judge_by judging head p part (take m rest)) (sym e) ∙ h.1 in
       (h.0, ap (λ (t : Told). t.fault) (comes-whole _ (is.comes [] refl ∙ ap (λ (o : Option PartFault). verdict o (before es (to_come (judge_by judging head) q 0 (drop (part_len part) rest ++ [])))) found)), h.2)
+
+  pub part-nothing : (part : Part) (q : Point) (n : ℕ) (fault : Fault) → n ≡ part_len part → IsPart (judge_by judging head) true p rest part q → IsFaultOf (judge_by judging head p part (take n rest)) fault
+      → (told_by judging head p rest).says ≡ []
+  part-nothing part q n fault e is h =
+      let es = part_events p part (take (part_len part) rest) in
+      let found : judge_by judging head p part (take (part_len part) rest) ≡ Some h.0 = ap (λ (m : ℕ). judge_by judging head p part (take m rest)) (sym e) ∙ h.1 in
+      ap (λ (t : Told). t.says) (comes-whole _ (is.comes [] refl ∙ ap (λ (o : Option PartFault). verdict o (before es (to_come (judge_by judging head) q 0 (drop (part_len part) rest ++ [])))) found))
 
   at-end : (place : Place) → place ≡ Top → told head (ending place) ≡ record { says = []; fault = None }
   at-end place e = ap (λ (x : Place). told head (ending x)) e

@@ -25,7 +25,7 @@ use stil_parts::{Comment, Place, Point};
 use stil_types::StilHead;
 
 /// The point behind a head that ends at this place.
-fn behind_head(bytes: &[u8], end: u32) -> Point
+pub(crate) fn behind_head(bytes: &[u8], end: u32) -> Point
     requires within { end ≤ length bytes.now }
     ensures value { result ≡ moved beginning (take end bytes.now) at_top not_in_one }
     ensures early { IsEarly result }

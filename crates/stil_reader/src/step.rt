@@ -1,5 +1,5 @@
 //! The pieces of the patterns, one after the other.
-ghost use Rattle.std.specs.Prelude.{◌≡◌, ◌<◌, ◌^◌, length, IfOk};
+ghost use Rattle.std.specs.Prelude.{◌≡◌, ◌<◌, ◌^◌, [], length, IfOk};
 ghost use Rattle.base_types.specs.FirstFault.{IfFault};
 ghost use Rattle.base_types.specs.Faults.{at_line};
 ghost use Rattle.base_types.specs.declared.fault.FileKind.TheVariants.{Stil as in_stil};
@@ -81,6 +81,7 @@ pub(crate) fn next(
     requires early { IsEarly point }
     ensures value { IfOk result (IsNext judging head.now point rest.now) }
     ensures first { IfFault result (λ fault. IsFaultOf (told_by judging head.now point rest.now).fault fault) }
+    ensures nothing { IfFault result (λ fault. (told_by judging head.now point rest.now).says ≡ []) }
 {
     match decide(true, rest, point, 0, begin_at(point.place)) {
         Decision::Want(_scan) => unreachable!(),

@@ -26,7 +26,7 @@ returns-clause-value c =
 -- what the clauses of a call that shifts say, in one
 retargeted : (c : goal.After-moved_call) → IfOk c.moved_call.result (λ (w : ScanCall). IsRetargeted c.args.map.now.0 c.args.map.now.1 c.args.call.now w)
 retargeted c =
-    retargeted_if_ok c.map.inside.old c.map.inside.new c.map.inside.shifts c.map.inside.route c.args.call.now c.args.map.now c.moved_call.result c.map.view_is c.map.invariant c.requires.call c.requires.accepted c.if-call-eq0.false
+    retargeted_if_ok c.map.inside.old c.map.inside.new c.map.inside.shifts c.map.inside.route c.args.call.now c.args.map.now c.moved_call.result c.map.view_is c.map.invariant.0 c.requires.call c.requires.accepted c.if-call-eq0.false
     c.moved_call.ensures
 
 pub returns-clause-meaning : goal.returns-clause-meaning

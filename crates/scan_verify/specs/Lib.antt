@@ -1,0 +1,4 @@
+pub mod Sameness
+pub mod Patterns
+pub mod Sets
+pub mod Reruns
