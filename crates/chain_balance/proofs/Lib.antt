@@ -1,0 +1,14 @@
+pub mod Sums
+pub mod Least
+pub mod Totals
+pub mod Moves
+pub mod Evens
+pub mod Loads
+pub mod Levels
+pub mod Walks
+pub mod Grouping
+pub mod Leaving
+pub mod Roomy
+pub mod Reaching
+pub mod Outcomes
+pub mod Answered
