@@ -12,12 +12,15 @@ use std::alloc::Global;
 use toml::Value;
 
 /// The files that are read.
-const INPUTS: [(Slot, &str); 5] = [
+const INPUTS: [(Slot, &str); 8] = [
     (Slot::Table, "t.toml"),
     (Slot::Lef, "m.lef"),
     (Slot::Verilog, "v.v"),
     (Slot::Def, "d.def"),
     (Slot::Stil, "s.stil"),
+    (Slot::NewVerilog, "nv.v"),
+    (Slot::NewStil, "ns.stil"),
+    (Slot::Log, "l.log"),
 ];
 
 /// The files that are written, with the file that each is made of.
@@ -44,6 +47,10 @@ pub(crate) fn form_of(call: &str) -> Option<&'static str> {
         "rewire" => "rewire --verilog v.v --out-verilog w.v",
         "trace" => "trace --table t.toml --verilog v.v",
         "play" => "play --table t.toml --verilog v.v --stil s.stil",
+        "verify" => {
+            "verify --table t.toml --verilog v.v --stil s.stil --new-verilog nv.v --new-stil ns.stil"
+        }
+        "bound" => "bound --table t.toml --lef m.lef --verilog v.v --def d.def",
         _ => return None,
     })
 }

@@ -2,7 +2,7 @@
 use Rattle.std.proofs.Common.{◌≡◌, ◌≢◌, ◌<◌, ◌⊎◌, ℕ, Bool, true, false, nat_lt, refl, ap, subst, arith, inl, inr}
 use Rattle.std.proofs.lemmas.Bool.Decides.{nat_tests}
 use Rattle.desk_io.specs.declared.slot.Slot.{Slot}
-use Rattle.desk_io.specs.declared.slot.Slot.TheVariants.{Table, Lef, Verilog, Def, Stil, OutVerilog, OutDef, OutStil, Console}
+use Rattle.desk_io.specs.declared.slot.Slot.TheVariants.{Table, Lef, Verilog, Def, Stil, NewVerilog, NewStil, Log, OutVerilog, OutDef, OutStil, Console}
 use Rattle.desk_io.specs.declared.slot.Way.{Way}
 use Rattle.desk_io.specs.declared.slot.Way.TheVariants.{In, Out}
 use Rattle.desk_io.specs.Number.{number}
@@ -10,12 +10,15 @@ use Rattle.desk_io.specs.Ways.{way_of, IsIn, IsOut}
 use Rattle.desk_io.specs.Desk.{IsInput, IsOutput}
 use Rattle.desk_io.specs.Outputs.{turn}
 
-pub number_small : (slot : Slot) → number slot < 9
+pub number_small : (slot : Slot) → number slot < 12
 number_small Table = omega arith
 number_small Lef = omega arith
 number_small Verilog = omega arith
 number_small Def = omega arith
 number_small Stil = omega arith
+number_small NewVerilog = omega arith
+number_small NewStil = omega arith
+number_small Log = omega arith
 number_small OutVerilog = omega arith
 number_small OutDef = omega arith
 number_small OutStil = omega arith
@@ -28,6 +31,9 @@ number_once Lef Lef e = refl
 number_once Verilog Verilog e = refl
 number_once Def Def e = refl
 number_once Stil Stil e = refl
+number_once NewVerilog NewVerilog e = refl
+number_once NewStil NewStil e = refl
+number_once Log Log e = refl
 number_once OutVerilog OutVerilog e = refl
 number_once OutDef OutDef e = refl
 number_once OutStil OutStil e = refl
@@ -77,12 +83,15 @@ pub apart : (input output : Slot) → IsInput input → IsOutput output → inpu
 apart input output reads writes e = not_both output (at_slot IsInput input output e reads) writes
 
 -- the inputs come first
-pub low_number : (slot : Slot) → IsInput slot → number slot < 5
+pub low_number : (slot : Slot) → IsInput slot → number slot < 8
 low_number Table input = omega arith
 low_number Lef input = omega arith
 low_number Verilog input = omega arith
 low_number Def input = omega arith
 low_number Stil input = omega arith
+low_number NewVerilog input = omega arith
+low_number NewStil input = omega arith
+low_number Log input = omega arith
 low_number slot input = absurd input
 
 -- each output has its turn

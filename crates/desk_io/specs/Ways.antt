@@ -1,7 +1,7 @@
 -- What is done with a slot: it is read, or written.
 use Rattle.std.specs.Prelude.{◌<◌, ℕ, List, length}
 use Rattle.desk_io.specs.declared.slot.Slot.{Slot}
-use Rattle.desk_io.specs.declared.slot.Slot.TheVariants.{Table, Lef, Verilog, Def, Stil, OutVerilog, OutDef, OutStil, Console}
+use Rattle.desk_io.specs.declared.slot.Slot.TheVariants.{Table, Lef, Verilog, Def, Stil, NewVerilog, NewStil, Log, OutVerilog, OutDef, OutStil, Console}
 use Rattle.desk_io.specs.declared.slot.Way.{Way}
 use Rattle.desk_io.specs.declared.slot.Way.TheVariants.{In, Out}
 
@@ -12,6 +12,9 @@ way_of Lef = In 67108864
 way_of Verilog = In 67108864
 way_of Def = In 67108864
 way_of Stil = In 67108864
+way_of NewVerilog = In 67108864
+way_of NewStil = In 67108864
+way_of Log = In 67108864
 way_of OutVerilog = Out 1
 way_of OutDef = Out 2
 way_of OutStil = Out 0

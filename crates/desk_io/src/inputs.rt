@@ -78,11 +78,15 @@ fn input_slot(at: usize) -> Slot
         1 => Slot::Lef,
         2 => Slot::Verilog,
         3 => Slot::Def,
-        _ => Slot::Stil,
+        4 => Slot::Stil,
+        5 => Slot::NewVerilog,
+        6 => Slot::NewStil,
+        _ => Slot::Log,
     }
 }
 
-/// Takes each input that is named, in the order table, LEF, Verilog, DEF, STIL: opens it, takes it whole, closes it.
+/// Takes each input that is named, in the order table, LEF, Verilog, DEF, STIL, then the Verilog and the STIL of a second set, and a log: opens it,
+/// takes it whole, closes it.
 ///
 /// A file that passes its limit is read no further: it is closed, and no later input is opened.
 pub fn take_inputs<D: Desk>(
@@ -109,7 +113,7 @@ pub fn take_inputs<D: Desk>(
     ensures elsewhere { OnlyNamed names.now IsInput (D.state desk.old) (D.state desk.new) }
     ensures names { SameNames (D.allows desk.old) (D.allows desk.new) }
 {
-    let mut texts = [None, None, None, None, None];
+    let mut texts = [None, None, None, None, None, None, None, None];
     for at in 0..INPUTS {
         let slot = input_slot(at);
         if let Some(name) = name_of(names, slot) {

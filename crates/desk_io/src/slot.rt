@@ -12,10 +12,10 @@ const TABLE_LIMIT: u64 = 1048576;
 pub(crate) const FILE_LIMIT: u64 = 67108864;
 
 /// How many slots there are.
-pub const SLOTS: usize = 9;
+pub const SLOTS: usize = 12;
 
 /// How many of them are inputs: the first ones.
-pub const INPUTS: usize = 5;
+pub const INPUTS: usize = 8;
 
 /// A place that a run reads or writes.
 #[derive(Clone, Copy, Debug, PartialEq, Eq)]
@@ -30,6 +30,12 @@ pub enum Slot {
     Def,
     /// The STIL file that is read.
     Stil,
+    /// The Verilog file of the set that is compared with the first.
+    NewVerilog,
+    /// The STIL file of that set.
+    NewStil,
+    /// The log of fails that is read.
+    Log,
     /// The Verilog file that is written.
     OutVerilog,
     /// The DEF file that is written.
@@ -64,7 +70,13 @@ impl Slot {
     {
         match self {
             Slot::Table => Way::In(TABLE_LIMIT),
-            Slot::Lef | Slot::Verilog | Slot::Def | Slot::Stil => Way::In(FILE_LIMIT),
+            Slot::Lef
+            | Slot::Verilog
+            | Slot::Def
+            | Slot::Stil
+            | Slot::NewVerilog
+            | Slot::NewStil
+            | Slot::Log => Way::In(FILE_LIMIT),
             Slot::OutStil => Way::Out(0),
             Slot::OutVerilog => Way::Out(1),
             Slot::OutDef => Way::Out(2),
@@ -82,6 +94,9 @@ impl Slot {
             Slot::Verilog => FileKind::Verilog,
             Slot::Def => FileKind::Def,
             Slot::Stil => FileKind::Stil,
+            Slot::NewVerilog => FileKind::NewVerilog,
+            Slot::NewStil => FileKind::NewStil,
+            Slot::Log => FileKind::Log,
             _ => FileKind::Words,
         }
     }
@@ -97,7 +112,10 @@ pub fn slot_of(file: FileKind) -> Option<Slot>
         FileKind::Verilog => Some(Slot::Verilog),
         FileKind::Def => Some(Slot::Def),
         FileKind::Stil => Some(Slot::Stil),
-        FileKind::NewVerilog | FileKind::NewStil | FileKind::Log | FileKind::Words => None,
+        FileKind::NewVerilog => Some(Slot::NewVerilog),
+        FileKind::NewStil => Some(Slot::NewStil),
+        FileKind::Log => Some(Slot::Log),
+        FileKind::Words => None,
     }
 }
 

@@ -7,13 +7,15 @@ use base_types::{NoMemory, Text, Word};
 use desk_io::{MemoryDesk, Slot};
 use std::alloc::Global;
 
-/// The inputs and their files.
-pub(crate) const INPUTS: [(Slot, &str); 5] = [
+/// The inputs and their files; the second set is the one that is written.
+pub(crate) const INPUTS: [(Slot, &str); 7] = [
     (Slot::Table, "t.toml"),
     (Slot::Lef, "m.lef"),
     (Slot::Verilog, "v.v"),
     (Slot::Def, "d.def"),
     (Slot::Stil, "s.stil"),
+    (Slot::NewVerilog, "w.v"),
+    (Slot::NewStil, "w.stil"),
 ];
 
 /// The outputs of the files, and what is to stand in them.

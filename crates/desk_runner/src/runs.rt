@@ -8,12 +8,15 @@ use scan_job::run;
 use std::alloc::Global;
 use std::fmt::Write;
 
-const SLOTS: [Slot; 9] = [
+const SLOTS: [Slot; 12] = [
     Slot::Table,
     Slot::Lef,
     Slot::Verilog,
     Slot::Def,
     Slot::Stil,
+    Slot::NewVerilog,
+    Slot::NewStil,
+    Slot::Log,
     Slot::OutVerilog,
     Slot::OutDef,
     Slot::OutStil,
@@ -117,7 +120,7 @@ const FAULT: Row = Row {
     ..PATTERNS
 };
 
-const ROWS: [Row; 8] = [
+const ROWS: [Row; 10] = [
     Row {
         words: "rewire --verilog v.v --cell=SDF --in-pin SI --out-pin=Q --scan-in si --scan-out so --out-verilog w.v a c b",
         console: "moved 3\n",
@@ -147,6 +150,24 @@ const ROWS: [Row; 8] = [
             (Slot::Table, 4),
             (Slot::Verilog, 4),
             (Slot::Stil, 4),
+            (Slot::Console, 3),
+        ],
+        ..CHECK
+    },
+    Row {
+        words: "bound --table t.toml --lef m.lef --verilog v.v --def d.def",
+        console: "chain ch1 length 120000 bound 80000\nleave 2000 0 0 0\nenter 20000 20000 20000 18000\nlength 120000 bound 80000\n",
+        ..CHECK
+    },
+    Row {
+        words: "verify --table t.toml --verilog v.v --stil s.stil --new-verilog n.v --new-stil n.stil",
+        console: "same\n",
+        calls: &[
+            (Slot::Table, 4),
+            (Slot::Verilog, 4),
+            (Slot::Stil, 4),
+            (Slot::NewVerilog, 4),
+            (Slot::NewStil, 4),
             (Slot::Console, 3),
         ],
         ..CHECK

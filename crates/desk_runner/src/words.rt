@@ -12,7 +12,7 @@ use std::fmt::Write;
 /// further words. Words of no form say nothing, and a run of them opens nothing.
 type Row = (&'static str, &'static str);
 
-const ROWS: [Row; 36] = [
+const ROWS: [Row; 38] = [
     (
         "rewire a --cell=C --verilog a=b b c --in-pin=I --out-pin O --scan-in=si --scan-out=so --out-verilog=w d",
         "Rewire a=b C I O si so w; a b c d",
@@ -21,6 +21,14 @@ const ROWS: [Row; 36] = [
     (
         "play --device mix --stil=s --verilog v --table t",
         "Play t v s mix;",
+    ),
+    (
+        "bound --def d --rounds=1000 --lef m --table t --verilog v",
+        "Bound t m v d 1000;",
+    ),
+    (
+        "verify --new-stil n --new-verilog=w --stil s --verilog v --table t",
+        "Verify t v s w n;",
     ),
     (
         "help --cell=C --in-pin=I --out-pin=O --scan-in=si --scan-out=so --verilog=v --out-verilog=w a",

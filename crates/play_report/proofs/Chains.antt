@@ -1,5 +1,5 @@
 -- The chains along the paths of a head's chains: the calls of its patterns fit them.
-use Rattle.std.proofs.Common.{◌≡◌, ℕ, List, None, sym, subst}
+use Rattle.std.proofs.Common.{◌≡◌, ℕ, List, None, map, sym, ap, subst, ◌∙◌}
 use Rattle.base_types.specs.declared.fault.Fault.{Fault}
 use Rattle.netlist_core.specs.declared.netlist.Netlist.{Netlist}
 use Rattle.cell_table.specs.Cells.{Cells}
@@ -9,9 +9,10 @@ use Rattle.chain_trace.specs.Parities.{AreBitsOf}
 use Rattle.stil_types.specs.declared.head.StilHead.{StilHead}
 use Rattle.traced_paths.specs.Traced.{NameEntries}
 use Rattle.head_checks.specs.Heads.{HoldsInHeads}
-use Rattle.stil_tester.specs.declared.chains.Chains.{Chains}
 use Rattle.path_chains.specs.Numbered.{bits_along}
 use Rattle.path_laws.proofs.Declared.{declared as as_declared}
+use Rattle.path_chains.specs.Ranked.{ranked_chains}
+use Rattle.play_report.specs.declared.declared.Declared.{Declared}
 use Rattle.play_report.specs.Files.{AreTraced, chains_along}
 use Rattle.play_report.specs.Progress.{Fits}
 use Rattle.play_report.specs.Stages.{AreDeclared}
@@ -28,14 +29,17 @@ fits table verilog text cells n head paths traced entries none =
     record { chains_are = are.chains; counts = are.counts }
 
 -- so this is what was declared
-pub declared : (table verilog text : List ℕ) (cells : Cells) (n : Netlist) (head : StilHead) (paths : List Path) (chains : Chains)
-    → AreTraced table verilog text cells n head paths → NameEntries n cells paths
-    → ((f : Fault) → HoldsInHeads n cells paths head f → ⊥) → chains ≡ chains_along n cells paths → AreDeclared table verilog text head chains
-declared table verilog text cells n head paths chains traced entries none is = record {
-  cells = cells;
-  netlist = n;
-  paths = paths;
-  traced = traced;
-  is = is;
-  fits = subst (Fits head) (sym is) (fits table verilog text cells n head paths traced entries none);
-}
+pub declared : (table verilog text : List ℕ) (cells : Cells) (paths : List Path) (d : Declared)
+    → AreTraced table verilog text cells d.netlist d.head paths → NameEntries d.netlist cells paths
+    → ((f : Fault) → HoldsInHeads d.netlist cells paths d.head f → ⊥) → d.bits ≡ map (bits_along d.netlist cells) paths → d.chains ≡ ranked_chains d.netlist d.bits
+    → AreDeclared table verilog text d
+declared table verilog text cells paths d traced entries none bits_are chains_are =
+    let is : d.chains ≡ chains_along d.netlist cells paths = chains_are ∙ ap (ranked_chains d.netlist) bits_are in
+    record {
+      cells = cells;
+      paths = paths;
+      traced = traced;
+      bits = bits_are;
+      is = is;
+      fits = subst (Fits d.head) (sym is) (fits table verilog text cells d.netlist d.head paths traced entries none);
+    }

@@ -4,11 +4,10 @@ ghost use Rattle.base_types.specs.declared.fault.Fault.{Fault as ghost_fault};
 ghost use Rattle.base_types.specs.FirstFault.{IfFault, IsFirstFault};
 ghost use Rattle.path_chains.specs.Numbered.{bits_along};
 ghost use Rattle.traced_paths.specs.Traced.{NameEntries};
-ghost use Rattle.play_report.specs.Files.{chains_along};
 ghost use Rattle.play_report.specs.Faults.{HoldsBeforePatterns};
 ghost use Rattle.play_report.specs.Stages.{AreDeclared, HoldsInDeclared};
 
-use base_types::{NoMemory, ReadFault};
+use base_types::{NoMemory, ReadFault, Rows};
 use cell_table::{CellTable, read_table};
 use chain_trace::{Path, PathBits, bits_of};
 use head_checks::check_heads;
@@ -20,11 +19,15 @@ use stil_tester::Chains;
 use traced_paths::{check_bits, paths_of};
 use verilog_reader::read_netlist;
 
-/// What a head denotes, and the chains that it declares.
+/// What a head denotes, and the chains that it declares on a netlist.
 #[derive(Drop)]
-pub(crate) struct Declared {
-    pub(crate) head: StilHead,
-    pub(crate) chains: Chains,
+pub struct Declared {
+    pub head: StilHead,
+    pub netlist: Netlist,
+    /// The bits of each chain's path, in the order of the chains.
+    pub bits: Rows<PathBits>,
+    /// The chains, their cells numbered by the names of the instances, then by scan path and bit.
+    pub chains: Chains,
 }
 
 /// The bits of each path.
@@ -33,41 +36,26 @@ fn bits_of_each(
     netlist: &Netlist,
     table: &CellTable,
     paths: &[Path],
-) -> Result<Vec<PathBits>, NoMemory>
+) -> Result<Rows<PathBits>, NoMemory>
     requires entries { NameEntries netlist.now table.now paths.now }
-    ensures value { IfOk result (λ bits. bits.items ≡ map (bits_along netlist.now table.now) paths.now) }
+    ensures value { IfOk result (λ bits. bits ≡ map (bits_along netlist.now table.now) paths.now) }
 {
-    let mut bits = Vec::new(alloc);
+    let mut bits = Rows::new(alloc);
     for path in paths {
         bits.push(bits_of(alloc, netlist, table, path)?)?;
     }
     Ok(bits)
 }
 
-/// The chains along paths, their cells numbered.
-fn chains_along(
-    alloc: Global,
-    netlist: &Netlist,
-    table: &CellTable,
-    paths: &[Path],
-) -> Result<Chains, NoMemory>
-    requires entries { NameEntries netlist.now table.now paths.now }
-    ensures value { IfOk result (λ chains. chains ≡ chains_along netlist.now table.now paths.now) }
-{
-    let bits = bits_of_each(alloc, netlist, table, paths)?;
-    chains_for(alloc, netlist, bits.as_slice())
-}
-
-/// The chains along the paths of a head's ScanOuts, where its declarations fit these and they have few bits; or the first fault of these.
-fn chains_beside(
+/// Whether a head's declarations fit the paths of its ScanOuts, and these have few bits; or the first fault of these.
+fn check_declared(
     alloc: Global,
     netlist: &Netlist,
     table: &CellTable,
     head: &StilHead,
     paths: &[Path],
-) -> Result<Chains, ReadFault>
+) -> Result<(), ReadFault>
     requires entries { NameEntries netlist.now table.now paths.now }
-    ensures value { IfOk result (λ chains. chains ≡ chains_along netlist.now table.now paths.now) }
     ensures fault { IfFault result (IsFirstFault (HoldsInDeclared netlist.now table.now paths.now head.now)) }
     ensures no_fault { OnOk result ((fault : ghost_fault) → HoldsInDeclared netlist.now table.now paths.now head.now fault → ⊥) }
 {
@@ -75,12 +63,17 @@ fn chains_beside(
     if let Err(fault) = check_bits(netlist, table, paths) {
         return Err(ReadFault::Fault(fault));
     }
-    Ok(chains_along(alloc, netlist, table, paths)?)
+    Ok(())
 }
 
-/// The head of a STIL text and the chains that it declares, on the netlist of a Verilog text by the cells of a table; or the first fault
-/// of these.
-pub(crate) fn read_declared(
+/// The head of a STIL text and the chains that it declares, on the netlist of a Verilog text by the cells of a table. `head` is the text
+/// of the head alone, of less than 4 GiB, as the Verilog.
+///
+/// Refused by the first fault, that of the least kind: of the table (TableSyntax, TableShape), of the Verilog (VerilogSyntax,
+/// SecondModule, VerilogNumber, VerilogTwice, BadSelect), of the head (StilSyntax, StilTwice, Unsupported), of the paths of its
+/// chains (NoPort, TooManyPaths, NoDriver, TwoDrivers, Loop, SharedCell), of its declarations beside these (WrongPort,
+/// LengthDiffers, InversionDiffers, CellsDiffer), or TooManyBits.
+pub fn read_declared(
     alloc: Global,
     table: &[u8],
     verilog: &[u8],
@@ -88,7 +81,7 @@ pub(crate) fn read_declared(
 ) -> Result<Declared, ReadFault>
     requires small { length verilog.now < 2 ^ 32 }
     requires small_head { length head.now < 2 ^ 32 }
-    ensures value { IfOk result (λ d. AreDeclared table.now verilog.now head.now d.head d.chains) }
+    ensures value { IfOk result (AreDeclared table.now verilog.now head.now) }
     ensures fault { IfFault result (IsFirstFault (HoldsBeforePatterns table.now verilog.now head.now)) }
     ensures no_fault { OnOk result ((fault : ghost_fault) → HoldsBeforePatterns table.now verilog.now head.now fault → ⊥) }
 {
@@ -97,6 +90,14 @@ pub(crate) fn read_declared(
     let head = read_head(alloc, head)?;
     let classes = classes_of(alloc, &netlist)?;
     let paths = paths_of(alloc, &netlist, &classes, &table, None, Some(&head))?;
-    let chains = chains_beside(alloc, &netlist, &table, &head, paths.as_slice())?;
-    Ok(Declared { head, chains })
+    let listed = paths.as_slice();
+    check_declared(alloc, &netlist, &table, &head, listed)?;
+    let bits = bits_of_each(alloc, &netlist, &table, listed)?;
+    let chains = chains_for(alloc, &netlist, bits.as_slice())?;
+    Ok(Declared {
+        head,
+        netlist,
+        bits,
+        chains,
+    })
 }

@@ -5,7 +5,7 @@ ghost use Rattle.desk_io.specs.declared.slot.Slot.{Slot};
 ghost use Rattle.desk_io.specs.declared.slot.Stage.TheVariants.{Unopened};
 ghost use Rattle.desk_io.specs.Number.{number};
 
-use desk_io::{Desk, Failed, Slot, Stage};
+use desk_io::{Desk, Failed, SLOTS, Slot, Stage, Way};
 use std::fs::File;
 use std::io::{ErrorKind, Read, Write};
 use std::{fs, io};
@@ -57,9 +57,9 @@ fn sync_file(file: &File) -> io::Result<()> {
 #[derive(Drop)]
 pub struct FileDesk {
     rt: HostRuntime,
-    files: [Option<File>; 9],
-    stages: [Stage; 9],
-    faults: [u64; 9],
+    files: [Option<File>; SLOTS],
+    stages: [Stage; SLOTS],
+    faults: [u64; SLOTS],
 }
 
 impl FileDesk {
@@ -70,9 +70,11 @@ impl FileDesk {
     {
         FileDesk {
             rt,
-            files: [None, None, None, None, None, None, None, None, None],
-            stages: [Stage::Unopened; 9],
-            faults: [0; 9],
+            files: [
+                None, None, None, None, None, None, None, None, None, None, None, None,
+            ],
+            stages: [Stage::Unopened; SLOTS],
+            faults: [0; SLOTS],
         }
     }
 }
@@ -89,12 +91,10 @@ impl Desk for FileDesk {
 
     fn open(&mut self, slot: Slot, name: &str) -> Result<(), Failed> {
         let at = slot.number();
-        let opened = match slot {
-            Slot::Table | Slot::Lef | Slot::Verilog | Slot::Def | Slot::Stil => fs::open(
-                &self.rt, name,
-            ).map(Some),
-            Slot::OutVerilog | Slot::OutDef | Slot::OutStil => fs::create(&self.rt, name).map(Some),
-            Slot::Console => Ok(None),
+        let opened = match (slot, slot.way()) {
+            (Slot::Console, _) => Ok(None),
+            (_, Way::In(_)) => fs::open(&self.rt, name).map(Some),
+            (_, Way::Out(_)) => fs::create(&self.rt, name).map(Some),
         };
         match opened {
             Ok(file) => {
@@ -141,8 +141,8 @@ impl Desk for FileDesk {
 
     fn close(&mut self, slot: Slot) -> Result<(), Failed> {
         let at = slot.number();
-        let kept = match (slot, &self.files[at]) {
-            (Slot::OutVerilog | Slot::OutDef | Slot::OutStil, Some(file)) => sync_file(file),
+        let kept = match (slot.way(), &self.files[at]) {
+            (Way::Out(_), Some(file)) => sync_file(file),
             _ => Ok(()),
         };
         if kept.is_err() {

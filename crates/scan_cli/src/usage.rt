@@ -5,6 +5,10 @@ pub(crate) const USAGE: &str = "usage: wrenpewter COMMAND OPTIONS
       puts the scan chains of a placed design into a shorter order, and changes its scan patterns to match
   check --table FILE --lef FILE --verilog FILE --def FILE
       says whether a placed design, its scan chains and its netlist agree, and how long the chains are
+  bound --table FILE --lef FILE --verilog FILE --def FILE [--rounds N]
+      says how short the scan chains can be at best, by numbers that prove it; better ones with N rounds, from 0 to 1000
+  verify --table FILE --verilog FILE --stil FILE --new-verilog FILE --new-stil FILE
+      tells whether a netlist and its patterns mean the same as another netlist and other patterns
   play --table FILE --verilog FILE --stil FILE --device hold|mix
       tells whether scan patterns pass on a netlist as it stands
   trace --table FILE --verilog FILE --scan-out NAME

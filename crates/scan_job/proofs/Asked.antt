@@ -17,6 +17,8 @@ use Rattle.scan_job.specs.declared.commands.check.CheckRequest.{CheckRequest}
 use Rattle.scan_job.specs.declared.commands.reorder.ReorderRequest.{ReorderRequest}
 use Rattle.scan_job.specs.declared.commands.patterns.PatternsRequest.{PatternsRequest}
 use Rattle.scan_job.specs.declared.commands.play.PlayRequest.{PlayRequest}
+use Rattle.scan_job.specs.declared.commands.bound.BoundRequest.{BoundRequest}
+use Rattle.scan_job.specs.declared.commands.verify.VerifyRequest.{VerifyRequest}
 use Rattle.scan_job.specs.Commands.{Files}
 use Rattle.scan_job.specs.Requests as requests
 use Rattle.scan_job.specs.Requests.{Request, order_of, IsSound, IsAsked}
@@ -30,6 +32,8 @@ use Rattle.scan_job.proofs.CheckLaws.{check_by, check_back, made_check, check_fa
 use Rattle.scan_job.proofs.ReorderLaws.{reorder_by, reorder_back, patterns_back, made_reorder, reorder_fault_same, reorder_texts_same}
 use Rattle.scan_job.proofs.PatternsLaws.{patterns_fault_same, patterns_texts_same}
 use Rattle.scan_job.proofs.PlayLaws.{play_by, play_back, made_play, play_fault_same, play_texts_same}
+use Rattle.scan_job.proofs.BoundLaws.{bound_by, bound_back, made_bound, bound_fault_same, bound_texts_same}
+use Rattle.scan_job.proofs.VerifyLaws.{verify_by, verify_back, made_verify, verify_fault_same, verify_texts_same}
 
 -- the request of a command, its values and the further words, and some request where they are no such values
 request_by : Verb → List Text → List Text → Request → Request
@@ -38,6 +42,8 @@ request_by verbs.Trace values further other = trace_by values other
 request_by verbs.Check values further other = check_by values other
 request_by verbs.Reorder values further other = reorder_by values other
 request_by verbs.Play values further other = play_by values other
+request_by verbs.Bound values further other = bound_by values other
+request_by verbs.Verify values further other = verify_by values other
 
 request_back : (request other : Request) → request_by (order_of request).verb (order_of request).values (order_of request).further other ≡ request
 unfolding request_by
@@ -47,6 +53,8 @@ request_back (requests.Check r) other = check_back r other
 request_back (requests.Reorder r) other = reorder_back r other
 request_back (requests.ReorderPatterns r) other = patterns_back r other
 request_back (requests.Play r) other = play_back r other
+request_back (requests.Bound r) other = bound_back r other
+request_back (requests.Verify r) other = verify_back r other
 
 -- an order is that of one request at most
 pub order_once : (one other : Request) → order_of one ≡ order_of other → one ≡ other
@@ -60,6 +68,8 @@ made verbs.Trace values given further each apart count = made_trace values given
 made verbs.Check values given further each apart count = made_check values given further each count
 made verbs.Reorder values given further each apart count = made_reorder values given further each count
 made verbs.Play values given further each apart count = made_play values given further each count
+made verbs.Bound values given further each apart count = made_bound values given further each count
+made verbs.Verify values given further each apart count = made_verify values given further each count
 
 -- the values of an order ask for this of a command
 abbrev pub MadeBy : Verb → Order → Type 0
@@ -68,6 +78,8 @@ MadeBy verbs.Trace order = (r : TraceRequest) × (order_of (requests.Trace r) �
 MadeBy verbs.Check order = (r : CheckRequest) × (order_of (requests.Check r) ≡ order)
 MadeBy verbs.Reorder order = ((r : ReorderRequest) × (order_of (requests.Reorder r) ≡ order)) ⊎ ((r : PatternsRequest) × (order_of (requests.ReorderPatterns r) ≡ order))
 MadeBy verbs.Play order = (r : PlayRequest) × (order_of (requests.Play r) ≡ order)
+MadeBy verbs.Bound order = (r : BoundRequest) × (order_of (requests.Bound r) ≡ order)
+MadeBy verbs.Verify order = (r : VerifyRequest) × (order_of (requests.Verify r) ≡ order)
 
 made_request : (request : Request) → MadeBy (order_of request).verb (order_of request)
 made_request (requests.Rewire r) = (r, refl)
@@ -76,6 +88,8 @@ made_request (requests.Check r) = (r, refl)
 made_request (requests.Reorder r) = inl (r, refl)
 made_request (requests.ReorderPatterns r) = inr (r, refl)
 made_request (requests.Play r) = (r, refl)
+made_request (requests.Bound r) = (r, refl)
+made_request (requests.Verify r) = (r, refl)
 
 pub made_as : (verb : Verb) (order : Order) → order.verb ≡ verb → IsAsked order → MadeBy verb order
 made_as verb order is asked =
@@ -100,6 +114,8 @@ command_same (requests.Check r) one other fault agree is = check_fault_same r on
 command_same (requests.Reorder r) one other fault agree is = reorder_fault_same r one other fault agree is
 command_same (requests.ReorderPatterns r) one other fault agree is = patterns_fault_same r one other agree fault is
 command_same (requests.Play r) one other fault agree is = play_fault_same r one other fault agree is
+command_same (requests.Bound r) one other fault agree is = bound_fault_same r one other fault agree is
+command_same (requests.Verify r) one other fault agree is = verify_fault_same r one other fault agree is
 
 pub texts_same : (request : Request) (one other : Files) (outputs : Outputs) → AgreeAt request one other → AreTexts request one outputs → AreTexts request other outputs
 texts_same (requests.Rewire r) one other outputs agree are = rewire_texts_same r one other outputs agree are
@@ -108,6 +124,8 @@ texts_same (requests.Check r) one other outputs agree are = check_texts_same r o
 texts_same (requests.Reorder r) one other outputs agree are = reorder_texts_same r one other outputs agree are
 texts_same (requests.ReorderPatterns r) one other outputs agree are = patterns_texts_same r one other agree outputs are
 texts_same (requests.Play r) one other outputs agree are = play_texts_same r one other outputs agree are
+texts_same (requests.Bound r) one other outputs agree are = bound_texts_same r one other outputs agree are
+texts_same (requests.Verify r) one other outputs agree are = verify_texts_same r one other outputs agree are
 
 abbrev further_in : Values → List Text
 further_in values = values (codes "further")

@@ -6,10 +6,11 @@ pub mod CheckLaws
 pub mod ReorderLaws
 pub mod PatternsLaws
 pub mod PlayLaws
+pub mod BoundLaws
+pub mod VerifyLaws
 pub mod Asked
 pub mod Sizes
 pub mod Phases
-pub mod PlayKinds
 pub mod Played
 pub mod PlayPhases
 pub mod Streamed

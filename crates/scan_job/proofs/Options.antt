@@ -83,6 +83,29 @@ module _ (values : Values) (one other : OptionName) (given : List Text) where
   unfolding each_value
   pair_left h = by_first (values (option_text one)) (values (option_text other)) refl h
 
+-- an option that may be left out: it doesn't stand, or it does with a value of its form
+pub record One (name : OptionName) (given : List Text) : Type 0 where
+  pub value : Text
+  pub formed : has_form (value_form name) value ≡ true
+  pub same : given ≡ value ∷ []
+
+module _ (values : Values) (name : OptionName) (given : List Text) where
+  abbrev Maybe : Type 0
+  Maybe = (given ≡ []) ⊎ One name given
+
+  one_formed : (v : Text) (b : Bool) → has_form (value_form name) v ≡ b → (cond b (Some (Some v)) None >>= λ value. Some [] >>= λ others. Some (value_list value ++ others)) ≡ Some given → Maybe
+  one_formed v false formed h = absurd cc
+  one_formed v true formed h = inr (record { value = v; formed = formed; same = sym (same_Some _ _ h) })
+
+  one_among : (vs : List Text) → (value_among (optional name) values vs >>= λ value. Some [] >>= λ others. Some (value_list value ++ others)) ≡ Some given → Maybe
+  one_among [] h = inl (sym (same_Some _ _ h))
+  one_among (v ∷ []) h = one_formed v (has_form (value_form name) v) refl h
+  one_among (v ∷ w ∷ vs) h = absurd cc
+
+  pub one_left : each_value values (optional name ∷ []) ≡ Some given → Maybe
+  unfolding each_value
+  one_left h = one_among (values (option_text name)) h
+
 pub none_left : (values : Values) (given : List Text) → each_value values [] ≡ Some given → given ≡ []
 unfolding each_value
 none_left values given h = sym (same_Some _ _ h)

@@ -2,7 +2,7 @@
 use Rattle.std.proofs.Common.{◌≡◌, ◌≢◌, ◌<◌, ◌⊎◌, ℕ, List, [], Option, IfSome, Result, Ok, Err, refl, sym, ◌∙◌, ap, subst, arith, inl, inr}
 use Rattle.base_types.specs.declared.fault.Fault.{Fault}
 use Rattle.desk_io.specs.declared.slot.Slot.{Slot}
-use Rattle.desk_io.specs.declared.slot.Slot.TheVariants.{Table, Lef, Verilog, Def, Stil, OutVerilog, OutDef, OutStil, Console}
+use Rattle.desk_io.specs.declared.slot.Slot.TheVariants.{Table, Lef, Verilog, Def, Stil, NewVerilog, NewStil, Log, OutVerilog, OutDef, OutStil, Console}
 use Rattle.desk_io.specs.declared.outputs.Outputs.{Outputs}
 use Rattle.desk_io.specs.Desk.{SlotState, SameElsewhere, IsInput, IsOutput, IsOpen, IsClosed, AllUnopened}
 use Rattle.desk_io.specs.Prefixes.{IsAtEnd, IsAppended, HoldsPrefix}
@@ -24,8 +24,8 @@ use Rattle.scan_job.specs.Phases.{HasPutLine, HasFailedAtLine}
 use Rattle.scan_job.specs.Retargeting.{IsRetargetingFault}
 use Rattle.scan_job.specs.PatternPhases.{design_of, IsPutClosed, HasReadPatterns, AreOutputsFound, HasBegunStil, HasWrittenOut, HasFoundBefore, HasFoundWriting, HasFailedAtPatterns, HasRunOutAtPatterns, HasFailedAtOutput, HasFinishedPatterns}
 use Rattle.desk_io.proofs.Slots.{below_cases, input_or_output, not_both, slot_cases, at_slot, apart, early_turn}
-use Rattle.scan_job.proofs.Phases.{state_same, nothing_held, all_held, appended_since, prefix_since, risen_since, before_of, not_open_closed}
-use Rattle.scan_job.proofs.PatternFrames.{all_used, stil_or_last, b_out, b_stil, of_files, run_fault, none_is, none_before, e_unused, e_out, e_design, e_count, in_count, e_closed, e_end, e_open}
+use Rattle.scan_job.proofs.Phases.{state_same, unused_apart, nothing_held, all_held, appended_since, prefix_since, risen_since, before_of, not_open_closed}
+use Rattle.scan_job.proofs.PatternFrames.{last_used, stil_or_last, b_out, b_stil, of_files, run_fault, none_is, none_before, e_unused, e_out, e_design, e_count, in_count, e_closed, e_end, e_open}
 
 -- the closed output isn't open
 shut : (bytes : List ℕ) (old new : SlotState) → IsPutClosed bytes old new → IsOpen new → ⊥
@@ -145,7 +145,7 @@ module _ (r : PatternsRequest) (texts : List (Option (List ℕ))) (a b : Slots) 
 
     fault_said : HasPutLine (names_of request) fault e c → IsRefused request a c
     fault_said put = record {
-      unused = λ slot unused. absurd (unused (all_used r slot));
+      unused = λ slot unused. put.elsewhere slot (unused_apart request slot Console unused refl) ∙ e_unused r texts a b unopened taken e read.elsewhere slot unused;
       none_open = λ slot open_now. elim (slot_cases slot Console) [
         | inl is ↦ not_open_closed (c Console) put.put.closed (at_slot (λ s. IsOpen (c s)) slot Console is open_now)
         | inr ne ↦ e_open r texts a b unopened taken e read.elsewhere read.closed not_open slot (state_same IsOpen (e slot) (c slot) (sym (put.elsewhere slot ne)) open_now)
@@ -165,7 +165,7 @@ module _ (r : PatternsRequest) (texts : List (Option (List ℕ))) (a b : Slots) 
 
     fault_failed : HasFailedAtLine (names_of request) fault e c → IsOutputFailed request a c
     fault_failed failed = record {
-      unused = λ slot unused. absurd (unused (all_used r slot));
+      unused = λ slot unused. failed.elsewhere slot (unused_apart request slot Console unused refl) ∙ e_unused r texts a b unopened taken e read.elsewhere slot unused;
       rose = record { slot = Console; is = tt; risen = risen_since _ (a Console) (e Console) console_kept failed.risen };
       inputs = λ slot input. ap (λ (s : SlotState). s.faults) (failed.elsewhere slot (apart slot Console input tt)) ∙ counts_kept slot;
       prefixes = λ files holds. inr (inr (record {
@@ -255,6 +255,9 @@ module _ (r : PatternsRequest) (texts : List (Option (List ℕ))) (a b : Slots) 
     last_apart Verilog named is = absurd cc
     last_apart Def named is = absurd cc
     last_apart Stil named is = absurd cc
+    last_apart NewVerilog named is = absurd cc
+    last_apart NewStil named is = absurd cc
+    last_apart Log named is = absurd cc
 
     module _ (c : Slots) where
       last_or_not : (slot : Slot) → (IsOutput slot × IsNamed (last_names r) slot) ⊎ (IsOutput slot → IsNamed (last_names r) slot → turn slot < 4 → ⊥)
@@ -270,21 +273,21 @@ module _ (r : PatternsRequest) (texts : List (Option (List ℕ))) (a b : Slots) 
       put_out put =
           let stil_same : c OutStil ≡ e OutStil = put.others OutStil (λ output named lt. last_apart OutStil named refl) in
           record {
-            unused = λ slot unused. absurd (unused (all_used r slot));
+            unused = λ slot unused. put.others slot (λ output named lt. unused (last_used r slot named)) ∙ e_unused r texts a b unopened taken e w.read.elsewhere slot unused;
             none_open = λ slot open_now. elim (last_or_not slot) [
               | inl t ↦ not_open_closed (c slot) (put.put slot t.0 t.1 (early_turn slot t.0)).closed open_now
               | inr none ↦ none_open slot (state_same IsOpen (e slot) (c slot) (sym (put.others slot none)) open_now)
             ];
             closed = λ slot used. elim (input_or_output slot) [
               | inl input ↦ state_same IsClosed (c slot) (e slot) (put.others slot (λ output named lt. not_both slot input output))
-                  (e_closed r texts a b unopened taken e w.read.elsewhere w.read.closed slot input)
+                  (e_closed r texts a b unopened taken e w.read.elsewhere w.read.closed slot input used)
               | inr output ↦ elim (stil_or_last r slot output) [
                 | inl is ↦ at_slot (λ s. IsClosed (c s)) OutStil slot (sym is) (state_same IsClosed (c OutStil) (e OutStil) stil_same w.put.closed)
                 | inr named ↦ (put.put slot output named (early_turn slot output)).closed
               ]
             ];
             read = λ slot input used. state_same IsAtEnd (c slot) (e slot) (put.others slot (λ output named lt. not_both slot input output))
-                (e_end r texts a b unopened taken e w.read.elsewhere w.at_end slot input);
+                (e_end r texts a b unopened taken e w.read.elsewhere w.at_end slot input used);
             counts = λ slot. elim (last_or_not slot) [
               | inl t ↦ (put.put slot t.0 t.1 (early_turn slot t.0)).faults ∙ count_kept slot
               | inr none ↦ ap (λ (s : SlotState). s.faults) (put.others slot none) ∙ count_kept slot
@@ -307,7 +310,8 @@ module _ (r : PatternsRequest) (texts : List (Option (List ℕ))) (a b : Slots) 
           let here : s.between at ≡ e at = s.before.others at (λ output named lt. absurd (omega (arith, lt))) in
           let stil_same : c OutStil ≡ e OutStil = s.elsewhere OutStil (λ is. ne (sym is)) ∙ s.before.others OutStil (λ output named lt. last_apart OutStil named refl) in
           record {
-            unused = λ slot unused. absurd (unused (all_used r slot));
+            unused = λ slot unused. s.elsewhere slot (unused_apart request slot at unused (last_used r at s.named)) ∙ s.before.others slot (λ output named lt. unused (last_used r slot named))
+                ∙ e_unused r texts a b unopened taken e w.read.elsewhere slot unused;
             rose = record { slot = at; is = s.output; risen = risen_since _ (a at) (s.between at) (here ∙ out_kept at s.output ne) s.risen };
             inputs = λ slot input.
                 ap (λ (state : SlotState). state.faults) (s.elsewhere slot (apart slot at input s.output) ∙ s.before.others slot (λ output named lt. not_both slot input output)) ∙ count_kept slot;

@@ -45,7 +45,7 @@ use Rattle.scan_job.specs.Retargeting.{SameBut, IsRetargetingFault, IsPlannedFor
 use Rattle.scan_job.specs.PatternPhases.{design_of, outputs_of, progress_of, IsPutClosed, HasReadPatterns, HasClosedBoth, HasPutStil, HasPutAndClosed, HasPutAndFailed, IsEnded, HasWrittenReady, AreOutputsFound, HasBegunStil, HasWrittenOut, HasFoundWriting, HasFailedAtPatterns, HasRunOutAtPatterns, HasFailedAtOutput, HasFinishedPatterns}
 use Rattle.scan_job.proofs.Phases.{all_held}
 use Rattle.scan_job.proofs.Played.{head_shows, one_text}
-use Rattle.scan_job.proofs.PlayKinds.{pattern_late}
+use Rattle.play_report.proofs.PatternKinds.{pattern_late}
 use Rattle.scan_job.proofs.PlayPhases.{told_since}
 
 -- the outputs of a plan, whose STIL text is the written form of all that is said

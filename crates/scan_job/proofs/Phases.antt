@@ -20,7 +20,7 @@ use Rattle.scan_job.specs.Faults.{size_fault, IsOver, AreSmall, IsCommandFault, 
 use Rattle.scan_job.specs.Texts.{AreOutputsOf, AreOutputsBefore}
 use Rattle.scan_job.specs.TopCall.{Slots, IsUsed, Reads, SameEverywhere, SameUnused, SameOutputs, SameDesign, AreFilesRefused}
 use Rattle.scan_job.specs.Ended.{IsDone, IsRefused, IsInputFailed, IsOutputFailed, IsOutOfMemory, HasEnded, HasRunOrder}
-use Rattle.scan_job.specs.Phases.{HasPutLine, HasFailedAtLine, HasSaid, AreCountable, AreJudged, HasPutAll, HasPutSome, HasFinished}
+use Rattle.scan_job.specs.Phases.{HasPutLine, HasFailedAtLine, HasSaid, AreInLimits, AreJudged, HasPutAll, HasPutSome, HasFinished}
 use Rattle.desk_io.proofs.Slots.{below_cases, slot_cases, input_or_output, not_both, at_slot, apart, low_number, early_turn}
 use Rattle.scan_job.proofs.Asked.{command_same, texts_same}
 use Rattle.scan_job.proofs.Sizes.{IsWhole, over_of, small_of, size_first, size_none}
@@ -74,7 +74,7 @@ risen_since now a b e risen = subst (λ (s : SlotState). HasRisen s.faults now) 
 
 -- the inputs of a request were taken
 
-module _ (request : Request) (texts : List (Option (List ℕ))) (a b : Slots) (taken : HasTakenInputs (names_of request) 5 texts a b) where
+module _ (request : Request) (texts : List (Option (List ℕ))) (a b : Slots) (taken : HasTakenInputs (names_of request) 8 texts a b) where
   taken_here : (slot : Slot) → IsInput slot → IsUsed request slot → HasTakenFile (input_at texts slot) (a slot) (b slot)
   taken_here slot input used = taken.taken slot input used (low_number slot input)
 
@@ -325,7 +325,7 @@ inputs_ran_out request slot a b stopped =
 
 module _ (request : Request) (texts : List (Option (List ℕ))) (a b c : Slots) (unopened : AllUnopened a) (whole : (command_of request).streams ≡ false)
     (early : (kind : Kind) → IsFoundWriting request kind → ⊥)
-    (taken : HasTakenInputs (names_of request) 5 texts a b) where
+    (taken : HasTakenInputs (names_of request) 8 texts a b) where
   abbrev kept : (slot : Slot) → IsOutput slot → b slot ≡ a slot
   kept slot output = output_kept request texts a b taken slot output
 
@@ -421,8 +421,12 @@ pub limit_small : (slot : Slot) → limit_of slot < 2 ^ 32
 limit_small Table = omega arith
 limit_small slot = omega arith
 
-pub countable : (request : Request) (texts : List (Option (List ℕ))) (a b : Slots) → HasTakenInputs (names_of request) 5 texts a b → AreCountable texts
-countable request texts a b taken slot input = elim (used_or_not request slot) [
-  | inl used ↦ let small = taken.small slot input used (low_number slot input) in let limit = limit_small slot in omega (arith, small, limit)
+pub in_limits : (request : Request) (texts : List (Option (List ℕ))) (a b : Slots) → HasTakenInputs (names_of request) 8 texts a b → AreInLimits texts
+in_limits request texts a b taken slot input = elim (used_or_not request slot) [
+  | inl used ↦ taken.small slot input used (low_number slot input)
   | inr unused ↦ let none = ap length (taken.no_text slot (λ reads used lt. unused used)) in omega (arith, none)
 ]
+
+-- so the readers can count its bytes
+pub countable : (texts : List (Option (List ℕ))) → AreInLimits texts → (slot : Slot) → IsInput slot → length (input_at texts slot) < 2 ^ 32
+countable texts limits slot input = let small = limits slot input in let limit = limit_small slot in omega (arith, small, limit)

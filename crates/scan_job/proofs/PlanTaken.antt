@@ -44,7 +44,7 @@ use Rattle.scan_job.specs.Phases.{HasSaid}
 use Rattle.scan_job.specs.Retargeting.{IsFaultBefore, IsRetargetingFault, HasPlanned}
 use Rattle.scan_job.specs.PatternPhases.{design_of, HasReadPatterns, HasFailedAtPatterns, HasRunOutAtPatterns, HasFinishedPatterns}
 use Rattle.scan_job.proofs.Played.{any_head, told_if, comes_whole, no_head, head_text_is, head_shows, one_text}
-use Rattle.scan_job.proofs.PlayKinds.{pattern_late}
+use Rattle.play_report.proofs.PatternKinds.{pattern_late}
 
 -- the kinds of the design's faults come before those of patterns
 

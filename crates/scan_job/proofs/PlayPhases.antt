@@ -3,7 +3,7 @@ use Rattle.std.proofs.Common.{◌≡◌, ◌<◌, ◌≤◌, ◌^◌, ◌⊎◌,
 use Rattle.base_types.specs.declared.fault.Fault.{Fault}
 use Rattle.base_types.specs.FirstFault.{IsFirstFault}
 use Rattle.desk_io.specs.declared.slot.Slot.{Slot}
-use Rattle.desk_io.specs.declared.slot.Slot.TheVariants.{Table, Lef, Verilog, Def, Stil, OutVerilog, OutDef, OutStil, Console}
+use Rattle.desk_io.specs.declared.slot.Slot.TheVariants.{Table, Lef, Verilog, Def, Stil, NewVerilog, NewStil, Log, OutVerilog, OutDef, OutStil, Console}
 use Rattle.desk_io.specs.Number.{number}
 use Rattle.desk_io.specs.Desk.{SlotState, SameElsewhere, IsInput, IsOutput, IsOpen, IsClosed, AllUnopened, opened, closed}
 use Rattle.desk_io.specs.Causes.{HasRisen}
@@ -36,6 +36,9 @@ named_first r Lef input low named = absurd cc
 named_first r Verilog input low named = named
 named_first r Def input low named = absurd cc
 named_first r Stil input low named = absurd (omega (arith, low))
+named_first r NewVerilog input low named = absurd (omega (arith, low))
+named_first r NewStil input low named = absurd (omega (arith, low))
+named_first r Log input low named = absurd (omega (arith, low))
 named_first r OutVerilog input low named = absurd input
 named_first r OutDef input low named = absurd input
 named_first r OutStil input low named = absurd input
@@ -47,6 +50,9 @@ first_named r Lef named = absurd cc
 first_named r Verilog named = named
 first_named r Def named = absurd cc
 first_named r Stil named = absurd cc
+first_named r NewVerilog named = absurd cc
+first_named r NewStil named = absurd cc
+first_named r Log named = absurd cc
 first_named r OutVerilog named = absurd cc
 first_named r OutDef named = absurd cc
 first_named r OutStil named = absurd cc
@@ -58,6 +64,9 @@ first_low r Lef input named = omega arith
 first_low r Verilog input named = omega arith
 first_low r Def input named = omega arith
 first_low r Stil input named = absurd cc
+first_low r NewVerilog input named = absurd cc
+first_low r NewStil input named = absurd cc
+first_low r Log input named = absurd cc
 first_low r OutVerilog input named = absurd input
 first_low r OutDef input named = absurd input
 first_low r OutStil input named = absurd input
@@ -184,6 +193,9 @@ module _ (r : PlayRequest) (texts : List (Option (List ℕ))) (a b : Slots) (uno
     all_small head Verilog input used = small_at Verilog input (omega arith) used
     all_small head Def input used = small_at Def input (omega arith) used
     all_small head Stil input used = head
+    all_small head NewVerilog input used = absurd cc
+    all_small head NewStil input used = absurd cc
+    all_small head Log input used = absurd cc
     all_small head OutVerilog input used = absurd input
     all_small head OutDef input used = absurd input
     all_small head OutStil input used = absurd input
@@ -233,6 +245,9 @@ module _ (r : PlayRequest) (texts : List (Option (List ℕ))) (a b : Slots) (uno
     closed_at Verilog input used = state_same IsClosed (e Verilog) (b Verilog) (read.elsewhere Verilog (λ is. cc)) (taken.taken Verilog tt refl (omega arith)).closed
     closed_at Def input used = absurd cc
     closed_at Stil input used = read.closed
+    closed_at NewVerilog input used = absurd cc
+    closed_at NewStil input used = absurd cc
+    closed_at Log input used = absurd cc
     closed_at OutVerilog input used = absurd input
     closed_at OutDef input used = absurd input
     closed_at OutStil input used = absurd input
@@ -244,6 +259,9 @@ module _ (r : PlayRequest) (texts : List (Option (List ℕ))) (a b : Slots) (uno
     end_at last Verilog input used = state_same IsAtEnd (e Verilog) (b Verilog) (read.elsewhere Verilog (λ is. cc)) (taken.taken Verilog tt refl (omega arith)).at_end
     end_at last Def input used = absurd cc
     end_at last Stil input used = last
+    end_at last NewVerilog input used = absurd cc
+    end_at last NewStil input used = absurd cc
+    end_at last Log input used = absurd cc
     end_at last OutVerilog input used = absurd input
     end_at last OutDef input used = absurd input
     end_at last OutStil input used = absurd input
@@ -278,6 +296,9 @@ module _ (r : PlayRequest) (texts : List (Option (List ℕ))) (a b : Slots) (uno
       only_console Verilog output used = absurd output
       only_console Def output used = absurd output
       only_console Stil output used = absurd output
+      only_console NewVerilog output used = absurd output
+      only_console NewStil output used = absurd output
+      only_console Log output used = absurd output
 
       input_since : (slot : Slot) → IsInput slot → c slot ≡ e slot
       input_since slot input = second slot (apart slot Console input tt)

@@ -28,7 +28,7 @@ use Rattle.play_report.specs.Faults.{HoldsBeforePatterns, IsPatternFault, HoldsI
 use Rattle.play_report.specs.Files.{IsHeadText, chains_along}
 use Rattle.play_report.specs.Progress.{Progress, IsSetUp, ProgressLaw, after_saying, after_sayings, finished, at_first}
 use Rattle.scan_job.specs.Playing.{IsPlayed, IsPlayFault, IsPlayedOut, IsToldFault, HasPlayed, HasPlayedOn}
-use Rattle.scan_job.proofs.PlayKinds.{before_early, pattern_late}
+use Rattle.play_report.proofs.PatternKinds.{before_early, pattern_late}
 
 -- what is drawn
 

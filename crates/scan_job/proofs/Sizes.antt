@@ -1,10 +1,13 @@
 -- The first of the files that are too large.
-use Rattle.std.proofs.Common.{◌≡◌, ◌≢◌, ◌<◌, ◌≤◌, ◌⊎◌, ℕ, Bool, true, false, List, length, refl, subst, arith, inl, inr}
+use Rattle.std.proofs.Common.{◌≡◌, ◌≢◌, ◌<◌, ◌≤◌, ◌⊎◌, ℕ, Bool, true, false, List, length, Ordering, Less, Equal, Greater, refl, subst, arith, inl, inr}
+use Rattle.std.specs.Ordering.{nat_cmp, ordering_then}
+use Rattle.std.proofs.lemmas.Cmp.{ranked}
 use Rattle.base_types.specs.declared.fault.Fault.{Fault}
-use Rattle.base_types.specs.FirstFault.{ComesBefore, IsFirstFault}
+use Rattle.base_types.specs.FirstFault.{file_number, ComesBefore, IsFirstFault}
 use Rattle.desk_io.specs.declared.slot.Slot.{Slot}
-use Rattle.desk_io.specs.declared.slot.Slot.TheVariants.{Table, Lef, Verilog, Def, Stil, OutVerilog, OutDef, OutStil, Console}
+use Rattle.desk_io.specs.declared.slot.Slot.TheVariants.{Table, Lef, Verilog, Def, Stil, NewVerilog, NewStil, Log, OutVerilog, OutDef, OutStil, Console}
 use Rattle.desk_io.specs.Number.{number}
+use Rattle.desk_io.specs.FileKinds.{file_of}
 use Rattle.desk_io.specs.Desk.{IsInput}
 use Rattle.desk_io.specs.Names.{IsNamed}
 use Rattle.desk_io.specs.Inputs.{limit_of}
@@ -14,57 +17,30 @@ use Rattle.desk_io.specs.Ways.{way_of, IsIn, limit_in, IsLonger}
 use Rattle.scan_job.specs.Requests.{Request, command_of, names_of}
 use Rattle.scan_job.specs.Faults.{size_fault, IsOverAt, IsOver, IsSizeFault, AreSmall}
 
+-- the inputs are taken in the order of their files
+in_order : (slot : Slot) → IsInput slot → file_number (file_of slot) ≡ number slot
+in_order Table reads = refl
+in_order Lef reads = refl
+in_order Verilog reads = refl
+in_order Def reads = refl
+in_order Stil reads = refl
+in_order NewVerilog reads = refl
+in_order NewStil reads = refl
+in_order Log reads = refl
+in_order slot reads = absurd reads
+
+by_file : (m n : ℕ) (r : Ordering) → r ≡ nat_cmp m n → ordering_then r Equal ≡ Less → m < n
+by_file m n Less is h = ranked m n Less is
+by_file m n Equal is h = absurd cc
+by_file m n Greater is h = absurd cc
+
 -- of two files that are too large the one that is taken first comes first
 before : (one other : Slot) → IsInput one → IsInput other → ComesBefore (size_fault one) (size_fault other) → number one < number other
-before Table Table reads_one reads_other h = absurd cc
-before Table Lef reads_one reads_other h = omega arith
-before Table Verilog reads_one reads_other h = omega arith
-before Table Def reads_one reads_other h = omega arith
-before Table Stil reads_one reads_other h = omega arith
-before Lef Table reads_one reads_other h = absurd cc
-before Lef Lef reads_one reads_other h = absurd cc
-before Lef Verilog reads_one reads_other h = omega arith
-before Lef Def reads_one reads_other h = omega arith
-before Lef Stil reads_one reads_other h = omega arith
-before Verilog Table reads_one reads_other h = absurd cc
-before Verilog Lef reads_one reads_other h = absurd cc
-before Verilog Verilog reads_one reads_other h = absurd cc
-before Verilog Def reads_one reads_other h = omega arith
-before Verilog Stil reads_one reads_other h = omega arith
-before Def Table reads_one reads_other h = absurd cc
-before Def Lef reads_one reads_other h = absurd cc
-before Def Verilog reads_one reads_other h = absurd cc
-before Def Def reads_one reads_other h = absurd cc
-before Def Stil reads_one reads_other h = omega arith
-before Stil Table reads_one reads_other h = absurd cc
-before Stil Lef reads_one reads_other h = absurd cc
-before Stil Verilog reads_one reads_other h = absurd cc
-before Stil Def reads_one reads_other h = absurd cc
-before Stil Stil reads_one reads_other h = absurd cc
-before Table OutVerilog reads_one reads_other h = absurd reads_other
-before Table OutDef reads_one reads_other h = absurd reads_other
-before Table OutStil reads_one reads_other h = absurd reads_other
-before Table Console reads_one reads_other h = absurd reads_other
-before Lef OutVerilog reads_one reads_other h = absurd reads_other
-before Lef OutDef reads_one reads_other h = absurd reads_other
-before Lef OutStil reads_one reads_other h = absurd reads_other
-before Lef Console reads_one reads_other h = absurd reads_other
-before Verilog OutVerilog reads_one reads_other h = absurd reads_other
-before Verilog OutDef reads_one reads_other h = absurd reads_other
-before Verilog OutStil reads_one reads_other h = absurd reads_other
-before Verilog Console reads_one reads_other h = absurd reads_other
-before Def OutVerilog reads_one reads_other h = absurd reads_other
-before Def OutDef reads_one reads_other h = absurd reads_other
-before Def OutStil reads_one reads_other h = absurd reads_other
-before Def Console reads_one reads_other h = absurd reads_other
-before Stil OutVerilog reads_one reads_other h = absurd reads_other
-before Stil OutDef reads_one reads_other h = absurd reads_other
-before Stil OutStil reads_one reads_other h = absurd reads_other
-before Stil Console reads_one reads_other h = absurd reads_other
-before OutVerilog other reads_one reads_other h = absurd reads_one
-before OutDef other reads_one reads_other h = absurd reads_one
-before OutStil other reads_one reads_other h = absurd reads_one
-before Console other reads_one reads_other h = absurd reads_one
+before one other reads_one reads_other h =
+    let lt = by_file (file_number (file_of one)) (file_number (file_of other)) (nat_cmp (file_number (file_of one)) (file_number (file_of other))) refl h in
+    let a = in_order one reads_one in
+    let b = in_order other reads_other in
+    omega (arith, lt, a, b)
 
 -- a file is taken whole, and is not read as it comes
 abbrev pub IsWhole : Request → Slot → Type 0
@@ -83,6 +59,9 @@ over_at true Table text whole over = over
 over_at true Lef text whole over = over
 over_at true Verilog text whole over = over
 over_at true Def text whole over = over
+over_at true NewVerilog text whole over = over
+over_at true NewStil text whole over = over
+over_at true Log text whole over = over
 over_at true OutVerilog text whole over = over
 over_at true OutDef text whole over = over
 over_at true OutStil text whole over = over
@@ -104,6 +83,9 @@ longer_at true Table text whole over = over
 longer_at true Lef text whole over = over
 longer_at true Verilog text whole over = over
 longer_at true Def text whole over = over
+longer_at true NewVerilog text whole over = over
+longer_at true NewStil text whole over = over
+longer_at true Log text whole over = over
 longer_at true OutVerilog text whole over = over
 longer_at true OutDef text whole over = over
 longer_at true OutStil text whole over = over

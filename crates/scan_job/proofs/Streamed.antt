@@ -1,12 +1,13 @@
 -- A request that reads its STIL file as it comes: its other inputs are taken whole before, and then the STIL slot is read.
-use Rattle.std.proofs.Common.{◌≡◌, ◌≢◌, ◌<◌, ◌≤◌, ◌⊎◌, ℕ, true, List, length, Option, Some, IfSome, ◌^◌, refl, ◌∙◌, ap, subst, arith, inl, inr}
+use Rattle.std.proofs.Common.{◌≡◌, ◌≢◌, ◌<◌, ◌≤◌, ◌⊎◌, ℕ, true, List, length, Option, Some, IfSome, ◌^◌, refl, sym, ◌∙◌, ap, subst, arith, inl, inr}
 use Rattle.desk_io.specs.declared.slot.Slot.{Slot}
-use Rattle.desk_io.specs.declared.slot.Slot.TheVariants.{Table, Lef, Verilog, Def, Stil, OutVerilog, OutDef, OutStil, Console}
+use Rattle.desk_io.specs.declared.slot.Slot.TheVariants.{Stil}
 use Rattle.desk_io.specs.Number.{number}
 use Rattle.desk_io.specs.Desk.{SlotState, SameElsewhere, IsInput, IsClosed, AllUnopened}
 use Rattle.desk_io.specs.Prefixes.{IsAtEnd}
 use Rattle.desk_io.specs.Names.{Names, IsNamed}
 use Rattle.desk_io.specs.Inputs.{input_at, HasTakenInputs, HasStoppedAt}
+use Rattle.desk_io.proofs.Slots.{slot_cases, at_slot}
 use Rattle.scan_job.specs.Requests.{Request, command_of, names_of}
 use Rattle.scan_job.specs.Faults.{IsOver, AreSmall}
 use Rattle.scan_job.specs.TopCall.{Slots, IsUsed, Reads}
@@ -86,13 +87,8 @@ module _ (request : Request) (stil_used : IsUsed request Stil) (texts : List (Op
         let same = ap length (file_is slot input used low) in
         small_of request slot (files slot) input (before_stil request slot low) (omega (arith, small, same))
 
-    pub all_small : (IsOver request Stil (files Stil) → ⊥) → AreSmall request files
-    all_small head Table input used = small_at Table input (omega arith) used
-    all_small head Lef input used = small_at Lef input (omega arith) used
-    all_small head Verilog input used = small_at Verilog input (omega arith) used
-    all_small head Def input used = small_at Def input (omega arith) used
-    all_small head Stil input used = head
-    all_small head OutVerilog input used = absurd input
-    all_small head OutDef input used = absurd input
-    all_small head OutStil input used = absurd input
-    all_small head Console input used = absurd input
+    pub all_small : ((slot : Slot) → IsInput slot → IsUsed request slot → slot ≢ Stil → number slot < 4) → (IsOver request Stil (files Stil) → ⊥) → AreSmall request files
+    all_small early head slot input used = elim (slot_cases slot Stil) [
+      | inl is ↦ at_slot (λ s. IsOver request s (files s) → ⊥) Stil slot (sym is) head
+      | inr ne ↦ small_at slot input (early slot input used ne) used
+    ]

@@ -12,6 +12,8 @@ pub mod Check
 pub mod Reorder
 pub mod Patterns
 pub mod Play
+pub mod Bound
+pub mod Verify
 
 -- the texts of the inputs, by their slots
 abbrev pub Files : Type 0

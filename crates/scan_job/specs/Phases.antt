@@ -1,5 +1,5 @@
 -- What the phases of a command leave at the slots.
-use Rattle.std.specs.Prelude.{◌⊎◌, ◌<◌, ◌^◌, ℕ, List, length, Option, Result, Ok, Err}
+use Rattle.std.specs.Prelude.{◌⊎◌, ◌≤◌, ℕ, List, length, Option, Result, Ok, Err}
 use Rattle.base_types.specs.declared.fault.Fault.{Fault}
 use Rattle.desk_io.specs.declared.slot.Slot.TheVariants.{Console}
 use Rattle.desk_io.specs.declared.outputs.Outputs.{Outputs}
@@ -8,7 +8,7 @@ use Rattle.desk_io.specs.Names.{Names}
 use Rattle.desk_io.specs.Desk.{IsInput, SameElsewhere}
 use Rattle.desk_io.specs.Causes.{HasRisen}
 use Rattle.desk_io.specs.Prefixes.{HasPutFile, HoldsPrefix}
-use Rattle.desk_io.specs.Inputs.{input_at}
+use Rattle.desk_io.specs.Inputs.{limit_of, input_at}
 use Rattle.desk_io.specs.Outputs.{HasPutOutputs, HasStoppedPutting}
 use Rattle.scan_job.specs.declared.stop.Stop.{Stop}
 use Rattle.scan_job.specs.declared.stop.Stop.TheVariants.{NoForm, Refused, InputFailed, OutputFailed, NoMemory}
@@ -54,9 +54,9 @@ HasSaid names fault old new (Err InputFailed) = ⊥
 HasSaid names fault old new (Err OutputFailed) = HasFailedAtLine names fault old new
 HasSaid names fault old new (Err NoMemory) = SameEverywhere old new
 
--- the texts of the inputs are of a size that the readers can count
-abbrev pub AreCountable : List (Option (List ℕ)) → Type 0
-AreCountable texts = (slot : Slot) → IsInput slot → length (input_at texts slot) < 2 ^ 32
+-- the text of each input has no more bytes than its file may
+abbrev pub AreInLimits : List (Option (List ℕ)) → Type 0
+AreInLimits texts = (slot : Slot) → IsInput slot → length (input_at texts slot) ≤ limit_of slot
 
 -- the inputs' texts have no fault of the command's own, and these are its texts
 pub record AreJudged (request : Request) (texts : List (Option (List ℕ))) (outputs : Outputs) : Type 0 where

@@ -9,6 +9,8 @@ use Rattle.scan_job.specs.declared.commands.check.CheckRequest.{CheckRequest}
 use Rattle.scan_job.specs.declared.commands.reorder.ReorderRequest.{ReorderRequest}
 use Rattle.scan_job.specs.declared.commands.patterns.PatternsRequest.{PatternsRequest}
 use Rattle.scan_job.specs.declared.commands.play.PlayRequest.{PlayRequest}
+use Rattle.scan_job.specs.declared.commands.bound.BoundRequest.{BoundRequest}
+use Rattle.scan_job.specs.declared.commands.verify.VerifyRequest.{VerifyRequest}
 use Rattle.scan_job.specs.Commands.{Command}
 use Rattle.scan_job.specs.Commands.Rewire.{rewire}
 use Rattle.scan_job.specs.Commands.Trace.{trace}
@@ -16,6 +18,8 @@ use Rattle.scan_job.specs.Commands.Check.{check}
 use Rattle.scan_job.specs.Commands.Reorder.{reorder}
 use Rattle.scan_job.specs.Commands.Patterns.{reorder_patterns}
 use Rattle.scan_job.specs.Commands.Play.{play}
+use Rattle.scan_job.specs.Commands.Bound.{bound}
+use Rattle.scan_job.specs.Commands.Verify.{verify}
 
 -- what the words ask for: a command, with its values by the names of its options
 pub data Request : Type 0 where
@@ -25,6 +29,8 @@ pub data Request : Type 0 where
   Reorder : ReorderRequest → Request
   ReorderPatterns : PatternsRequest → Request
   Play : PlayRequest → Request
+  Bound : BoundRequest → Request
+  Verify : VerifyRequest → Request
 
 -- what is asked for, as a command
 abbrev pub command_of : Request → Command
@@ -34,6 +40,8 @@ command_of (Check r) = check r
 command_of (Reorder r) = reorder r
 command_of (ReorderPatterns r) = reorder_patterns r
 command_of (Play r) = play r
+command_of (Bound r) = bound r
+command_of (Verify r) = verify r
 
 -- the order whose values a request gives names
 abbrev pub order_of : Request → Order

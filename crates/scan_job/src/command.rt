@@ -4,10 +4,12 @@ ghost use Rattle.desk_io.specs.Names.{AllowsNames};
 ghost use Rattle.scan_job.specs.Requests.{Request, order_of, names_of, IsAsked};
 ghost use Rattle.scan_job.specs.Ended.{HasRunOrder};
 
+use crate::commands::bound::BoundRequest;
 use crate::commands::check::CheckRequest;
 use crate::commands::reorder::ReorderRequest;
 use crate::commands::rewire::RewireRequest;
 use crate::commands::trace::TraceRequest;
+use crate::commands::verify::VerifyRequest;
 use crate::patterns::run_patterns;
 use crate::play::run_play;
 use crate::stop::Stop;
@@ -32,5 +34,7 @@ pub(crate) fn run_order<D: Desk>(alloc: Global, order: &Order, desk: &mut D) -> 
         }
         Verb::Reorder => run_patterns(alloc, order, desk),
         Verb::Play => run_play(alloc, order, desk),
+        Verb::Bound => run_whole::<BoundRequest, D>(alloc, order, desk),
+        Verb::Verify => run_whole::<VerifyRequest, D>(alloc, order, desk),
     }
 }

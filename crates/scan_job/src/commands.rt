@@ -6,19 +6,21 @@ ghost use Rattle.desk_io.specs.Inputs.{input_at};
 ghost use Rattle.scan_job.specs.Requests.{Request, command_of, order_of, names_of, IsSound};
 ghost use Rattle.scan_job.specs.Faults.{IsCommandFault, HasNoCommandFault, IsFoundWriting};
 ghost use Rattle.scan_job.specs.Texts.{AreTexts};
-ghost use Rattle.scan_job.specs.Phases.{AreCountable};
+ghost use Rattle.scan_job.specs.Phases.{AreInLimits};
 
 use base_types::{NoMemory, ReadFault};
 use desk_io::{Inputs, Names, Outputs};
 use scan_words::Order;
 use std::alloc::Global;
 
+pub(crate) mod bound;
 pub(crate) mod check;
 pub(crate) mod patterns;
 pub(crate) mod play;
 pub(crate) mod reorder;
 pub(crate) mod rewire;
 pub(crate) mod trace;
+pub(crate) mod verify;
 
 /// What the words of one command ask for, by the names of its options.
 pub(crate) trait Command: Sized + Drop {
@@ -39,7 +41,7 @@ pub(crate) trait Command: Sized + Drop {
 pub(crate) trait Whole: Command {
     /// The texts of its outputs, or the first fault that it finds in its files.
     fn judge(&self, alloc: Global, inputs: &Inputs) -> Result<Outputs, ReadFault>
-        requires countable { AreCountable inputs.now }
+        requires limits { AreInLimits inputs.now }
         requires sound { IsSound (Self.request self.now) }
         ensures no_fault { IfOk result (λ outputs. HasNoCommandFault (Self.request self.now) (input_at inputs.now)) }
         ensures texts { IfOk result (AreTexts (Self.request self.now) (input_at inputs.now)) }

@@ -3,7 +3,7 @@ ghost use Rattle.desk_io.specs.Desk.{AllUnopened};
 ghost use Rattle.desk_io.specs.Names.{AllowsNames};
 ghost use Rattle.desk_io.specs.Outputs.{OutputsUnopened};
 ghost use Rattle.scan_job.specs.Requests.{Request, order_of, names_of, IsSound, IsAsked};
-ghost use Rattle.scan_job.specs.Phases.{AreCountable, HasFinished};
+ghost use Rattle.scan_job.specs.Phases.{AreInLimits, HasFinished};
 ghost use Rattle.scan_job.specs.Ended.{HasEnded, HasRunOrder};
 
 use crate::commands::Whole;
@@ -24,7 +24,7 @@ fn finish<C: Whole, D: Desk>(
 ) -> Result<(), Stop>
     requires named { names.now ≡ names_of (C.request command.now) }
     requires sound { IsSound (C.request command.now) }
-    requires countable { AreCountable inputs.now }
+    requires limits { AreInLimits inputs.now }
     requires unopened { OutputsUnopened names.now (D.state desk.old) }
     requires allowed { AllowsNames (names_of (C.request command.now)) (D.allows desk.old) }
     ensures ended { HasFinished (C.request command.now) inputs.now (D.state desk.old) (D.state desk.new) result }

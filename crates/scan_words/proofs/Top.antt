@@ -10,7 +10,7 @@ use Rattle.clap.specs.Walk.{Names, Row, Rule, Walk, idle, has_row, nothing_held,
 use Rattle.std.proofs.lemmas.List.{append-nil}
 use Rattle.scan_words.specs.declared.form.WordKind.TheVariants as kinds
 use Rattle.scan_words.specs.declared.verb.Verb.{Verb}
-use Rattle.scan_words.specs.declared.verb.Verb.TheVariants.{Rewire, Trace, Check, Reorder, Play}
+use Rattle.scan_words.specs.declared.verb.Verb.TheVariants.{Rewire, Trace, Check, Reorder, Play, Bound, Verify}
 use Rattle.scan_words.specs.Command.{program}
 use Rattle.scan_words.specs.Form.{Text, Part, is_name, is_value, word_kind, long_kind, kind_turn, turn, have_parts, with_part, word_parts, parts_from}
 use Rattle.scan_words.specs.Verbs.{verb_name, option_names, takes_further}
@@ -101,12 +101,22 @@ abbrev fifth_shape : List Shape → Shape
 fifth_shape [] = new_shape []
 fifth_shape (s ∷ ss) = fourth_shape ss
 
+abbrev sixth_shape : List Shape → Shape
+sixth_shape [] = new_shape []
+sixth_shape (s ∷ ss) = fifth_shape ss
+
+abbrev seventh_shape : List Shape → Shape
+seventh_shape [] = new_shape []
+seventh_shape (s ∷ ss) = sixth_shape ss
+
 abbrev shape : Verb → Shape
 shape Rewire = first_shape (built program).subs
 shape Trace = second_shape (built program).subs
 shape Check = third_shape (built program).subs
 shape Reorder = fourth_shape (built program).subs
 shape Play = fifth_shape (built program).subs
+shape Bound = sixth_shape (built program).subs
+shape Verify = seventh_shape (built program).subs
 
 finds_for : (verb : Verb) → Finds (option_names verb) (takes_further verb) (shape verb).rules
 finds_for Rewire = finds (option_names Rewire) true refl
@@ -114,6 +124,8 @@ finds_for Trace = finds (option_names Trace) false refl
 finds_for Check = finds (option_names Check) false refl
 finds_for Reorder = finds (option_names Reorder) false refl
 finds_for Play = finds (option_names Play) false refl
+finds_for Bound = finds (option_names Bound) false refl
+finds_for Verify = finds (option_names Verify) false refl
 
 goes : (verb : Verb) (words : List Text) (parts : List Part) → parts_from (option_names verb) (takes_further verb) None words ≡ Some parts → Goes (shape verb) (walk_at nothing_held idle) words (add_parts [] parts)
 goes verb words parts read = follows (shape verb) (option_names verb) (takes_further verb) (finds_for verb) words None nothing_held idle [] parts (record { passes = refl; rows = refl; idle = tt }) read
@@ -142,6 +154,8 @@ at_word Trace = refl
 at_word Check = refl
 at_word Reorder = refl
 at_word Play = refl
+at_word Bound = refl
+at_word Verify = refl
 
 ends_at : (verb : Verb) (words : List Text) → walk (built program).top.rules program_names nothing_held (verb_name verb ∷ words) ≡ stopped_at (verb_name verb) words
 ends_at verb words = ap (λ (w : Walk). fold (walked (built program).top.rules program_names) w words) (at_word verb) ∙ goes_down (built program).top.rules program_names (verb_name verb) [] words
@@ -153,6 +167,8 @@ top_passes Trace words = rw (at_word Trace) (passes_down (built program).top pro
 top_passes Check words = rw (at_word Check) (passes_down (built program).top program_names (verb_name Check) [] words)
 top_passes Reorder words = rw (at_word Reorder) (passes_down (built program).top program_names (verb_name Reorder) [] words)
 top_passes Play words = rw (at_word Play) (passes_down (built program).top program_names (verb_name Play) [] words)
+top_passes Bound words = rw (at_word Bound) (passes_down (built program).top program_names (verb_name Bound) [] words)
+top_passes Verify words = rw (at_word Verify) (passes_down (built program).top program_names (verb_name Verify) [] words)
 
 pub simple : is_simple program ≡ true
 simple = refl
@@ -164,6 +180,8 @@ passes_sub Trace words parts read = let g = goes Trace words parts read in rw (g
 passes_sub Check words parts read = let g = goes Check words parts read in rw (g.turns, g.settles) refl
 passes_sub Reorder words parts read = let g = goes Reorder words parts read in rw (g.turns, g.settles) refl
 passes_sub Play words parts read = let g = goes Play words parts read in rw (g.turns, g.settles) refl
+passes_sub Bound words parts read = let g = goes Bound words parts read in rw (g.turns, g.settles) refl
+passes_sub Verify words parts read = let g = goes Verify words parts read in rw (g.turns, g.settles) refl
 
 pub taken : (verb : Verb) (words : List Text) (parts : List Part) → parts_from (option_names verb) (takes_further verb) None words ≡ Some parts → takes program (verb_name verb ∷ words) ≡ true
 taken Rewire words parts read = rw (ends_at Rewire words, top_passes Rewire words, passes_sub Rewire words parts read) refl
@@ -171,6 +189,8 @@ taken Trace words parts read = rw (ends_at Trace words, top_passes Trace words, 
 taken Check words parts read = rw (ends_at Check words, top_passes Check words, passes_sub Check words parts read) refl
 taken Reorder words parts read = rw (ends_at Reorder words, top_passes Reorder words, passes_sub Reorder words parts read) refl
 taken Play words parts read = rw (ends_at Play words, top_passes Play words, passes_sub Play words parts read) refl
+taken Bound words parts read = rw (ends_at Bound words, top_passes Bound words, passes_sub Bound words parts read) refl
+taken Verify words parts read = rw (ends_at Verify words, top_passes Verify words, passes_sub Verify words parts read) refl
 
 found_sub : (verb : Verb) (words : List Text) (parts : List Part) → parts_from (option_names verb) (takes_further verb) None words ≡ Some parts → rows_after (shape verb).rules [] words ≡ add_parts [] parts
 found_sub Rewire words parts read = no_defaults (shape Rewire).rules _ (refl, (refl, (refl, (refl, (refl, (refl, (refl, (refl, tt)))))))) ∙ (goes Rewire words parts read).rows
@@ -178,6 +198,8 @@ found_sub Trace words parts read = no_defaults (shape Trace).rules _ (refl, (ref
 found_sub Check words parts read = no_defaults (shape Check).rules _ (refl, (refl, (refl, (refl, tt)))) ∙ (goes Check words parts read).rows
 found_sub Reorder words parts read = no_defaults (shape Reorder).rules _ (refl, (refl, (refl, (refl, (refl, (refl, (refl, (refl, (refl, tt))))))))) ∙ (goes Reorder words parts read).rows
 found_sub Play words parts read = no_defaults (shape Play).rules _ (refl, (refl, (refl, (refl, tt)))) ∙ (goes Play words parts read).rows
+found_sub Bound words parts read = no_defaults (shape Bound).rules _ (refl, (refl, (refl, (refl, (refl, tt))))) ∙ (goes Bound words parts read).rows
+found_sub Verify words parts read = no_defaults (shape Verify).rules _ (refl, (refl, (refl, (refl, (refl, tt))))) ∙ (goes Verify words parts read).rows
 
 named : (verb : Verb) (words : List Text) → entered (built program) (Some (verb_name verb, words)) ≡ Some (verb_name verb, rows_after (shape verb).rules [] words)
 named Rewire words = refl
@@ -185,6 +207,8 @@ named Trace words = refl
 named Check words = refl
 named Reorder words = refl
 named Play words = refl
+named Bound words = refl
+named Verify words = refl
 
 pub matched : (verb : Verb) (words : List Text) (parts : List Part) → parts_from (option_names verb) (takes_further verb) None words ≡ Some parts → subcommand_of program (verb_name verb ∷ words) ≡ Some (verb_name verb, add_parts [] parts)
 matched verb words parts read =

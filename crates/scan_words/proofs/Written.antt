@@ -12,7 +12,7 @@ use Rattle.clap.proofs.LexerLemmas.{name_and_value-at, name_and_value-without}
 use Rattle.scan_words.specs.declared.order.Order.{Order}
 use Rattle.scan_words.specs.declared.form.WordKind.TheVariants as kinds
 use Rattle.scan_words.specs.declared.verb.Verb.{Verb}
-use Rattle.scan_words.specs.declared.verb.Verb.TheVariants.{Rewire, Trace, Check, Reorder, Play}
+use Rattle.scan_words.specs.declared.verb.Verb.TheVariants.{Rewire, Trace, Check, Reorder, Play, Bound, Verify}
 use Rattle.scan_words.specs.Form.{◌>>=◌, Text, Part, is_name, is_value, word_kind, long_kind, with_part, word_parts, parts_from, values_of, only_if}
 use Rattle.scan_words.specs.Verbs.{options_of, verb_name, option_names, takes_further, verb_of}
 use Rattle.scan_words.specs.Orders.{values_by, is_count, order_by, verb_order, order_in}
@@ -31,6 +31,8 @@ clear_names Trace = refl
 clear_names Check = refl
 clear_names Reorder = refl
 clear_names Play = refl
+clear_names Bound = refl
+clear_names Verify = refl
 
 and_left : (a b : Bool) → (a && b) ≡ true → a ≡ true
 and_left true b h = refl
@@ -259,6 +261,8 @@ verb_at Trace = refl
 verb_at Check = refl
 verb_at Reorder = refl
 verb_at Play = refl
+verb_at Bound = refl
+verb_at Verify = refl
 
 order_at : (verb : Verb) (behind : List Text) (ps : List Part) → parts_from (option_names verb) (takes_further verb) None behind ≡ Some ps
     → order_in (verb_name verb ∷ behind) ≡ order_by verb (λ name. values_of name ps)

@@ -1,5 +1,6 @@
 -- The table of a command: its options, what their values are, and which of them stand.
-use Rattle.std.specs.Prelude.{Bool, true, false, ◌&&◌, ◌||◌, not, if◌then◌else◌, List, [], ◌∷◌, ◌++◌, map, codes, Option, Some, None}
+use Rattle.std.specs.Prelude.{ℕ, ◌+◌, ◌-◌, Bool, true, false, ◌&&◌, ◌||◌, not, if◌then◌else◌, List, [], ◌∷◌, ◌++◌, map, codes, decimal, Option, Some, None}
+use Rattle.std.specs.List.{list_any, range_with_len}
 use Rattle.std.specs.Str.{bytes_eq}
 use Rattle.scan_words.specs.declared.table.OptionName.{OptionName}
 use Rattle.scan_words.specs.declared.table.OptionName.TheVariants as options
@@ -26,6 +27,8 @@ option_row options.Lef = option (codes "lef") forms.File
 option_row options.Verilog = option (codes "verilog") forms.File
 option_row options.Def = option (codes "def") forms.File
 option_row options.Stil = option (codes "stil") forms.File
+option_row options.NewVerilog = option (codes "new-verilog") forms.File
+option_row options.NewStil = option (codes "new-stil") forms.File
 option_row options.OutVerilog = option (codes "out-verilog") forms.File
 option_row options.OutDef = option (codes "out-def") forms.File
 option_row options.OutStil = option (codes "out-stil") forms.File
@@ -36,6 +39,7 @@ option_row options.ScanIn = option (codes "scan-in") forms.Name
 option_row options.ScanOut = option (codes "scan-out") forms.Name
 option_row options.Effort = option (codes "effort") forms.Effort
 option_row options.Device = option (codes "device") forms.Device
+option_row options.Rounds = option (codes "rounds") forms.Rounds
 
 -- the name behind the two hyphens
 abbrev pub option_text : OptionName → Text
@@ -49,6 +53,10 @@ value_form name = (option_row name).form
 abbrev pub texts : List OptionForm → List Text
 texts table = map (λ o. option_text o.name) table
 
+-- whether a text is the decimal of a number from one to another, without sign or leading zero
+unfoldable pub is_number : ℕ → ℕ → Text → Bool
+is_number low high value = list_any (λ number. bytes_eq value (decimal number)) (range_with_len low (high + 1 - low))
+
 -- whether a text is of the form, besides being a value
 abbrev pub has_form : ValueForm → Text → Bool
 has_form forms.File value = true
@@ -56,6 +64,7 @@ has_form forms.Pin value = true
 has_form forms.Name value = true
 has_form forms.Effort value = bytes_eq value (codes "order") || bytes_eq value (codes "full")
 has_form forms.Device value = bytes_eq value (codes "hold") || bytes_eq value (codes "mix")
+has_form forms.Rounds value = is_number 0 1000 value
 
 -- the values that the words give each name
 abbrev pub Values : Type 0

@@ -6,7 +6,7 @@ use Rattle.scan_words.specs.declared.table.OptionName.TheVariants as options
 use Rattle.scan_words.specs.declared.table.Need.TheVariants.{Needed, Optional, With}
 use Rattle.scan_words.specs.declared.table.OptionForm.{OptionForm}
 use Rattle.scan_words.specs.declared.verb.Verb.{Verb}
-use Rattle.scan_words.specs.declared.verb.Verb.TheVariants.{Rewire, Trace, Check, Reorder, Play}
+use Rattle.scan_words.specs.declared.verb.Verb.TheVariants.{Rewire, Trace, Check, Reorder, Play, Bound, Verify}
 use Rattle.scan_words.specs.Form.{Text}
 use Rattle.scan_words.specs.Table.{texts}
 
@@ -30,7 +30,7 @@ beside other name = record { name = name; need = With other }
 
 -- the commands
 abbrev pub verbs : List Verb
-verbs = Rewire ∷ Trace ∷ Check ∷ Reorder ∷ Play ∷ []
+verbs = Rewire ∷ Trace ∷ Check ∷ Reorder ∷ Play ∷ Bound ∷ Verify ∷ []
 
 -- the row of a command
 abbrev pub verb_row : Verb → VerbRow
@@ -58,6 +58,16 @@ verb_row Reorder = record {
 verb_row Play = record {
   word = codes "play";
   options = needed options.Table ∷ needed options.Verilog ∷ needed options.Stil ∷ needed options.Device ∷ [];
+  takes_further = false;
+}
+verb_row Bound = record {
+  word = codes "bound";
+  options = needed options.Table ∷ needed options.Lef ∷ needed options.Verilog ∷ needed options.Def ∷ optional options.Rounds ∷ [];
+  takes_further = false;
+}
+verb_row Verify = record {
+  word = codes "verify";
+  options = needed options.Table ∷ needed options.Verilog ∷ needed options.Stil ∷ needed options.NewVerilog ∷ needed options.NewStil ∷ [];
   takes_further = false;
 }
 

@@ -1,6 +1,8 @@
-ghost use Rattle.std.specs.Prelude.{◌≡◌};
+ghost use Rattle.std.specs.Prelude.{◌≡◌, ◌≢◌, ◌≤◌, ◌<◌, ◌^◌, ℕ, decimal, MatchOption};
 ghost use Rattle.std.specs.Str.{bytes_eq};
-ghost use Rattle.scan_words.specs.Table.{option_text, value_form, has_form, is_like};
+ghost use Rattle.scan_words.specs.Table.{option_text, value_form, has_form, is_like, is_number};
+
+use itoa::Buffer;
 
 /// An option, known by its name.
 #[derive(Clone, Copy, Debug, PartialEq, Eq)]
@@ -10,6 +12,8 @@ pub enum OptionName {
     Verilog,
     Def,
     Stil,
+    NewVerilog,
+    NewStil,
     OutVerilog,
     OutDef,
     OutStil,
@@ -20,6 +24,7 @@ pub enum OptionName {
     ScanOut,
     Effort,
     Device,
+    Rounds,
 }
 
 /// What the value of an option is.
@@ -35,6 +40,8 @@ pub enum ValueForm {
     Effort,
     /// `hold` or `mix`.
     Device,
+    /// A decimal number from 0 to 1000, without sign or leading zero.
+    Rounds,
 }
 
 /// Whether an option stands among the words.
@@ -67,6 +74,8 @@ impl OptionName {
             OptionName::Verilog => ("verilog", ValueForm::File),
             OptionName::Def => ("def", ValueForm::File),
             OptionName::Stil => ("stil", ValueForm::File),
+            OptionName::NewVerilog => ("new-verilog", ValueForm::File),
+            OptionName::NewStil => ("new-stil", ValueForm::File),
             OptionName::OutVerilog => ("out-verilog", ValueForm::File),
             OptionName::OutDef => ("out-def", ValueForm::File),
             OptionName::OutStil => ("out-stil", ValueForm::File),
@@ -77,6 +86,7 @@ impl OptionName {
             OptionName::ScanOut => ("scan-out", ValueForm::Name),
             OptionName::Effort => ("effort", ValueForm::Effort),
             OptionName::Device => ("device", ValueForm::Device),
+            OptionName::Rounds => ("rounds", ValueForm::Rounds),
         }
     }
 
@@ -102,6 +112,33 @@ impl OptionName {
     }
 }
 
+/// The number whose decimal a text is, without sign or leading zero.
+fn number_in(value: &str) -> Option<u32>
+    ensures value { MatchOption result ((number : ℕ) → number < 2 ^ 32 → value.now ≢ decimal number) (λ number. value.now ≡ decimal number) }
+{
+    match value.parse::<u32>() {
+        Ok(number) => {
+            if Buffer::new().format(number) == value {
+                Some(number)
+            } else {
+                None
+            }
+        }
+        Err(_) => None,
+    }
+}
+
+/// Whether a text is the decimal of a number from one to another, without sign or leading zero.
+fn is_number(low: u32, high: u32, value: &str) -> bool
+    requires order { low ≤ high }
+    ensures { result ≡ is_number low high value.now }
+{
+    match number_in(value) {
+        Some(number) => low <= number && number <= high,
+        None => false,
+    }
+}
+
 /// Whether a text is of the form, besides being a value.
 pub(crate) fn has_form(form: ValueForm, value: &str) -> bool
     ensures { result ≡ has_form form value.now }
@@ -110,6 +147,7 @@ pub(crate) fn has_form(form: ValueForm, value: &str) -> bool
         ValueForm::File | ValueForm::Pin | ValueForm::Name => true,
         ValueForm::Effort => value == "order" || value == "full",
         ValueForm::Device => value == "hold" || value == "mix",
+        ValueForm::Rounds => is_number(0, 1000, value),
     }
 }
 

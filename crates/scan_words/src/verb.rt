@@ -18,6 +18,10 @@ pub enum Verb {
     Reorder,
     /// Plays patterns on the scan chains of a netlist, cell by cell.
     Play,
+    /// Tells how short the chains could be at most, with numbers that prove it.
+    Bound,
+    /// Tells whether two sets of a netlist and its patterns mean the same.
+    Verify,
 }
 
 /// A row of the table of commands.
@@ -31,12 +35,14 @@ pub(crate) struct VerbRow<'a> {
     pub takes_further: bool,
 }
 
-static VERBS: [Verb; 5] = [
+static VERBS: [Verb; 7] = [
     Verb::Rewire,
     Verb::Trace,
     Verb::Check,
     Verb::Reorder,
     Verb::Play,
+    Verb::Bound,
+    Verb::Verify,
 ];
 
 static REWIRE: [OptionForm; 7] = [
@@ -162,6 +168,52 @@ static PLAY: [OptionForm; 4] = [
     },
 ];
 
+static BOUND: [OptionForm; 5] = [
+    OptionForm {
+        name: OptionName::Table,
+        need: Need::Needed,
+    },
+    OptionForm {
+        name: OptionName::Lef,
+        need: Need::Needed,
+    },
+    OptionForm {
+        name: OptionName::Verilog,
+        need: Need::Needed,
+    },
+    OptionForm {
+        name: OptionName::Def,
+        need: Need::Needed,
+    },
+    OptionForm {
+        name: OptionName::Rounds,
+        need: Need::Optional,
+    },
+];
+
+static VERIFY: [OptionForm; 5] = [
+    OptionForm {
+        name: OptionName::Table,
+        need: Need::Needed,
+    },
+    OptionForm {
+        name: OptionName::Verilog,
+        need: Need::Needed,
+    },
+    OptionForm {
+        name: OptionName::Stil,
+        need: Need::Needed,
+    },
+    OptionForm {
+        name: OptionName::NewVerilog,
+        need: Need::Needed,
+    },
+    OptionForm {
+        name: OptionName::NewStil,
+        need: Need::Needed,
+    },
+];
+
 /// The commands.
 pub(crate) fn verbs<'a>() -> &'a [Verb]
     ensures { result.now ≡ verbs }
@@ -224,6 +276,16 @@ impl Verb {
             Verb::Play => VerbRow {
                 word: "play",
                 options: PLAY.as_slice(),
+                takes_further: false,
+            },
+            Verb::Bound => VerbRow {
+                word: "bound",
+                options: BOUND.as_slice(),
+                takes_further: false,
+            },
+            Verb::Verify => VerbRow {
+                word: "verify",
+                options: VERIFY.as_slice(),
                 takes_further: false,
             },
         }

@@ -1,6 +1,3 @@
-pub mod HeadCuts
-pub mod OwnHeads
-pub mod SameCounts
 pub mod SameCells
 pub mod SamePaths
 pub mod PlannedPaths

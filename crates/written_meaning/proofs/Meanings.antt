@@ -48,7 +48,7 @@ use Rattle.head_fits.proofs.PathNames.{count_all}
 use Rattle.chain_reorder.specs.Reordered.{AreSamePaths}
 use Rattle.chain_reorder.specs.PatternPlans.{AreMovable}
 use Rattle.written_meaning.specs.Meaning.{patterns_in, Means, KeepsMeaning}
-use Rattle.written_meaning.proofs.OwnHeads.{IsOwnHead}
+use Rattle.same_files.proofs.OwnHeads.{IsOwnHead}
 use Rattle.written_meaning.proofs.SameCells.{cells_are}
 use Rattle.written_meaning.proofs.SamePaths.{same_steps, by_names, paths_after}
 use Rattle.written_meaning.proofs.NewHeads.{declared_ports, again_ports, said_bits, new_bits_are, most_within}

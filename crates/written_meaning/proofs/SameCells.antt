@@ -21,7 +21,7 @@ use Rattle.path_chains.specs.Along.{HaveSameInstances}
 use Rattle.path_chains.proofs.Cells.{all_of_steps, bits_once, in_map, to_bits}
 use Rattle.chain_reorder.proofs.Heads.{Head, head, heads, head_at, scan_path_kept, out_pin_kept}
 use Rattle.written_meaning.specs.Meaning.{NameSameCells}
-use Rattle.written_meaning.proofs.SameCounts.{same_count}
+use Rattle.same_files.proofs.SameCounts.{same_count}
 
 heads_by : (xs ys : List Instance) → map (λ (i : Instance). i.name) xs ≡ map (λ (i : Instance). i.name) ys → map (λ (i : Instance). i.cell) xs ≡ map (λ (i : Instance). i.cell) ys → map head xs ≡ map head ys
 heads_by [] [] names cells = refl

@@ -32,7 +32,7 @@ use Rattle.chain_reorder.specs.Reordered.{IsChecked, IsVerilogOf, AreSamePaths}
 use Rattle.chain_reorder.specs.PatternPlans.{IsPatternPlan, ArePatternsPlanned}
 use Rattle.written_meaning.specs.Meaning.{KeepsMeaning, form_of, patterns_in}
 use Rattle.written_meaning.specs.Laws.{MeaningLaw}
-use Rattle.written_meaning.proofs.OwnHeads.{own_head, told_is}
+use Rattle.same_files.proofs.OwnHeads.{own_head, told_is}
 use Rattle.written_meaning.proofs.PlannedPaths.{are_planned}
 use Rattle.written_meaning.proofs.Meanings.{keeps_meaning}
 

@@ -27,3 +27,9 @@ run_patterns-requires-clause-made g c =
 
 pub run_play-requires-clause-made : goal.run_play-requires-clause-made
 run_play-requires-clause-made g c = made_as verbs.Play c.args.order.now c.in-Play.is c.requires.asked
+
+pub run_whole-requires-in-Bound-clause-made : goal.run_whole-requires-in-Bound-clause-made
+run_whole-requires-in-Bound-clause-made g c = made_as verbs.Bound c.args.order.now c.in-Bound.is c.requires.asked
+
+pub run_whole-requires-in-Verify-clause-made : goal.run_whole-requires-in-Verify-clause-made
+run_whole-requires-in-Verify-clause-made g c = made_as verbs.Verify c.args.order.now c.in-Verify.is c.requires.asked

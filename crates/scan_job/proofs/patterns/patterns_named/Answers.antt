@@ -18,14 +18,14 @@ use Rattle.scan_job.specs.Ended.{HasEnded}
 use Rattle.scan_job.specs.Phases.{HasSaid}
 use Rattle.scan_job.proofs.Phases.{input_failed, inputs_ran_out, found_large, said_ended}
 use Rattle.scan_job.proofs.Streamed.{before_stil, taken_first, stopped_first, small_text}
-use Rattle.scan_job.proofs.PatternFrames.{all_used, are_first}
+use Rattle.scan_job.proofs.PatternFrames.{are_first}
 use Rattle.scan_job.proofs.PatternPhases.{patterns_finished}
 use Rattle.scan_job.proofs.patterns.patterns_named.Goals as goal
 
 taken_four : (names : Names) (r : PatternsRequest) (texts : List (Option (List ℕ))) (a b : Slots) → names ≡ first_names r
-    → HasTakenInputs names 5 texts a b → HasTakenInputs (names_of (ReorderPatterns r)) 4 texts a b
+    → HasTakenInputs names 8 texts a b → HasTakenInputs (names_of (ReorderPatterns r)) 4 texts a b
 taken_four names r texts a b are taken =
-    taken_first (ReorderPatterns r) (first_names r) (are_first r) 5 4 texts a b (omega arith) (omega arith) (inr (omega arith)) (subst (λ (n : Names). HasTakenInputs n 5 texts a b) are taken)
+    taken_first (ReorderPatterns r) (first_names r) (are_first r) 8 4 texts a b (omega arith) (omega arith) (inr (omega arith)) (subst (λ (n : Names). HasTakenInputs n 8 texts a b) are taken)
 
 at_first : (names : Names) (r : PatternsRequest) (slot : Slot) (a b : Slots) (did : SlotState → SlotState → Type 0) → names ≡ first_names r
     → HasStoppedAt names slot a b did → HasStoppedAt (first_names r) slot a b did
@@ -45,21 +45,21 @@ patterns_taken-requires-clause-lef g c =
     let r = c.args.request.now in
     let a = g.D.Desk.state c.args.desk.now in
     let b = g.D.Desk.state c.take_inputs.new.desk in
-    small_text (ReorderPatterns r) refl c.in-Ok.inputs a b (taken_four c.args.first.now r c.in-Ok.inputs a b c.requires.first c.in-Ok.ensures.ok) Lef tt (all_used r Lef) (omega arith)
+    small_text (ReorderPatterns r) refl c.in-Ok.inputs a b (taken_four c.args.first.now r c.in-Ok.inputs a b c.requires.first c.in-Ok.ensures.ok) Lef tt refl (omega arith)
 
 pub patterns_taken-requires-clause-verilog : goal.patterns_taken-requires-clause-verilog
 patterns_taken-requires-clause-verilog g c =
     let r = c.args.request.now in
     let a = g.D.Desk.state c.args.desk.now in
     let b = g.D.Desk.state c.take_inputs.new.desk in
-    small_text (ReorderPatterns r) refl c.in-Ok.inputs a b (taken_four c.args.first.now r c.in-Ok.inputs a b c.requires.first c.in-Ok.ensures.ok) Verilog tt (all_used r Verilog) (omega arith)
+    small_text (ReorderPatterns r) refl c.in-Ok.inputs a b (taken_four c.args.first.now r c.in-Ok.inputs a b c.requires.first c.in-Ok.ensures.ok) Verilog tt refl (omega arith)
 
 pub patterns_taken-requires-clause-def : goal.patterns_taken-requires-clause-def
 patterns_taken-requires-clause-def g c =
     let r = c.args.request.now in
     let a = g.D.Desk.state c.args.desk.now in
     let b = g.D.Desk.state c.take_inputs.new.desk in
-    small_text (ReorderPatterns r) refl c.in-Ok.inputs a b (taken_four c.args.first.now r c.in-Ok.inputs a b c.requires.first c.in-Ok.ensures.ok) Def tt (all_used r Def) (omega arith)
+    small_text (ReorderPatterns r) refl c.in-Ok.inputs a b (taken_four c.args.first.now r c.in-Ok.inputs a b c.requires.first c.in-Ok.ensures.ok) Def tt refl (omega arith)
 
 pub returns-in-Ok : goal.returns-in-Ok
 returns-in-Ok g c =

@@ -20,9 +20,9 @@ use Rattle.scan_job.proofs.PlayPhases.{first_low, before_stil, taken_first, stop
 use Rattle.scan_job.proofs.play.play_named.Goals as goal
 
 taken_four : (names : Names) (r : PlayRequest) (texts : List (Option (List ℕ))) (a b : Slots) → names ≡ first_names r
-    → HasTakenInputs names 5 texts a b → HasTakenInputs (names_of (Play r)) 4 texts a b
+    → HasTakenInputs names 8 texts a b → HasTakenInputs (names_of (Play r)) 4 texts a b
 taken_four names r texts a b are taken =
-    taken_first r 5 4 texts a b (omega arith) (omega arith) (inr (omega arith)) (subst (λ (n : Names). HasTakenInputs n 5 texts a b) are taken)
+    taken_first r 8 4 texts a b (omega arith) (omega arith) (inr (omega arith)) (subst (λ (n : Names). HasTakenInputs n 8 texts a b) are taken)
 
 at_first : (names : Names) (r : PlayRequest) (slot : Slot) (a b : Slots) (did : SlotState → SlotState → Type 0) → names ≡ first_names r
     → HasStoppedAt names slot a b did → HasStoppedAt (first_names r) slot a b did

@@ -6,22 +6,22 @@ use Rattle.desk_io.specs.declared.inputs.InputsFault.{InputsFault}
 use Rattle.desk_io.specs.Inputs.{limit_of, HasTakenInputs, HasStoppedAt, HasStopped}
 use Rattle.scan_job.specs.Faults.{size_fault}
 use Rattle.scan_job.specs.Phases.{HasSaid}
-use Rattle.scan_job.proofs.Phases.{countable, finished, input_failed, inputs_ran_out, found_large, said_ended}
+use Rattle.scan_job.proofs.Phases.{in_limits, finished, input_failed, inputs_ran_out, found_large, said_ended}
 use Rattle.scan_job.proofs.whole.run_named.Goals as goal
 
-pub finish-requires-clause-countable : goal.finish-requires-clause-countable
-finish-requires-clause-countable g c =
+pub finish-requires-clause-limits : goal.finish-requires-clause-limits
+finish-requires-clause-limits g c =
     let a = g.D.Desk.state c.args.desk.now in
     let b = g.D.Desk.state c.take_inputs.new.desk in
-    let taken = subst (λ (names : Names). HasTakenInputs names 5 c.in-Ok.inputs a b) c.requires.named c.in-Ok.ensures.ok in
-    countable (g.C.Command.request c.args.command.now) c.in-Ok.inputs a b taken
+    let taken = subst (λ (names : Names). HasTakenInputs names 8 c.in-Ok.inputs a b) c.requires.named c.in-Ok.ensures.ok in
+    in_limits (g.C.Command.request c.args.command.now) c.in-Ok.inputs a b taken
 
 pub returns-in-Ok : goal.returns-in-Ok
 returns-in-Ok g c =
     let request = g.C.Command.request c.args.command.now in
     let a = g.D.Desk.state c.args.desk.now in
     let b = g.D.Desk.state c.take_inputs.new.desk in
-    let taken = subst (λ (names : Names). HasTakenInputs names 5 c.in-Ok.inputs a b) c.requires.named c.in-Ok.ensures.ok in
+    let taken = subst (λ (names : Names). HasTakenInputs names 8 c.in-Ok.inputs a b) c.requires.named c.in-Ok.ensures.ok in
     record {
       ended = finished request c.in-Ok.inputs a b (g.D.Desk.state c.finish.new.desk) c.requires.unopened (g.met.C.Whole.whole c.args.command.now)
           (g.met.C.Whole.early c.args.command.now) taken c.finish.result c.finish.ensures.ended;

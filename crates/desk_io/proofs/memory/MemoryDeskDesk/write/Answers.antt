@@ -12,4 +12,4 @@ returns-clause-ok c =
     let space : length c.index_mut-part.result.now.written < c.index_mut-part.result.now.room = search rules in
     rw (← parts, ← files)
     (part_writes_at c.args.slot c.self.inside.parts.items c.index_mut-part.result.now c.write.new.self c.number.result _ c.args.piece.now c.write.result c.self.inside.portion
-    c.self.invariant.some c.requires.piece space c.write.ensures.count c.number.ensures.value c.self.invariant.nine c.index_mut-part.ensures.value c.write.ensures.appended c.write.ensures.same)
+    c.self.invariant.some c.requires.piece space c.write.ensures.count c.number.ensures.value c.self.invariant.all c.index_mut-part.ensures.value c.write.ensures.appended c.write.ensures.same)

@@ -1,8 +1,9 @@
 use Rattle.desk_io.specs.declared.slot.Slot.TheVariants.{Verilog}
+use Rattle.scan_job.proofs.Phases.{countable}
 use Rattle.scan_job.proofs.commands.trace.TraceRequestWhole.judge.Goals as goal
 
 pub path_text-requires : goal.path_text-requires
-path_text-requires c = record { size = rw c.text-verilog.ensures.value (c.requires.countable Verilog tt) }
+path_text-requires c = record { size = rw c.text-verilog.ensures.value (countable _ c.requires.limits Verilog tt) }
 
 pub returns-clause-no_fault : goal.returns-clause-no_fault
 returns-clause-no_fault c = λ fault is. c.in_ok-console.ensures.no_fault fault (rw (c.text-table.ensures.value, c.text-verilog.ensures.value, c.bytes.ensures.value) is.holds)

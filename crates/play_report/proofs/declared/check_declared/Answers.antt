@@ -1,10 +1,9 @@
 use Rattle.std.proofs.lemmas.Result.{err_from_is_err_and}
 use Rattle.base_types.specs.FirstFault.{IsFirstFault}
-use Rattle.stil_tester.specs.declared.chains.Chains.{Chains}
 use Rattle.head_checks.specs.Heads.{HoldsInHeads}
 use Rattle.play_report.specs.Stages.{HoldsInDeclared}
 use Rattle.play_report.proofs.Faults.{carried, first_heads, first_count, none_declared}
-use Rattle.play_report.proofs.declared.chains_beside.Goals as goal
+use Rattle.play_report.proofs.declared.check_declared.Goals as goal
 
 pub returns-in_err-check_heads-clause-fault : goal.returns-in_err-check_heads-clause-fault
 returns-in_err-check_heads-clause-fault c =
@@ -14,7 +13,7 @@ returns-in_err-check_heads-clause-fault c =
     let paths = c.args.paths.now in
     let head = c.args.head.now in
     rw (p.1, p.2)
-    (carried (Unit {0}) Chains c.in_err-check_heads.field-0.0 (IsFirstFault (HoldsInHeads n cells paths head)) (IsFirstFault (HoldsInDeclared n cells paths head))
+    (carried (Unit {0}) (Unit {0}) c.in_err-check_heads.field-0.0 (IsFirstFault (HoldsInHeads n cells paths head)) (IsFirstFault (HoldsInDeclared n cells paths head))
     (first_heads n cells paths head) c.in_err-check_heads.ensures.fault)
 
 pub returns-in-Err-clause-fault : goal.returns-in-Err-clause-fault

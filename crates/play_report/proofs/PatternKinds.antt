@@ -39,8 +39,11 @@ use Rattle.stil_calls.specs.declared.judging.Judging.TheVariants.{Lengths}
 use Rattle.stil_calls.specs.Faults.{kind_of, is_pattern_syntax, is_pattern_unsupported, is_scan_character, is_foreign_data, is_short_load, is_long_compare, is_too_many_shifts, fault_or, body_fault, inner_fault, fault_by, fault_in}
 use Rattle.stil_calls.specs.Parts.{opening_kind, passing_kind, passing_in, opened_in, judge_by, judge_of}
 use Rattle.stil_reader.specs.Sayings.{told_before, told_whole, beginning}
-use Rattle.scan_job.specs.Commands.Patterns.{IsPatternKind}
 use Rattle.play_report.specs.Faults.{HoldsBeforePatterns, OfTable, OfVerilog, OfHead, OfPaths, OfDeclarations, OfBits}
+
+-- the kinds of faults of patterns: PatternSyntax to PatternSize
+abbrev pub IsPatternKind : Kind → Type 0
+IsPatternKind kind = (80 ≤ number_of kind) × (number_of kind ≤ 88)
 
 -- the kind's number is below that of the first kind of patterns
 abbrev pub IsEarlyKind : Fault → Type 0

@@ -20,8 +20,8 @@ use Rattle.stil_reader.proofs.Heads.{end_within, shown_end}
 use Rattle.stil_written.specs.Unbounded.{IsSizeFault, says_free}
 use Rattle.stil_written.proofs.Sizes.{size_law}
 use Rattle.play_report.specs.Files.{IsHeadText}
-use Rattle.written_meaning.specs.Meaning.{patterns_in}
-use Rattle.written_meaning.proofs.HeadCuts.{ends_in_front}
+use Rattle.same_files.specs.Meaning.{patterns_in}
+use Rattle.same_files.proofs.HeadCuts.{ends_in_front}
 
 -- the head of a text whose own text this is
 pub record IsOwnHead (stil text : List ℕ) (head : StilHead) : Type 0 where
@@ -53,7 +53,7 @@ no_size : (o : Option PartFault) → o ≡ None → IsSizeFault o → ⊥
 no_size None e is = is
 no_size (Some f) e is = absurd cc
 
-free_behind : (head : StilHead) (p : Point) (bytes : List ℕ) → (told_behind head p bytes).fault ≡ None → told_behind head p bytes ≡ says_free Lengths head p bytes
+pub free_behind : (head : StilHead) (p : Point) (bytes : List ℕ) → (told_behind head p bytes).fault ≡ None → told_behind head p bytes ≡ says_free Lengths head p bytes
 free_behind head p bytes fine = elim (size_law (judge_by Lengths head) p 0 bytes) [
   | inl same ↦ ap (told head) same
   | inr big ↦ absurd (no_size (to_come (judge_by Lengths head) p 0 bytes).fault fine big)

@@ -1,0 +1,9 @@
+pub mod HeadCuts
+pub mod OwnHeads
+pub mod SameCounts
+pub mod Orders
+pub mod Entries
+pub mod Names
+pub mod Passed
+pub mod Sets
+pub mod OneSet

@@ -1,0 +1,9 @@
+pub mod VerilogFiles
+pub mod FaultFiles
+pub mod NewFaults
+pub mod Taken
+pub mod Runs
+pub mod Comparing
+pub mod Beside
+pub mod Ahead
+pub mod Worth
