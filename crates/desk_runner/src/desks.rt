@@ -109,7 +109,27 @@ pub(crate) fn try_rows(cases: &mut Cases, rows: &[Row]) -> Result<(), NoMemory> 
     Ok(())
 }
 
-/// All inputs taken and all outputs put, over both kinds of desk.
+/// All outputs put, over a desk whose slots are unopened.
+fn try_putting(cases: &mut Cases) -> Result<(), NoMemory> {
+    let alloc = cases.alloc;
+    let names = names(alloc)?;
+    let outputs = outputs(alloc)?;
+    let mut desk = desk(alloc, &four_bytes(alloc)?, SOUND)?;
+    let put = put_outputs(&names, &outputs, &mut desk);
+    let came = format!(in alloc;
+        "{put:?} {:?} {:?} {:?}",
+        shown(desk.written(Slot::OutVerilog)),
+        shown(desk.written(Slot::OutDef)),
+        shown(desk.written(Slot::Console))
+    )?;
+    cases.compare(
+        "outputs are put",
+        came.as_str(),
+        "Ok(()) \"module\" \"\" \"moved 0\"",
+    )
+}
+
+/// All inputs taken, and then all outputs put over a desk without faults.
 fn try_whole(cases: &mut Cases) -> Result<(), NoMemory> {
     let alloc = cases.alloc;
     let names = names(alloc)?;
@@ -131,18 +151,6 @@ fn try_whole(cases: &mut Cases) -> Result<(), NoMemory> {
     };
     // open, a read for each byte and one at the end, close
     cases.compare("inputs are taken", came.as_str(), "\"abcd\" \"\" 7")?;
-    let put = put_outputs(&names, &outputs, &mut desk);
-    let came = format!(in alloc;
-        "{put:?} {:?} {:?} {:?}",
-        shown(desk.written(Slot::OutVerilog)),
-        shown(desk.written(Slot::OutDef)),
-        shown(desk.written(Slot::Console))
-    )?;
-    cases.compare(
-        "outputs are put",
-        came.as_str(),
-        "Ok(()) \"module\" \"\" \"moved 0\"",
-    )?;
     let mut sure = SureDesk::new(files_of(alloc, &texts)?);
     let came = match take_inputs(alloc, &names, &mut sure) {
         Ok(inputs) => format!(in alloc;
@@ -159,5 +167,6 @@ pub(crate) fn desks(alloc: Global) -> Result<Cases, NoMemory> {
     let mut cases = Cases::new(alloc);
     try_rows(&mut cases, ROWS.as_slice())?;
     try_whole(&mut cases)?;
+    try_putting(&mut cases)?;
     Ok(cases)
 }
