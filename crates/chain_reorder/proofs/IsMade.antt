@@ -13,7 +13,6 @@ use Rattle.chain_rules.specs.declared.plan.Plan.{Plan}
 use Rattle.chain_rules.specs.Legality.{IsLegal}
 use Rattle.chain_rules.specs.Rules.{AreRulesOf}
 use Rattle.wire_cost.specs.declared.ends.Ends.{Ends}
-use Rattle.order_search.specs.declared.effort.Effort.{Effort}
 use Rattle.net_edit.specs.declared.changes.Change.{Change}
 use Rattle.net_edit.specs.declared.edits.Edits.{Edits}
 use Rattle.net_edit.specs.Changes.{changes}
@@ -37,8 +36,11 @@ use Rattle.verilog_writer.specs.Written.{DenotesAlike}
 use Rattle.verilog_writer.specs.Wired.{IsWiredText, DeclareBehind}
 use Rattle.def_edit.specs.declared.text.DefOut.{DefOut}
 use Rattle.def_writer.specs.DefTexts.{IsDefText, IsErasedDef, IsPlacedAfter}
-use Rattle.chain_reorder.specs.declared.reorder.Figures.{Figures}
-use Rattle.chain_reorder.specs.Reordered.{is_free_port, IsGoodPlan, IsVerilogOf, IsReadOff, AgreeAfter, AreFigures, IsReordered}
+use Rattle.chain_reorder.specs.declared.goal.Goal.{Goal}
+use Rattle.chain_reorder.specs.declared.figures.Figures.{Figures}
+use Rattle.chain_reorder.specs.Goals.{IsGoodFor, AreMeasures}
+use Rattle.chain_reorder.specs.Planned.{fixed_of, IsGoodIn, AreMeasuredIn}
+use Rattle.chain_reorder.specs.Reordered.{is_free_port, IsVerilogOf, IsReadOff, AgreeAfter, AreFigures, IsWrittenDesign, IsReordered}
 use Rattle.chain_reorder.specs.PatternPlans.{IsMadeFor}
 use Rattle.chain_reorder.proofs.Numbered.{numbers}
 use Rattle.chain_reorder.proofs.FreeChanges.{changes_free}
@@ -154,11 +156,11 @@ module _ (t : Texts) (f : DesignFiles) (checked : AreChecked t f) (plan : Plan) 
           standing = stands n written cells v kept new same.after same.same w.placed.standing;
         }
 
-    pub is_made : (effort : Effort) (figures : Figures) → ReadOffLaw → NamesLaw → PlacingLaw → AgreementLaw → IsGoodPlan effort f.rules f.ends plan → AreFigures d f.rules f.ends plan edits figures → figures.nets_cut ≡ out.nets_cut
-        → IsMadeFor f plan effort t verilog out.text figures
-    is_made effort figures read_off_law names_law placing_law agreement_law good figures_are cut patterns planned =
+    pub is_made : (goal : Goal) (figures : Figures) → ReadOffLaw → NamesLaw → PlacingLaw → AgreementLaw → IsGoodIn goal f plan → AreMeasuredIn goal f plan figures.measured → AreFigures d f.rules edits figures → figures.nets_cut ≡ out.nets_cut
+        → IsMadeFor f plan goal t verilog out.text figures
+    is_made goal figures read_off_law names_law placing_law agreement_law good measured figures_are cut patterns planned =
         let same = after names_law in
-        let is : IsReordered effort t verilog out.text figures = record {
+        let made : IsWrittenDesign t verilog out.text figures.nets_cut = record {
           cells = cells;
           macros = f.macros;
           netlist = n;
@@ -168,12 +170,11 @@ module _ (t : Texts) (f : DesignFiles) (checked : AreChecked t f) (plan : Plan) 
           rules = f.rules;
           checked = record { read = checked.known.read; head_is = checked.head.is; traced = checked.paths.traced; rules_are = checked.rules };
           plan = plan;
-          good = subst (λ (ends : Ends). IsGoodPlan effort f.rules ends plan) checked.ends good;
+          legal = legal;
           edits = edits;
           edits_are = w.edits_are;
           verilog_text = w.wired;
           def_text = subst (λ (k : ℕ). let other : DefOut = record { text = out.text; nets_cut = k } in IsDefText t.def n cells d old f.rules plan other) (sym cut) w.def_text;
-          figures_are = subst (λ (ends : Ends). AreFigures d f.rules ends plan edits figures) checked.ends figures_are;
           written = written;
           placed = w.placed.placed;
           after = same.after;
@@ -182,5 +183,11 @@ module _ (t : Texts) (f : DesignFiles) (checked : AreChecked t f) (plan : Plan) 
           def_erased = w.def_erased;
           read_off = read_off read_off_law same;
           agree = agree_after placing_law agreement_law same;
+        } in
+        let is : IsReordered goal t verilog out.text figures = record {
+          made = made;
+          good = subst (λ (ends : Ends). IsGoodFor goal f.rules ends (fixed_of f) plan) checked.ends good;
+          figures_are = figures_are;
+          measured = subst (λ (ends : Ends). AreMeasures goal n old f.rules ends (fixed_of f) plan figures.measured) checked.ends measured;
         } in
         record { reordered = is; planned = planned }

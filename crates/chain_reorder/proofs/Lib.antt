@@ -2,9 +2,12 @@ pub mod Agreed
 pub mod FreeChanges
 pub mod Heads
 pub mod IsMade
+pub mod LongestPaths
 pub mod Movable
 pub mod NewPaths
 pub mod Numbered
+pub mod OutputNames
+pub mod OutsideUnits
 pub mod SamePaths
 pub mod Searchable
 pub mod Standing

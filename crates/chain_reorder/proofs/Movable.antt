@@ -1,5 +1,5 @@
 -- What is planned for patterns, from what is known of their head and the paths.
-use Rattle.std.proofs.Common.{◌≡◌, ℕ, List, length, map, take, Option, Some, None, IsSome, refl, sym, ap, subst, ◌∙◌}
+use Rattle.std.proofs.Common.{◌≡◌, ℕ, List, length, map, take, Option, Some, None, IsSome, refl, sym, ap, subst}
 use Rattle.std.proofs.lemmas.List.{length-take-le}
 use Rattle.std.specs.Prelude.{IsSomeAnd}
 use Rattle.base_types.specs.declared.fault.Fault.{Fault}
@@ -12,7 +12,7 @@ use Rattle.chain_trace.specs.declared.path.Path.{Path}
 use Rattle.chain_trace.specs.declared.path.PathBits.{PathBits}
 use Rattle.chain_rules.specs.Plans.{PlanLists}
 use Rattle.stil_types.specs.declared.head.StilHead.{StilHead}
-use Rattle.stil_head.specs.Ends.{end_at, head_text}
+use Rattle.stil_head.specs.Ends.{head_text}
 use Rattle.traced_paths.specs.Asked.{asked_by}
 use Rattle.traced_paths.specs.Traced.{ArePathsOf}
 use Rattle.head_checks.specs.Heads.{HoldsInHeads}

@@ -1,3 +1,4 @@
+pub mod Goals
 pub mod Planned
 pub mod Reordered
 pub mod PatternPlans

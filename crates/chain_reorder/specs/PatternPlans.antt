@@ -13,14 +13,14 @@ use Rattle.stil_tester.specs.Shifting.{bit_counts}
 use Rattle.retarget.specs.Retargeting.{HaveSameCells}
 use Rattle.head_text.specs.Written.{written_head}
 use Rattle.head_fits.specs.Fits.{FitsPaths, AreNewFor, chains_for}
-use Rattle.order_search.specs.declared.effort.Effort.{Effort}
 use Rattle.plan_paths.specs.NewPaths.{new_paths}
 use Rattle.chain_rules.specs.declared.plan.Plan.{Plan}
 use Rattle.design_files.specs.declared.read.DesignFiles.{DesignFiles}
 use Rattle.design_files.specs.Files.{Texts}
+use Rattle.chain_reorder.specs.declared.goal.Goal.{Goal}
+use Rattle.chain_reorder.specs.declared.figures.Figures.{Figures}
 use Rattle.chain_reorder.specs.declared.patterns.PatternPlan.{PatternPlan}
-use Rattle.chain_reorder.specs.declared.reorder.Figures.{Figures}
-use Rattle.chain_reorder.specs.Reordered.{IsReordered}
+use Rattle.chain_reorder.specs.Reordered.{IsWrittenDesign, IsReordered}
 
 -- a head denotes what stands beside the read paths without a fault, and the new paths are these rearranged, each with a bit
 pub record AreMovable (n : Netlist) (cells : Cells) (d : Option Design) (paths new : List Path) (text : List ℕ) (head : StilHead) : Type 0 where
@@ -43,12 +43,17 @@ ArePatternsPlanned n cells paths new (Some text) (Some head) (Some plan) = IsPat
 ArePatternsPlanned n cells paths new None None None = Unit {0}
 ArePatternsPlanned n cells paths new text head plan = ⊥
 
+-- what is planned for patterns beside a written design: by the plan of its chains
+abbrev pub ArePlannedBeside : {t : Texts} {verilog def : List ℕ} {nets_cut : ℕ} → IsWrittenDesign t verilog def nets_cut → Option PatternPlan → Type 0
+ArePlannedBeside {t} made patterns =
+    ArePatternsPlanned made.netlist made.cells made.paths (new_paths made.paths made.rules made.plan) t.head made.head patterns
+
 -- what is written of the design, and what is planned for its patterns: all by one plan of the chains
-pub record IsReorderedWith (effort : Effort) (t : Texts) (verilog def : List ℕ) (figures : Figures) (patterns : Option PatternPlan) : Type 0 where
-  pub reordered : IsReordered effort t verilog def figures
-  pub planned : ArePatternsPlanned reordered.netlist reordered.cells reordered.paths (new_paths reordered.paths reordered.rules reordered.plan) t.head reordered.head patterns
+pub record IsReorderedWith (goal : Goal) (t : Texts) (verilog def : List ℕ) (figures : Figures) (patterns : Option PatternPlan) : Type 0 where
+  pub reordered : IsReordered goal t verilog def figures
+  pub planned : ArePlannedBeside reordered.made patterns
 
 -- what is written of a plan of checked files: beside what is planned for patterns by the same plan
-abbrev pub IsMadeFor : DesignFiles → Plan → Effort → Texts → List ℕ → List ℕ → Figures → Type 0
-IsMadeFor f plan effort t verilog def figures =
-    (patterns : Option PatternPlan) → ArePatternsPlanned f.netlist f.table f.paths.items (new_paths f.paths.items f.rules plan) t.head f.head patterns → IsReorderedWith effort t verilog def figures patterns
+abbrev pub IsMadeFor : DesignFiles → Plan → Goal → Texts → List ℕ → List ℕ → Figures → Type 0
+IsMadeFor f plan goal t verilog def figures =
+    (patterns : Option PatternPlan) → ArePatternsPlanned f.netlist f.table f.paths.items (new_paths f.paths.items f.rules plan) t.head f.head patterns → IsReorderedWith goal t verilog def figures patterns

@@ -1,6 +1,6 @@
--- What `reorder` writes: other orders of the units of a placed design's scan chains, in the Verilog and in the DEF, and what these texts
--- mean beside the read ones.
-use Rattle.std.specs.Prelude.{◌≡◌, ℕ, ◌+◌, ◌≤◌, Bool, ◌==◌, ◌&&◌, List, [], ◌∷◌, length, Option, Some}
+-- What is written where the units of a placed design's scan chains get other places: the Verilog and the DEF, and what these texts mean beside
+-- the read ones.
+use Rattle.std.specs.Prelude.{◌≡◌, ℕ, ◌+◌, Bool, ◌==◌, ◌&&◌, List, [], ◌∷◌, length, Option, Some}
 use Rattle.std.specs.List.{list_any}
 use Rattle.base_types.specs.declared.fault.Fault.{Fault}
 use Rattle.netlist_core.specs.declared.netlist.NetId.{NetId}
@@ -20,12 +20,6 @@ use Rattle.chain_rules.specs.declared.unit.Rules.{Rules}
 use Rattle.chain_rules.specs.Legality.{IsLegal}
 use Rattle.chain_rules.specs.Rules.{AreRulesOf}
 use Rattle.wire_cost.specs.declared.ends.Ends.{Ends}
-use Rattle.wire_cost.specs.Lengths.{plan_length_of}
-use Rattle.order_search.specs.declared.effort.Effort.{Effort}
-use Rattle.order_search.specs.declared.effort.Effort.TheVariants.{Order}
-use Rattle.order_search.specs.Steps.{IsSettled}
-use Rattle.order_search.specs.Nearest.{IsNearestPlan}
-use Rattle.plan_search.specs.Members.{HaveSameMembers}
 use Rattle.path_links.specs.Erasure.{erased_netlist}
 use Rattle.net_edit.specs.declared.edits.Edits.{Edits}
 use Rattle.net_edit.specs.Erased.{without_tails, tails_of, scan_sinks}
@@ -42,7 +36,9 @@ use Rattle.stil_types.specs.declared.head.StilHead.{StilHead}
 use Rattle.design_files.specs.Files.{Texts, AreRead, IsHeadIn}
 use Rattle.verilog_writer.specs.Wired.{IsWiredText, DeclareBehind}
 use Rattle.def_writer.specs.DefTexts.{IsDefText, IsErasedDef}
-use Rattle.chain_reorder.specs.declared.reorder.Figures.{Figures}
+use Rattle.chain_reorder.specs.declared.goal.Goal.{Goal}
+use Rattle.chain_reorder.specs.declared.figures.Figures.{Figures}
+use Rattle.chain_reorder.specs.Goals.{fixed_bits, IsGoodFor, AreMeasures}
 
 -- the read files: what they denote, with the head of the patterns where there are some, the paths that are asked for, and the rules and the
 -- places of the design's chains
@@ -51,15 +47,6 @@ pub record IsChecked (t : Texts) (cells : Cells) (macros : NamedMacros) (n : Net
   pub head_is : IsHeadIn t.head head
   pub traced : ArePathsOf n cells (asked_by (Some d) head) paths
   pub rules_are : AreRulesOf (path_specs n cells (Some d) paths) (chain_specs n cells d) rules
-
--- the plan obeys the rules, no step of the effort makes it shorter, and it is no longer than the plan as read and the nearest one; where only
--- orders are searched, each chain keeps its units
-pub record IsGoodPlan (effort : Effort) (rules : Rules) (ends : Ends) (plan : Plan) : Type 0 where
-  pub legal : IsLegal rules plan
-  pub settled : IsSettled effort rules ends plan
-  pub members : effort ≡ Order → HaveSameMembers rules.read plan
-  pub no_longer : plan_length_of ends plan ≤ plan_length_of ends rules.read
-  pub no_longer_than_nearest : (nearest : Plan) → IsNearestPlan rules ends nearest → plan_length_of ends plan ≤ plan_length_of ends nearest
 
 -- the output of one of the paths is free to get another source
 abbrev pub is_free_port : Netlist → Cells → Design → List Path → NetId → Bool
@@ -90,18 +77,15 @@ pub record AgreeAfter (written : Netlist) (cells : Cells) (placed : Design) (aft
   pub agree : Agree written placed
   pub standing : (fault : Fault) → HoldsInNets written cells placed after fault → ⊥
 
--- what is counted and measured of the plan, lengths in half database units
-pub record AreFigures (d : Design) (rules : Rules) (ends : Ends) (plan : Plan) (edits : Edits) (f : Figures) : Type 0 where
+-- what is counted of the chains and of the edits
+pub record AreFigures (d : Design) (rules : Rules) (edits : Edits) (f : Figures) : Type 0 where
   pub chains : f.chains ≡ length d.chains
   pub units : f.units ≡ length rules.units
-  pub length_read : f.length_read ≡ plan_length_of ends rules.read
-  pub length_nearest : (nearest : Plan) → IsNearestPlan rules ends nearest → f.length_nearest ≡ plan_length_of ends nearest
-  pub length_written : f.length_written ≡ plan_length_of ends plan
   pub pins_moved : f.pins_moved ≡ length edits.pins + (length edits.ports + length edits.tails)
 
--- what is written: for one good plan of the read files the Verilog with the edits between the paths before and after it, and the DEF with
--- the sinks moved and the chains in their new order; both texts agree
-pub record IsReordered (effort : Effort) (t : Texts) (verilog def : List ℕ) (figures : Figures) : Type 0 where
+-- what is written of a design: for one legal plan of the read files the Verilog with the edits between the paths before and after it, and the
+-- DEF with the sinks moved and the chains in their new order, where so many nets lose a wiring option; both texts agree
+pub record IsWrittenDesign (t : Texts) (verilog def : List ℕ) (nets_cut : ℕ) : Type 0 where
   pub cells : Cells
   pub macros : NamedMacros
   pub netlist : Netlist
@@ -111,13 +95,12 @@ pub record IsReordered (effort : Effort) (t : Texts) (verilog def : List ℕ) (f
   pub rules : Rules
   pub checked : IsChecked t cells macros netlist design head paths rules
   pub plan : Plan
-  pub good : IsGoodPlan effort rules (ends_of netlist cells macros design paths rules) plan
+  pub legal : IsLegal rules plan
   pub edits : Edits
   pub edits_are : AreEditsFor netlist cells paths (new_paths paths rules plan) edits
   -- the texts
   pub verilog_text : IsWiredText t.verilog netlist cells edits verilog
-  pub def_text : IsDefText t.def netlist cells design paths rules plan (record { text = def; nets_cut = figures.nets_cut })
-  pub figures_are : AreFigures design rules (ends_of netlist cells macros design paths rules) plan edits figures
+  pub def_text : IsDefText t.def netlist cells design paths rules plan (record { text = def; nets_cut = nets_cut })
   -- what they denote
   pub written : Netlist
   pub placed : Design
@@ -127,3 +110,18 @@ pub record IsReordered (effort : Effort) (t : Texts) (verilog def : List ℕ) (f
   pub def_erased : IsErasedDef t.def netlist cells design paths (new_paths paths rules plan) def
   pub read_off : IsReadOff netlist written cells paths after rules plan
   pub agree : AgreeAfter written cells placed after
+
+-- the places of the units and the chains of what is written
+abbrev pub ends_in : {t : Texts} {verilog def : List ℕ} {nets_cut : ℕ} → IsWrittenDesign t verilog def nets_cut → Ends
+ends_in made = ends_of made.netlist made.cells made.macros made.design made.paths made.rules
+
+-- the bits of each of its paths outside all units
+abbrev pub fixed_in : {t : Texts} {verilog def : List ℕ} {nets_cut : ℕ} → IsWrittenDesign t verilog def nets_cut → List ℕ
+fixed_in made = fixed_bits (path_specs made.netlist made.cells (Some made.design) made.paths) made.rules
+
+-- what is written, by a plan that is what is searched for
+pub record IsReordered (goal : Goal) (t : Texts) (verilog def : List ℕ) (figures : Figures) : Type 0 where
+  pub made : IsWrittenDesign t verilog def figures.nets_cut
+  pub good : IsGoodFor goal made.rules (ends_in made) (fixed_in made) made.plan
+  pub figures_are : AreFigures made.design made.rules made.edits figures
+  pub measured : AreMeasures goal made.netlist made.paths made.rules (ends_in made) (fixed_in made) made.plan figures.measured

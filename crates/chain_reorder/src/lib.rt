@@ -1,15 +1,24 @@
-//! Puts the units of a placed design's scan chains into another order, by which they are shorter, and writes the Verilog and the DEF anew.
+//! Puts the units of a placed design's scan chains to other places, by which the chains are shorter or the longest path is short, and writes
+//! the Verilog and the DEF anew.
 //!
 //! Floor: top, on netlist_core, cell_table, lef_pins, verilog_reader, def_reader, chain_trace, chain_rules, wire_cost,
-//! order_search, plan_search, path_links, net_edit, plan_paths, path_chains, path_laws, traced_paths, head_checks,
-//! stil_types, stil_head, design_elements, design_nets, design_places, design_moves, design_files, verilog_writer,
-//! def_edit, def_writer, lane_kernels, stil_tester, stil_calls, retarget, splice, head_alike, head_text, head_writer,
-//! base_types, stil_reader and head_fits.
-//! Contract: `reorder_texts` writes what `specs/Reordered.antt` says, or answers the first fault of the files. Begin with `reorder.rt`.
+//! order_search, plan_search, chain_balance, path_links, net_edit, plan_paths, path_chains, path_laws, traced_paths,
+//! head_checks, stil_types, stil_head, design_elements, design_nets, design_places, design_moves, design_files,
+//! verilog_writer, def_edit, def_writer, lane_kernels, stil_tester, stil_calls, retarget, splice, head_alike,
+//! head_text, head_writer, base_types, stil_reader and head_fits.
+//! Contract: `reorder_texts` writes what `specs/Reordered.antt` says, by a plan of `specs/Goals.antt`, or answers the first fault of the
+//! files. Begin with `reorder.rt`.
 #![tactic(auto)]
 
+mod balanced;
+mod figures;
+mod fixed;
+mod goal;
 mod patterns;
+mod plans;
 mod reorder;
 
+pub use figures::{Figures, Lengths, Longest, Measured};
+pub use goal::Goal;
 pub use patterns::PatternPlan;
-pub use reorder::{Figures, Reordered, reorder_texts};
+pub use reorder::{Reordered, reorder_texts};

@@ -50,7 +50,14 @@ pub(crate) fn form_of(call: &str) -> Option<&'static str> {
         "verify" => {
             "verify --table t.toml --verilog v.v --stil s.stil --new-verilog nv.v --new-stil ns.stil"
         }
+        "failmap" => {
+            "failmap --table t.toml --verilog v.v --stil s.stil --new-verilog nv.v --new-stil ns.stil --log l.log"
+        }
         "bound" => "bound --table t.toml --lef m.lef --verilog v.v --def d.def",
+        "bench" => "bench",
+        "balance" => {
+            "balance --table t.toml --lef m.lef --verilog v.v --def d.def --out-verilog w.v --out-def w.def"
+        }
         _ => return None,
     })
 }

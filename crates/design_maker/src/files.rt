@@ -1,5 +1,5 @@
 ghost use Rattle.std.specs.Prelude.{◌≡◌, ◌≤◌, IfOk};
-ghost use Rattle.design_maker.specs.Made.{made_files};
+ghost use Rattle.design_maker.specs.Made.{made_files, HasSmallTexts};
 
 use crate::cells::{LEF, TABLE};
 use crate::def::def_text;
@@ -31,6 +31,7 @@ pub fn make_design(alloc: Global, n: u32) -> Result<Files, NoMemory>
     requires fewest { 8 ≤ n }
     requires most { n ≤ 16384 }
     ensures files { IfOk result (λ files. files ≡ made_files n) }
+    ensures small { IfOk result HasSmallTexts }
 {
     Ok(Files {
         table: Text::copy(alloc, TABLE.as_bytes())?,

@@ -8,7 +8,7 @@ use desk_io::{MemoryDesk, Slot};
 use std::alloc::Global;
 
 /// The inputs and their files; the second set is the one that is written.
-pub(crate) const INPUTS: [(Slot, &str); 7] = [
+pub(crate) const INPUTS: [(Slot, &str); 8] = [
     (Slot::Table, "t.toml"),
     (Slot::Lef, "m.lef"),
     (Slot::Verilog, "v.v"),
@@ -16,6 +16,7 @@ pub(crate) const INPUTS: [(Slot, &str); 7] = [
     (Slot::Stil, "s.stil"),
     (Slot::NewVerilog, "w.v"),
     (Slot::NewStil, "w.stil"),
+    (Slot::Log, "l.log"),
 ];
 
 /// The outputs of the files, and what is to stand in them.

@@ -120,7 +120,7 @@ const FAULT: Row = Row {
     ..PATTERNS
 };
 
-const ROWS: [Row; 10] = [
+const ROWS: [Row; 11] = [
     Row {
         words: "rewire --verilog v.v --cell=SDF --in-pin SI --out-pin=Q --scan-in si --scan-out so --out-verilog w.v a c b",
         console: "moved 3\n",
@@ -168,6 +168,20 @@ const ROWS: [Row; 10] = [
             (Slot::Stil, 4),
             (Slot::NewVerilog, 4),
             (Slot::NewStil, 4),
+            (Slot::Console, 3),
+        ],
+        ..CHECK
+    },
+    Row {
+        words: "failmap --table t.toml --verilog v.v --stil s.stil --new-verilog n.v --new-stil n.stil --log l.log",
+        console: "1 2 1 1\n",
+        calls: &[
+            (Slot::Table, 4),
+            (Slot::Verilog, 4),
+            (Slot::Stil, 4),
+            (Slot::NewVerilog, 4),
+            (Slot::NewStil, 4),
+            (Slot::Log, 4),
             (Slot::Console, 3),
         ],
         ..CHECK

@@ -12,7 +12,7 @@ use std::fmt::Write;
 /// further words. Words of no form say nothing, and a run of them opens nothing.
 type Row = (&'static str, &'static str);
 
-const ROWS: [Row; 38] = [
+const ROWS: [Row; 42] = [
     (
         "rewire a --cell=C --verilog a=b b c --in-pin=I --out-pin O --scan-in=si --scan-out=so --out-verilog=w d",
         "Rewire a=b C I O si so w; a b c d",
@@ -29,6 +29,19 @@ const ROWS: [Row; 38] = [
     (
         "verify --new-stil n --new-verilog=w --stil s --verilog v --table t",
         "Verify t v s w n;",
+    ),
+    (
+        "failmap --log l --new-stil n --new-verilog=w --stil s --verilog v --table t",
+        "Failmap t v s w n l;",
+    ),
+    ("bench --units=200", "Bench 200;"),
+    (
+        "balance --out-def x --out-verilog=w --def d --lef m --table t --verilog v",
+        "Balance t m v d w x;",
+    ),
+    (
+        "balance --out-stil y --out-def x --out-verilog=w --def d --lef m --stil s --table t --verilog v",
+        "Balance t m v d w x s y;",
     ),
     (
         "help --cell=C --in-pin=I --out-pin=O --scan-in=si --scan-out=so --verilog=v --out-verilog=w a",

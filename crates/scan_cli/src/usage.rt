@@ -9,6 +9,12 @@ pub(crate) const USAGE: &str = "usage: wrenpewter COMMAND OPTIONS
       says how short the scan chains can be at best, by numbers that prove it; better ones with N rounds, from 0 to 1000
   verify --table FILE --verilog FILE --stil FILE --new-verilog FILE --new-stil FILE
       tells whether a netlist and its patterns mean the same as another netlist and other patterns
+  failmap --table FILE --verilog FILE --stil FILE --new-verilog FILE --new-stil FILE --log FILE
+      carries a log of fails of the new patterns back to the old ones: a line is Pattern, scan call and chain, from 1, and compare, from 0 at the output
+  balance --table FILE --lef FILE --verilog FILE --def FILE --out-verilog FILE --out-def FILE [--stil FILE --out-stil FILE]
+      moves units between the scan chains of a placed design, so that the longest path has few bits, and changes its scan patterns to match
+  bench --units N
+      reorders a made design of N units, from 8 to 16384, and says what reorder says
   play --table FILE --verilog FILE --stil FILE --device hold|mix
       tells whether scan patterns pass on a netlist as it stands
   trace --table FILE --verilog FILE --scan-out NAME

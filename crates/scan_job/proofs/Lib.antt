@@ -8,6 +8,9 @@ pub mod PatternsLaws
 pub mod PlayLaws
 pub mod BoundLaws
 pub mod VerifyLaws
+pub mod FailmapLaws
+pub mod BenchLaws
+pub mod Benched
 pub mod Asked
 pub mod Sizes
 pub mod Phases
@@ -18,6 +21,7 @@ pub mod Retargeted
 pub mod PutSteps
 pub mod Figures
 pub mod PlanTaken
+pub mod Planned
 pub mod PatternSteps
 pub mod PatternFrames
 pub mod PatternPhases

@@ -1,9 +1,7 @@
 -- What `reorder` does with the patterns from where the STIL slot is opened, from what each step does.
-use Rattle.std.proofs.Common.{◌≡◌, ◌≢◌, ◌<◌, ◌⊎◌, ℕ, List, [], ◌∷◌, ◌++◌, Option, Some, None, option_map, IfSome, Result, Ok, Err, refl, sym, ◌∙◌, ap, subst, append_assoc, append-nil, inl, inr}
+use Rattle.std.proofs.Common.{◌≡◌, ◌≢◌, ◌<◌, ◌⊎◌, ℕ, List, [], ◌∷◌, ◌++◌, Option, Some, None, option_map, IfSome, Result, Ok, Err, sym, ◌∙◌, ap, subst, append_assoc, append-nil, inl, inr}
 use Rattle.std.proofs.lemmas.Option.{same_Some}
 use Rattle.base_types.specs.declared.fault.Fault.{Fault}
-use Rattle.base_types.specs.FirstFault.{ComesBefore, IsFirstFault}
-use Rattle.base_types.proofs.FirstFaults.{itself}
 use Rattle.desk_io.specs.declared.slot.Slot.{Slot}
 use Rattle.desk_io.specs.declared.slot.Slot.TheVariants.{Stil, OutVerilog, OutDef, OutStil, Console}
 use Rattle.desk_io.specs.declared.outputs.Outputs.{Outputs}
@@ -12,137 +10,25 @@ use Rattle.desk_io.specs.Causes.{HasRisen}
 use Rattle.desk_io.specs.Names.{IsNamed}
 use Rattle.desk_io.specs.Outputs.{output_at, turn, HasPutOutputs, HasStoppedPutting}
 use Rattle.desk_io.specs.Prefixes.{IsAppended, IsAtEnd, HasPutFile, HoldsPrefix}
-use Rattle.stil_parts.specs.declared.part.PartFault.{PartFault}
-use Rattle.stil_reader.specs.Sayings.{Saying, Head, Told, after, told_whole}
-use Rattle.stil_reader.specs.Patterns.{statements_in}
-use Rattle.stil_stream.specs.Streams.{Streaming, fault_of}
-use Rattle.stil_input.specs.declared.input.StilStop.{StilStop}
+use Rattle.stil_reader.specs.Sayings.{Head, Told, after, told_whole}
 use Rattle.stil_input.specs.declared.input.StilStop.TheVariants as causes
 use Rattle.stil_input.specs.Inputs.{coming, HasDrawn, HasDrawnAndFailed}
-use Rattle.stil_written.specs.Written.{written_says}
-use Rattle.design_files.specs.Files.{Texts, with_head}
-use Rattle.design_files.specs.Faults.{HoldsInFiles}
-use Rattle.play_report.specs.Files.{IsHeadText}
-use Rattle.play_report.specs.Faults.{IsPatternFault}
-use Rattle.stil_types.specs.declared.head.StilHead.{StilHead}
-use Rattle.stil_head.specs.Heads.{DenotesHead}
-use Rattle.stil_head.proofs.Texts.{only_head}
-use Rattle.written_meaning.specs.Meaning.{form_of}
 use Rattle.written_meaning.specs.Laws.{MeaningLaw}
 use Rattle.retargeted_patterns.specs.declared.figures.PatternFigures.{PatternFigures}
-use Rattle.retargeted_patterns.specs.Figures.{figures_of}
-use Rattle.retargeted_patterns.specs.Progress.{Progress, after_all, FiguresLaw}
+use Rattle.retargeted_patterns.specs.Progress.{FiguresLaw}
 use Rattle.scan_job.specs.declared.commands.patterns.PatternsRequest.{PatternsRequest}
 use Rattle.scan_job.specs.declared.patterns.Ready.{Ready}
 use Rattle.scan_job.specs.declared.putting.PutStop.{PutStop}
 use Rattle.scan_job.specs.declared.putting.PutStop.TheVariants as stops
 use Rattle.scan_job.specs.declared.stop.Stop.{Stop}
 use Rattle.scan_job.specs.declared.stop.Stop.TheVariants.{NoForm, Refused, InputFailed, OutputFailed, NoMemory}
-use Rattle.scan_job.specs.Commands.Patterns.{HoldsInRetargeting, Before, OfPatterns, AreRetargeted, IsPatternKind, figures_in, last_names}
+use Rattle.scan_job.specs.Commands.Patterns.{AreRetargeted, last_names}
 use Rattle.scan_job.specs.TopCall.{Slots, SameEverywhere}
-use Rattle.scan_job.specs.Playing.{IsToldFault}
-use Rattle.scan_job.specs.Retargeting.{SameBut, IsRetargetingFault, IsPlannedFor, ComesBehind, IsPutOpen, HasFailedPutting, IsAllOf, IsFrontOf, HasPutOn}
-use Rattle.scan_job.specs.PatternPhases.{design_of, outputs_of, progress_of, IsPutClosed, HasReadPatterns, HasClosedBoth, HasPutStil, HasPutAndClosed, HasPutAndFailed, IsEnded, HasWrittenReady, AreOutputsFound, HasBegunStil, HasWrittenOut, HasFoundWriting, HasFailedAtPatterns, HasRunOutAtPatterns, HasFailedAtOutput, HasFinishedPatterns}
+use Rattle.scan_job.specs.Retargeting.{SameBut, IsPlannedFor, ComesBehind, IsPutOpen, IsAllOf, IsFrontOf}
+use Rattle.scan_job.specs.PatternPhases.{design_of, outputs_of, progress_of, IsPutClosed, HasReadPatterns, HasClosedBoth, HasPutStil, HasPutAndClosed, HasPutAndFailed, IsEnded, HasWrittenReady, AreOutputsFound, HasWrittenOut, HasFoundWriting, HasFailedAtPatterns, HasRunOutAtPatterns, HasFailedAtOutput, HasFinishedPatterns}
 use Rattle.scan_job.proofs.Phases.{all_held}
-use Rattle.scan_job.proofs.Played.{head_shows, one_text}
-use Rattle.play_report.proofs.PatternKinds.{pattern_late}
 use Rattle.scan_job.proofs.PlayPhases.{told_since}
-
--- the outputs of a plan, whose STIL text is the written form of all that is said
-abbrev planned_outputs : Ready → List ℕ → Outputs
-planned_outputs ready stil =
-    let told = told_whole ready.plan.head stil in
-    record (outputs_of ready.made (figures_in ready.plan told)) { stil = written_says (form_of ready.plan) told.says }
-
-module _ (law : MeaningLaw) (sums : FiguresLaw) (r : PatternsRequest) (t : Texts) (stil : List ℕ) (ready : Ready) (planned : IsPlannedFor r.design.effort t stil ready.made ready.plan) where
-  abbrev whole : Told
-  whole = told_whole ready.plan.head stil
-
-  pub are_planned : AreRetargeted r t stil (planned_outputs ready stil)
-  are_planned = record {
-    text = planned.text;
-    head_is = planned.head_is;
-    figures = ready.made.figures;
-    plan = ready.plan;
-    made = planned.reordered;
-    stil_text = refl;
-    meaning = law r.design.effort t ready.made.verilog ready.made.def ready.made.figures ready.plan planned.text stil planned.head_is planned.reordered planned.no_fault;
-    console = refl;
-  }
-
-  not_before : (text : List ℕ) (fault : Fault) → IsHeadText stil text → HoldsInFiles (with_head t text) fault → ⊥
-  not_before text fault is held = planned.no_fault fault (subst (λ (x : List ℕ). HoldsInFiles (with_head t x) fault) (one_text stil planned.text text planned.head_is is) held)
-
-  -- the patterns' fault is that of what is told beside the plan's head
-  met_at : (text : List ℕ) (fault : Fault) → IsHeadText stil text → (met : IsPatternFault stil text fault) → whole.fault ≡ Some met.found
-  met_at text fault is met =
-      let same = only_head planned.text ready.plan.head met.head planned.denotes (subst (λ (x : List ℕ). DenotesHead x met.head) (one_text stil planned.text text planned.head_is is) met.head_is) in
-      ap (λ (h : StilHead). (told_whole h stil).fault) (sym same) ∙ met.says
-
-  -- a fault of the files is one of the patterns
-  pub late_fault : (fault : Fault) → IsRetargetingFault t stil fault → IsPatternKind fault.kind
-  late_fault fault (inl none) = absurd (head_shows stil planned.text planned.head_is none.0)
-  late_fault fault (inr first) = by first.1.holds
-    where
-      by : HoldsInRetargeting t stil fault → IsPatternKind fault.kind
-      by (Before text is held) = absurd (not_before text fault is held)
-      by (OfPatterns text is met) = subst (λ (f : Fault). IsPatternKind f.kind) (sym met.is) (pattern_late met.head stil is.len met.found is.ends met.says)
-
-  pub found_planned : AreOutputsFound r t stil (planned_outputs ready stil)
-  found_planned = record { are = are_planned; no_fault = late_fault }
-
-  pub none_planned : whole.fault ≡ None → (fault : Fault) → IsRetargetingFault t stil fault → ⊥
-  none_planned sound fault (inl none) = head_shows stil planned.text planned.head_is none.0
-  none_planned sound fault (inr first) = by first.1.holds
-    where
-      by : HoldsInRetargeting t stil fault → ⊥
-      by (Before text is held) = not_before text fault is held
-      by (OfPatterns text is met) = let both : None ≡ Some met.found = sym sound ∙ met_at text fault is met in absurd cc
-
-  pub fault_planned : (fault : Fault) → IsToldFault whole fault → IsRetargetingFault t stil fault
-  fault_planned fault told = inr (
-    head_shows stil planned.text planned.head_is,
-    record {
-      holds = OfPatterns planned.text planned.head_is (record { head = ready.plan.head; head_is = planned.denotes; found = told.found; says = told.comes; is = told.is });
-      least = least;
-    },
-  )
-    where
-      least : (g : Fault) → HoldsInRetargeting t stil g → ComesBefore g fault → ⊥
-      least g (Before text is held) sooner = not_before text g is held
-      least g (OfPatterns text is met) sooner =
-          let one = same_Some _ _ (sym (met_at text g is met) ∙ told.comes) in
-          let same : g ≡ fault = met.is ∙ ap fault_of one ∙ sym told.is in
-          itself fault (subst (λ (x : Fault). ComesBefore x fault) same sooner)
-
-  -- what was put of the text behind the head
-
-  module _ (text : List ℕ) (told : Told) (comes : whole ≡ after (Head text ∷ []) told) where
-    pub sound_is : told.fault ≡ whole.fault
-    sound_is = sym (ap (λ (x : Told). x.fault) comes)
-
-    says_is : whole.says ≡ Head text ∷ told.says
-    says_is = ap (λ (x : Told). x.says) comes
-
-    written_is : written_says (form_of ready.plan) whole.says ≡ ready.plan.head_text ++ written_says (form_of ready.plan) told.says
-    written_is = ap (written_says (form_of ready.plan)) says_is
-
-    statements_are : statements_in whole.says ≡ statements_in told.says
-    statements_are = ap statements_in says_is
-
-    pub bytes_are : (bytes : List ℕ) → IsAllOf ready.plan.head_text (progress_of ready.plan) told bytes → bytes ≡ (planned_outputs ready stil).stil
-    bytes_are bytes all = all ∙ sym written_is
-
-    pub front_is : (bytes : List ℕ) → IsFrontOf ready.plan.head_text (progress_of ready.plan) told bytes → (more : List ℕ) × ((planned_outputs ready stil).stil ≡ bytes ++ more)
-    front_is bytes front = (front.0, written_is ∙ front.1)
-
-    pub figures_are : (figures : PatternFigures) → figures ≡ (after_all (statements_in told.says) (progress_of ready.plan)).figures → figures ≡ figures_in ready.plan whole
-    figures_are figures is =
-        is ∙ ap (λ (p : Progress). p.figures) (sums ready.plan.head ready.plan.map.0 ready.plan.map.1 (statements_in told.says))
-        ∙ ap (figures_of ready.plan.map.0 ready.plan.map.1) (sym statements_are)
-
-    pub fault_is : (fault : Fault) → IsToldFault told fault → IsToldFault whole fault
-    fault_is fault met = record { found = met.found; comes = sym sound_is ∙ met.comes; is = met.is }
+use Rattle.scan_job.proofs.Planned.{planned_outputs, are_planned, late_fault, found_planned, none_planned, fault_planned, sound_is, bytes_are, front_is, figures_are, fault_is}
 
 -- from what was told beside a slot to what its bytes say
 
@@ -197,17 +83,17 @@ last_stopped r outputs bytes a b s = record {
 
 module _ (law : MeaningLaw) (sums : FiguresLaw) (r : PatternsRequest) (texts : List (Option (List ℕ))) (ready : Ready) (b c d : Slots)
     (first : SameElsewhere Stil b c) (opens : c Stil ≡ opened (b Stil)) (second : SameElsewhere Stil c d) (drawn : HasDrawn (c Stil) (d Stil))
-    (is : IfSome (c Stil).unread (λ stil. IsPlannedFor r.design.effort (design_of texts) stil ready.made ready.plan × ComesBehind stil ready.plan ready.input (d Stil))) where
+    (is : IfSome (c Stil).unread (λ stil. IsPlannedFor r.design.goal (design_of texts) stil ready.made ready.plan × ComesBehind stil ready.plan ready.input (d Stil))) where
   abbrev coming_on : Option Told
   coming_on = coming ready.plan.head ready.input (d Stil)
 
   -- what is told of what comes and what was planned hold of the bytes of the slot
   said_of : (P : Told → Type 0) (Q : List ℕ → Type 0) → IfSome coming_on P
-      → ((stil : List ℕ) → IsPlannedFor r.design.effort (design_of texts) stil ready.made ready.plan → (text : List ℕ) (told : Told) → told_whole ready.plan.head stil ≡ after (Head text ∷ []) told → P told → Q stil)
+      → ((stil : List ℕ) → IsPlannedFor r.design.goal (design_of texts) stil ready.made ready.plan → (text : List ℕ) (told : Told) → told_whole ready.plan.head stil ≡ after (Head text ∷ []) told → P told → Q stil)
       → IfSome (b Stil).unread Q
   said_of P Q held step =
       told_since b c first opens Q
-      (held_if (λ stil. IsPlannedFor r.design.effort (design_of texts) stil ready.made ready.plan × ComesBehind stil ready.plan ready.input (d Stil)) Q (c Stil).unread
+      (held_if (λ stil. IsPlannedFor r.design.goal (design_of texts) stil ready.made ready.plan × ComesBehind stil ready.plan ready.input (d Stil)) Q (c Stil).unread
       (λ stil both. told_by P (λ whole. Q stil) coming_on (told_whole ready.plan.head stil) both.1.0 both.1.1 held (λ told comes p. step stil both.0 both.1.0 told comes p)) is)
 
   out_same : d OutStil ≡ b OutStil
@@ -228,10 +114,10 @@ module _ (law : MeaningLaw) (sums : FiguresLaw) (r : PatternsRequest) (texts : L
       → IfSome (b Stil).unread (λ stil. (outputs : Outputs) × AreOutputsFound r (design_of texts) stil outputs × HoldsPrefix outputs.stil (b OutStil) new)
   front_held bytes new held front =
       said_of (λ told. IsFrontOf ready.plan.head_text (progress_of ready.plan) told bytes) _ front (λ stil planned text told comes some.
-      let rest = front_is law sums r (design_of texts) stil ready planned text told comes bytes some in
-      (planned_outputs ready stil, found_planned law sums r (design_of texts) stil ready planned, longer stil rest.0 rest.1))
+      let rest = front_is law sums r (design_of texts) stil ready.made ready.plan planned text told comes bytes some in
+      (planned_outputs ready.made ready.plan stil, found_planned law sums r (design_of texts) stil ready.made ready.plan planned, longer stil rest.0 rest.1))
     where
-      longer : (stil : List ℕ) (more : List ℕ) → (planned_outputs ready stil).stil ≡ bytes ++ more → HoldsPrefix (planned_outputs ready stil).stil (b OutStil) new
+      longer : (stil : List ℕ) (more : List ℕ) → (planned_outputs ready.made ready.plan stil).stil ≡ bytes ++ more → HoldsPrefix (planned_outputs ready.made ready.plan stil).stil (b OutStil) new
       longer stil more is = record {
         front = held.front;
         rest = held.rest ++ more;
@@ -285,11 +171,11 @@ module _ (law : MeaningLaw) (sums : FiguresLaw) (r : PatternsRequest) (texts : L
         at_end = subst (λ (s : SlotState). IsAtEnd s) (sym put.closed_both.1) last;
         put = put_closed put.between e bytes out put.closed_both;
         is = said_of _ _ told (λ stil planned text whole comes p.
-            let same : record (outputs_of ready.made patterns) { stil = bytes } ≡ planned_outputs ready stil
-            = ap (λ (l : List ℕ). record (outputs_of ready.made patterns) { stil = l }) (bytes_are law sums r (design_of texts) stil ready planned text whole comes bytes p.1)
-            ∙ ap (λ (f : PatternFigures). record (outputs_of ready.made f) { stil = (planned_outputs ready stil).stil }) (figures_are law sums r (design_of texts) stil ready planned text whole comes patterns p.2) in (
-              subst (λ (outputs : Outputs). AreRetargeted r (design_of texts) stil outputs) (sym same) (are_planned law sums r (design_of texts) stil ready planned),
-              none_planned law sums r (design_of texts) stil ready planned (sym (sound_is law sums r (design_of texts) stil ready planned text whole comes) ∙ p.0),
+            let same : record (outputs_of ready.made patterns) { stil = bytes } ≡ planned_outputs ready.made ready.plan stil
+            = ap (λ (l : List ℕ). record (outputs_of ready.made patterns) { stil = l }) (bytes_are law sums r (design_of texts) stil ready.made ready.plan planned text whole comes bytes p.1)
+            ∙ ap (λ (f : PatternFigures). record (outputs_of ready.made f) { stil = (planned_outputs ready.made ready.plan stil).stil }) (figures_are law sums r (design_of texts) stil ready.made ready.plan planned text whole comes patterns p.2) in (
+              subst (λ (outputs : Outputs). AreRetargeted r (design_of texts) stil outputs) (sym same) (are_planned law sums r (design_of texts) stil ready.made ready.plan planned),
+              none_planned law sums r (design_of texts) stil ready.made ready.plan planned (sym (sound_is law sums r (design_of texts) stil ready.made ready.plan planned text whole comes) ∙ p.0),
             ));
         then_did = then_did bytes;
       }
@@ -305,13 +191,13 @@ module _ (law : MeaningLaw) (sums : FiguresLaw) (r : PatternsRequest) (texts : L
         read = read_closed put.between e put.put.elsewhere more put.closed_both;
         put = put_closed put.between e bytes out put.closed_both;
         is = said_of _ _ told (λ stil planned text whole comes p.
-            let met = fault_planned law sums r (design_of texts) stil ready planned fault (fault_is law sums r (design_of texts) stil ready planned text whole comes fault p.0) in (
+            let met = fault_planned law sums r (design_of texts) stil ready.made ready.plan planned fault (fault_is law sums r (design_of texts) stil ready.made ready.plan planned text whole comes fault p.0) in (
               met,
-              late_fault law sums r (design_of texts) stil ready planned fault met,
+              late_fault law sums r (design_of texts) stil ready.made ready.plan planned fault met,
               record {
-                outputs = planned_outputs ready stil;
-                are = are_planned law sums r (design_of texts) stil ready planned;
-                is = bytes_are law sums r (design_of texts) stil ready planned text whole comes bytes p.1;
+                outputs = planned_outputs ready.made ready.plan stil;
+                are = are_planned law sums r (design_of texts) stil ready.made ready.plan planned;
+                is = bytes_are law sums r (design_of texts) stil ready.made ready.plan planned text whole comes bytes p.1;
               },
             ));
         then_did = then_did;

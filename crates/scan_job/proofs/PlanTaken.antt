@@ -23,7 +23,7 @@ use Rattle.stil_stream.specs.Streams.{Streaming, fault_of, fresh}
 use Rattle.stil_input.specs.declared.input.StilStop.{StilStop}
 use Rattle.stil_input.specs.declared.input.StilStop.TheVariants.{Fault as OfText, Read, NoMemory}
 use Rattle.stil_input.specs.Inputs.{coming, HasDrawn, HasDrawnAndFailed, Says, GivesHead, stop_of}
-use Rattle.order_search.specs.declared.effort.Effort.{Effort}
+use Rattle.chain_reorder.specs.declared.goal.Goal.{Goal}
 use Rattle.design_files.specs.Files.{Texts, with_head, IsHeadIn}
 use Rattle.design_files.specs.Faults.{HoldsInFiles, IsFilesFault}
 use Rattle.design_files.proofs.Layers.{layered, least_number, rises}
@@ -59,7 +59,7 @@ files_early t fault held =
 
 -- a fault before the patterns is the first of the files, and of no kind of patterns
 module _ (t : Texts) (stil : List ℕ) (fault : Fault) where
-  first_by : (text : List ℕ) → IsHeadText stil text → IsFirstFault (HoldsInFiles (with_head t text)) fault → IsFirstFault (HoldsInRetargeting t stil) fault
+  pub first_by : (text : List ℕ) → IsHeadText stil text → IsFirstFault (HoldsInFiles (with_head t text)) fault → IsFirstFault (HoldsInRetargeting t stil) fault
   first_by text shown first = record { holds = Before text shown first.holds; least = least }
     where
       least : (g : Fault) → HoldsInRetargeting t stil g → ComesBefore g fault → ⊥
@@ -84,9 +84,18 @@ module _ (t : Texts) (stil : List ℕ) (fault : Fault) where
       let high = files_early (with_head t text) fault first.holds in
       absurd (omega (arith, low, high))
 
-module _ (effort : Effort) (t : Texts) (s u : Streaming) (a b : SlotState) (is_fresh : s ≡ fresh) where
+-- a plan for patterns keeps their head, whose calls fit the chains along the read paths
+pub planned_by : (text : List ℕ) (n : Netlist) (cells : Cells) (paths new : List Path) (o : Option StilHead) (plan : PatternPlan) → ArePatternsPlanned n cells paths new (Some text) o (Some plan) → IsHeadIn (Some text) o
+    → DenotesHead text plan.head × (bit_counts plan.map.0 ≡ bits_of plan.head.chains)
+planned_by text n cells paths new None plan p is = absurd p
+planned_by text n cells paths new (Some head) plan p is = (
+  subst (λ (h : StilHead). DenotesHead text h) (sym p.head_is) is,
+  ap (λ (m : _). bit_counts m.0) p.chains ∙ p.fits ∙ ap (λ (h : StilHead). bits_of h.chains) (sym p.head_is),
+)
+
+module _ (goal : Goal) (t : Texts) (s u : Streaming) (a b : SlotState) (is_fresh : s ≡ fresh) where
   -- the head was not handed out
-  pub plan_stopped : (stop : StilStop) → GivesHead s u a b (Err stop) → HasPlanned effort t a b (Err stop)
+  pub plan_stopped : (stop : StilStop) → GivesHead s u a b (Err stop) → HasPlanned goal t a b (Err stop)
   plan_stopped (OfText fault) gives = (
     (gives.2 any_head).drawn,
     told_if (λ stil. IsFaultBefore t stil fault) a.unread (λ stil told.
@@ -109,23 +118,15 @@ module _ (effort : Effort) (t : Texts) (s u : Streaming) (a b : SlotState) (is_f
     shown : (stil : List ℕ) → a.unread ≡ Some stil → IsHeadText stil text
     shown stil told = shown_by any_head stil (coming any_head u b) (whole_of any_head stil told)
 
-    pub plan_refused : (read : ReadFault) → IfFault {X = Reordered} (Err read) (IsFilesFault (with_head t text)) → HasPlanned effort t a b (Err (stop_of read))
+    pub plan_refused : (read : ReadFault) → IfFault {X = Reordered} (Err read) (IsFilesFault (with_head t text)) → HasPlanned goal t a b (Err (stop_of read))
     plan_refused (faults.Fault fault) first = ((says any_head).drawn, told_if (λ stil. IsFaultBefore t stil fault) a.unread (λ stil told. inr (text, shown stil told, first)))
     plan_refused faults.NoMemory first = (says any_head).drawn
 
-    planned_by : (n : Netlist) (cells : Cells) (paths new : List Path) (o : Option StilHead) (plan : PatternPlan) → ArePatternsPlanned n cells paths new (Some text) o (Some plan) → IsHeadIn (Some text) o
-        → DenotesHead text plan.head × (bit_counts plan.map.0 ≡ bits_of plan.head.chains)
-    planned_by n cells paths new None plan p is = absurd p
-    planned_by n cells paths new (Some head) plan p is = (
-      subst (λ (h : StilHead). DenotesHead text h) (sym p.head_is) is,
-      ap (λ (m : _). bit_counts m.0) p.chains ∙ p.fits ∙ ap (λ (h : StilHead). bits_of h.chains) (sym p.head_is),
-    )
-
-    pub plan_ready : (made : Made) (plan : PatternPlan) (warnings : PatternWarnings) → IsReorderedWith effort (with_head t text) made.verilog made.def made.figures (Some plan) → ((fault : Fault) → HoldsInFiles (with_head t text) fault → ⊥)
-        → HasPlanned effort t a b (Ok (record { made = made; plan = plan; warnings = warnings; input = u }))
+    pub plan_ready : (made : Made) (plan : PatternPlan) (warnings : PatternWarnings) → IsReorderedWith goal (with_head t text) made.verilog made.def made.figures (Some plan) → ((fault : Fault) → HoldsInFiles (with_head t text) fault → ⊥)
+        → HasPlanned goal t a b (Ok (record { made = made; plan = plan; warnings = warnings; input = u }))
     plan_ready made plan warnings reordered no_fault =
-        let r = reordered.reordered in
-        let p = planned_by r.netlist r.cells r.paths _ r.head plan reordered.planned r.checked.head_is in (
+        let r = reordered.reordered.made in
+        let p = planned_by text r.netlist r.cells r.paths _ r.head plan reordered.planned r.checked.head_is in (
           (says any_head).drawn,
           (says any_head).draws,
           (says any_head).behind,

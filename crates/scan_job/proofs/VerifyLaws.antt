@@ -52,7 +52,7 @@ made_verify values given (w ∷ ws) h count = let none = zero_is (length (w ∷ 
 
 -- it looks at its inputs alone
 
-sets_same : (one other : Files) → one Table ≡ other Table → one Verilog ≡ other Verilog → one Stil ≡ other Stil → one NewVerilog ≡ other NewVerilog → one NewStil ≡ other NewStil → sets_in one ≡ sets_in other
+pub sets_same : (one other : Files) → one Table ≡ other Table → one Verilog ≡ other Verilog → one Stil ≡ other Stil → one NewVerilog ≡ other NewVerilog → one NewStil ≡ other NewStil → sets_in one ≡ sets_in other
 sets_same one other table verilog stil new_verilog new_stil =
     ap (λ (text : Text). record (sets_in one) { table = text }) table
     ∙ ap (λ (text : Text). record (sets_in one) { table = other Table; verilog = text }) verilog

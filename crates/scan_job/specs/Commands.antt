@@ -14,6 +14,8 @@ pub mod Patterns
 pub mod Play
 pub mod Bound
 pub mod Verify
+pub mod Failmap
+pub mod Bench
 
 -- the texts of the inputs, by their slots
 abbrev pub Files : Type 0

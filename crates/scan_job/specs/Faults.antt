@@ -3,6 +3,7 @@ use Rattle.std.specs.Prelude.{◌≡◌, ◌⊎◌, ℕ, Bool, true, false, List
 use Rattle.std.specs.Fmt.{decimal}
 use Rattle.base_types.specs.declared.fault.Fault.{Fault}
 use Rattle.base_types.specs.declared.fault.FileKind.{FileKind}
+use Rattle.base_types.specs.declared.fault.FileKind.TheVariants as kinds
 use Rattle.base_types.specs.declared.fault.Spot.{Spot}
 use Rattle.base_types.specs.declared.fault.Spot.TheVariants as spots
 use Rattle.base_types.specs.declared.kind.Kind.{Kind}
@@ -79,14 +80,26 @@ IsFoundWriting request kind = (command_of request).found_writing kind
 abbrev pub HasNoFaultBefore : Request → Files → Type 0
 HasNoFaultBefore request files = (fault : Fault) → IsRunFault request files fault → IsFoundWriting request fault.kind
 
--- the word of a file: the name of its slot, and `words` for what is found in no named file
-abbrev pub word_at : Names → Option Slot → List ℕ
-word_at names None = codes "words"
-word_at names (Some slot) = unwrap_or (name_at names slot) (codes "words")
+-- the word of a file that the words don't name, and of the words themselves
+abbrev pub own_word : FileKind → List ℕ
+own_word kinds.Table = codes "table"
+own_word kinds.Lef = codes "lef"
+own_word kinds.Verilog = codes "verilog"
+own_word kinds.Def = codes "def"
+own_word kinds.Stil = codes "stil"
+own_word kinds.NewVerilog = codes "new-verilog"
+own_word kinds.NewStil = codes "new-stil"
+own_word kinds.Log = codes "log"
+own_word kinds.Words = codes "words"
+
+-- the word of a file: the name of its slot, if it has one
+abbrev pub word_at : FileKind → Names → Option Slot → List ℕ
+word_at file names None = own_word file
+word_at file names (Some slot) = unwrap_or (name_at names slot) (own_word file)
 
 -- the word by which a fault names its file
 abbrev pub file_word : Names → FileKind → List ℕ
-file_word names file = word_at names (slot_of file)
+file_word names file = word_at file names (slot_of file)
 
 -- the place in the file: a line, a cell's name, or a hyphen
 abbrev pub spot_text : Spot → List ℕ

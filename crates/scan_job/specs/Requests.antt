@@ -1,5 +1,5 @@
 -- What the words of a command ask for, and the files that it names.
-use Rattle.std.specs.Prelude.{◌≡◌, ℕ, List}
+use Rattle.std.specs.Prelude.{◌≡◌, ◌⊎◌, ℕ, List}
 use Rattle.desk_io.specs.Names.{Names}
 use Rattle.scan_words.specs.declared.order.Order.{Order}
 use Rattle.scan_words.specs.Written.{Says}
@@ -11,6 +11,8 @@ use Rattle.scan_job.specs.declared.commands.patterns.PatternsRequest.{PatternsRe
 use Rattle.scan_job.specs.declared.commands.play.PlayRequest.{PlayRequest}
 use Rattle.scan_job.specs.declared.commands.bound.BoundRequest.{BoundRequest}
 use Rattle.scan_job.specs.declared.commands.verify.VerifyRequest.{VerifyRequest}
+use Rattle.scan_job.specs.declared.commands.failmap.FailmapRequest.{FailmapRequest}
+use Rattle.scan_job.specs.declared.commands.bench.BenchRequest.{BenchRequest}
 use Rattle.scan_job.specs.Commands.{Command}
 use Rattle.scan_job.specs.Commands.Rewire.{rewire}
 use Rattle.scan_job.specs.Commands.Trace.{trace}
@@ -20,6 +22,8 @@ use Rattle.scan_job.specs.Commands.Patterns.{reorder_patterns}
 use Rattle.scan_job.specs.Commands.Play.{play}
 use Rattle.scan_job.specs.Commands.Bound.{bound}
 use Rattle.scan_job.specs.Commands.Verify.{verify}
+use Rattle.scan_job.specs.Commands.Failmap.{failmap}
+use Rattle.scan_job.specs.Commands.Bench.{bench}
 
 -- what the words ask for: a command, with its values by the names of its options
 pub data Request : Type 0 where
@@ -31,6 +35,8 @@ pub data Request : Type 0 where
   Play : PlayRequest → Request
   Bound : BoundRequest → Request
   Verify : VerifyRequest → Request
+  Failmap : FailmapRequest → Request
+  Bench : BenchRequest → Request
 
 -- what is asked for, as a command
 abbrev pub command_of : Request → Command
@@ -42,10 +48,16 @@ command_of (ReorderPatterns r) = reorder_patterns r
 command_of (Play r) = play r
 command_of (Bound r) = bound r
 command_of (Verify r) = verify r
+command_of (Failmap r) = failmap r
+command_of (Bench r) = bench r
 
 -- the order whose values a request gives names
 abbrev pub order_of : Request → Order
 order_of request = (command_of request).order
+
+-- an order that asks for a design alone, or for one with its patterns
+abbrev pub IsDesignOrder : Order → Type 0
+IsDesignOrder order = ((r : ReorderRequest) × (order_of (Reorder r) ≡ order)) ⊎ ((r : PatternsRequest) × (order_of (ReorderPatterns r) ≡ order))
 
 -- the words say this request
 abbrev pub Asks : List (List ℕ) → Request → Type 0

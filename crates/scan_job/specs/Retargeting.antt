@@ -22,7 +22,7 @@ use Rattle.chain_reorder.specs.declared.patterns.PatternPlan.{PatternPlan}
 use Rattle.chain_reorder.specs.PatternPlans.{IsReorderedWith}
 use Rattle.design_files.specs.Faults.{HoldsInFiles}
 use Rattle.play_report.specs.Files.{IsHeadText}
-use Rattle.order_search.specs.declared.effort.Effort.{Effort}
+use Rattle.chain_reorder.specs.declared.goal.Goal.{Goal}
 use Rattle.retarget.specs.Moved.{moved_call}
 use Rattle.stil_writer.specs.Loops.{written_with}
 use Rattle.retargeted_patterns.specs.declared.figures.PatternFigures.{PatternFigures}
@@ -49,12 +49,12 @@ abbrev pub IsFaultBefore : Texts → List ℕ → Fault → Type 0
 IsFaultBefore t stil fault = ((head_len stil ≡ None) × (fault ≡ size_fault Stil)) ⊎ ((text : List ℕ) × IsHeadText stil text × IsFirstFault (HoldsInFiles (with_head t text)) fault)
 
 -- the files have no fault before their patterns, and this is planned for them
-pub record IsPlannedFor (effort : Effort) (t : Texts) (stil : List ℕ) (made : Made) (plan : PatternPlan) : Type 0 where
+pub record IsPlannedFor (goal : Goal) (t : Texts) (stil : List ℕ) (made : Made) (plan : PatternPlan) : Type 0 where
   pub text : List ℕ
   pub head_is : IsHeadText stil text
   pub denotes : DenotesHead text plan.head
   pub no_fault : (fault : Fault) → HoldsInFiles (with_head t text) fault → ⊥
-  pub reordered : IsReorderedWith effort (with_head t text) made.verilog made.def made.figures (Some plan)
+  pub reordered : IsReorderedWith goal (with_head t text) made.verilog made.def made.figures (Some plan)
 
 -- what the whole text says beside a head is that head, and then what is still to come
 abbrev pub ComesBehind : List ℕ → PatternPlan → Streaming → SlotState → Type 0
@@ -110,9 +110,9 @@ HasPutOn front p s old new out out' (Err stops.Output) =
     (bytes : List ℕ) × HasFailedPutting bytes out out' × HasDrawn old new × IfSome (coming p.head s old) (λ told. IsFrontOf front p told bytes)
 
 -- what planning answers, and what it leaves at the STIL slot, where that tells its bytes
-abbrev pub HasPlanned : Effort → Texts → SlotState → SlotState → Result Ready StilStop → Type 0
-HasPlanned effort t old new (Ok ready) = HasDrawn old new × Draws ready.input new × (ready.input.in_head ≡ false) × (bit_counts ready.plan.map.0 ≡ bits_of ready.plan.head.chains)
-    × IfSome old.unread (λ stil. IsPlannedFor effort t stil ready.made ready.plan × ComesBehind stil ready.plan ready.input new)
-HasPlanned effort t old new (Err (OfText fault)) = HasDrawn old new × IfSome old.unread (λ stil. IsFaultBefore t stil fault)
-HasPlanned effort t old new (Err Read) = HasDrawnAndFailed old new
-HasPlanned effort t old new (Err NoMemory) = HasDrawn old new
+abbrev pub HasPlanned : Goal → Texts → SlotState → SlotState → Result Ready StilStop → Type 0
+HasPlanned goal t old new (Ok ready) = HasDrawn old new × Draws ready.input new × (ready.input.in_head ≡ false) × (bit_counts ready.plan.map.0 ≡ bits_of ready.plan.head.chains)
+    × IfSome old.unread (λ stil. IsPlannedFor goal t stil ready.made ready.plan × ComesBehind stil ready.plan ready.input new)
+HasPlanned goal t old new (Err (OfText fault)) = HasDrawn old new × IfSome old.unread (λ stil. IsFaultBefore t stil fault)
+HasPlanned goal t old new (Err Read) = HasDrawnAndFailed old new
+HasPlanned goal t old new (Err NoMemory) = HasDrawn old new

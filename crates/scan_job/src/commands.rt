@@ -13,8 +13,10 @@ use desk_io::{Inputs, Names, Outputs};
 use scan_words::Order;
 use std::alloc::Global;
 
+pub(crate) mod bench;
 pub(crate) mod bound;
 pub(crate) mod check;
+pub(crate) mod failmap;
 pub(crate) mod patterns;
 pub(crate) mod play;
 pub(crate) mod reorder;

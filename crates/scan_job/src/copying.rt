@@ -1,4 +1,4 @@
-ghost use Rattle.std.specs.Prelude.{◌≡◌, IfOk};
+ghost use Rattle.std.specs.Prelude.{◌≡◌, ◌<◌, ◌^◌, ℕ, decimal, IfOk};
 
 use base_types::{Name, NoMemory, Rows, Word};
 use std::alloc::Global;
@@ -15,6 +15,17 @@ pub(crate) fn word_of(alloc: Global, word: &Word) -> Result<Word, NoMemory>
     ensures value { IfOk result (λ copy. copy ≡ word.now) }
 {
     Word::copy(alloc, word.as_str())
+}
+
+/// The number of which a word is the decimal.
+pub(crate) fn number_of(word: &Word) -> u32
+    requires said { (number : ℕ) × (number < 2 ^ 32) × (word.now ≡ decimal number) }
+    ensures value { word.now ≡ decimal result }
+{
+    match word.as_str().parse::<u32>() {
+        Ok(number) => number,
+        Err(_) => unreachable!(),
+    }
 }
 
 /// The words as names.

@@ -1,20 +1,37 @@
 ghost use Rattle.std.specs.Prelude.{◌≡◌, ◌++◌, IfOk, OnOk};
-ghost use Rattle.scan_job.specs.Faults.{file_word, spot_text, fault_text};
+ghost use Rattle.scan_job.specs.Faults.{own_word, file_word, spot_text, fault_text};
 
 use base_types::{Fault, FileKind, NoMemory, Spot, Text};
 use desk_io::{Names, name_of, slot_of};
 use std::alloc::Global;
 
-/// The word by which a fault names its file: the name of the file's slot, and `words` where it has none.
+/// The word of a file that the words don't name, as those that are made in memory; and of the words themselves.
+fn own_word<'a>(file: FileKind) -> &'a str
+    ensures value { result.now ≡ own_word file }
+{
+    match file {
+        FileKind::Table => "table",
+        FileKind::Lef => "lef",
+        FileKind::Verilog => "verilog",
+        FileKind::Def => "def",
+        FileKind::Stil => "stil",
+        FileKind::NewVerilog => "new-verilog",
+        FileKind::NewStil => "new-stil",
+        FileKind::Log => "log",
+        FileKind::Words => "words",
+    }
+}
+
+/// The word by which a fault names its file: the name of the file's slot, if it has one.
 fn file_word(names: &Names, file: FileKind) -> &str
     ensures value { result.now ≡ file_word names.now file }
 {
     match slot_of(file) {
         Some(slot) => match name_of(names, slot) {
             Some(name) => name,
-            None => "words",
+            None => own_word(file),
         },
-        None => "words",
+        None => own_word(file),
     }
 }
 

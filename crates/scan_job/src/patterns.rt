@@ -60,7 +60,7 @@ fn plan_taken<D: Desk>(
     requires lef { length (input_at inputs.now Lef) < 2 ^ 32 }
     requires verilog { length (input_at inputs.now Verilog) < 2 ^ 32 }
     requires def { length (input_at inputs.now Def) < 2 ^ 32 }
-    ensures planned { HasPlanned request.now.design.effort (design_of inputs.now) (D.state desk.old Stil) (D.state desk.new Stil) result }
+    ensures planned { HasPlanned request.now.design.goal (design_of inputs.now) (D.state desk.old Stil) (D.state desk.new Stil) result }
     ensures elsewhere { SameElsewhere Stil (D.state desk.old) (D.state desk.new) }
     ensures names { SameNames (D.allows desk.old) (D.allows desk.new) }
 {
@@ -78,7 +78,7 @@ fn plan_taken<D: Desk>(
         inputs.text(Slot::Verilog),
         inputs.text(Slot::Def),
         Some(head.bytes()),
-        request.design.effort,
+        request.design.goal,
     )?;
     let Some(plan) = patterns else { unreachable!() };
     let made = Made {
@@ -277,7 +277,7 @@ fn patterns_named<D: Desk>(
     }
 }
 
-/// Does what an order of `reorder` with patterns asks for.
+/// Does what an order of `reorder` or of `balance` with patterns asks for.
 pub(crate) fn run_patterns<D: Desk>(alloc: Global, order: &Order, desk: &mut D) -> Result<(), Stop>
     requires made { (made : PatternsRequest) × (order_of (requests.ReorderPatterns made) ≡ order.now) }
     requires unopened { AllUnopened (D.state desk.old) }

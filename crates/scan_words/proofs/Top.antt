@@ -10,7 +10,7 @@ use Rattle.clap.specs.Walk.{Names, Row, Rule, Walk, idle, has_row, nothing_held,
 use Rattle.std.proofs.lemmas.List.{append-nil}
 use Rattle.scan_words.specs.declared.form.WordKind.TheVariants as kinds
 use Rattle.scan_words.specs.declared.verb.Verb.{Verb}
-use Rattle.scan_words.specs.declared.verb.Verb.TheVariants.{Rewire, Trace, Check, Reorder, Play, Bound, Verify}
+use Rattle.scan_words.specs.declared.verb.Verb.TheVariants.{Rewire, Trace, Check, Reorder, Play, Bound, Verify, Failmap, Bench, Balance}
 use Rattle.scan_words.specs.Command.{program}
 use Rattle.scan_words.specs.Form.{Text, Part, is_name, is_value, word_kind, long_kind, kind_turn, turn, have_parts, with_part, word_parts, parts_from}
 use Rattle.scan_words.specs.Verbs.{verb_name, option_names, takes_further}
@@ -109,6 +109,18 @@ abbrev seventh_shape : List Shape → Shape
 seventh_shape [] = new_shape []
 seventh_shape (s ∷ ss) = sixth_shape ss
 
+abbrev eighth_shape : List Shape → Shape
+eighth_shape [] = new_shape []
+eighth_shape (s ∷ ss) = seventh_shape ss
+
+abbrev ninth_shape : List Shape → Shape
+ninth_shape [] = new_shape []
+ninth_shape (s ∷ ss) = eighth_shape ss
+
+abbrev tenth_shape : List Shape → Shape
+tenth_shape [] = new_shape []
+tenth_shape (s ∷ ss) = ninth_shape ss
+
 abbrev shape : Verb → Shape
 shape Rewire = first_shape (built program).subs
 shape Trace = second_shape (built program).subs
@@ -117,6 +129,9 @@ shape Reorder = fourth_shape (built program).subs
 shape Play = fifth_shape (built program).subs
 shape Bound = sixth_shape (built program).subs
 shape Verify = seventh_shape (built program).subs
+shape Failmap = eighth_shape (built program).subs
+shape Bench = ninth_shape (built program).subs
+shape Balance = tenth_shape (built program).subs
 
 finds_for : (verb : Verb) → Finds (option_names verb) (takes_further verb) (shape verb).rules
 finds_for Rewire = finds (option_names Rewire) true refl
@@ -126,6 +141,9 @@ finds_for Reorder = finds (option_names Reorder) false refl
 finds_for Play = finds (option_names Play) false refl
 finds_for Bound = finds (option_names Bound) false refl
 finds_for Verify = finds (option_names Verify) false refl
+finds_for Failmap = finds (option_names Failmap) false refl
+finds_for Bench = finds (option_names Bench) false refl
+finds_for Balance = finds (option_names Balance) false refl
 
 goes : (verb : Verb) (words : List Text) (parts : List Part) → parts_from (option_names verb) (takes_further verb) None words ≡ Some parts → Goes (shape verb) (walk_at nothing_held idle) words (add_parts [] parts)
 goes verb words parts read = follows (shape verb) (option_names verb) (takes_further verb) (finds_for verb) words None nothing_held idle [] parts (record { passes = refl; rows = refl; idle = tt }) read
@@ -156,6 +174,9 @@ at_word Reorder = refl
 at_word Play = refl
 at_word Bound = refl
 at_word Verify = refl
+at_word Failmap = refl
+at_word Bench = refl
+at_word Balance = refl
 
 ends_at : (verb : Verb) (words : List Text) → walk (built program).top.rules program_names nothing_held (verb_name verb ∷ words) ≡ stopped_at (verb_name verb) words
 ends_at verb words = ap (λ (w : Walk). fold (walked (built program).top.rules program_names) w words) (at_word verb) ∙ goes_down (built program).top.rules program_names (verb_name verb) [] words
@@ -169,6 +190,9 @@ top_passes Reorder words = rw (at_word Reorder) (passes_down (built program).top
 top_passes Play words = rw (at_word Play) (passes_down (built program).top program_names (verb_name Play) [] words)
 top_passes Bound words = rw (at_word Bound) (passes_down (built program).top program_names (verb_name Bound) [] words)
 top_passes Verify words = rw (at_word Verify) (passes_down (built program).top program_names (verb_name Verify) [] words)
+top_passes Failmap words = rw (at_word Failmap) (passes_down (built program).top program_names (verb_name Failmap) [] words)
+top_passes Bench words = rw (at_word Bench) (passes_down (built program).top program_names (verb_name Bench) [] words)
+top_passes Balance words = rw (at_word Balance) (passes_down (built program).top program_names (verb_name Balance) [] words)
 
 pub simple : is_simple program ≡ true
 simple = refl
@@ -182,6 +206,9 @@ passes_sub Reorder words parts read = let g = goes Reorder words parts read in r
 passes_sub Play words parts read = let g = goes Play words parts read in rw (g.turns, g.settles) refl
 passes_sub Bound words parts read = let g = goes Bound words parts read in rw (g.turns, g.settles) refl
 passes_sub Verify words parts read = let g = goes Verify words parts read in rw (g.turns, g.settles) refl
+passes_sub Failmap words parts read = let g = goes Failmap words parts read in rw (g.turns, g.settles) refl
+passes_sub Bench words parts read = let g = goes Bench words parts read in rw (g.turns, g.settles) refl
+passes_sub Balance words parts read = let g = goes Balance words parts read in rw (g.turns, g.settles) refl
 
 pub taken : (verb : Verb) (words : List Text) (parts : List Part) → parts_from (option_names verb) (takes_further verb) None words ≡ Some parts → takes program (verb_name verb ∷ words) ≡ true
 taken Rewire words parts read = rw (ends_at Rewire words, top_passes Rewire words, passes_sub Rewire words parts read) refl
@@ -191,6 +218,9 @@ taken Reorder words parts read = rw (ends_at Reorder words, top_passes Reorder w
 taken Play words parts read = rw (ends_at Play words, top_passes Play words, passes_sub Play words parts read) refl
 taken Bound words parts read = rw (ends_at Bound words, top_passes Bound words, passes_sub Bound words parts read) refl
 taken Verify words parts read = rw (ends_at Verify words, top_passes Verify words, passes_sub Verify words parts read) refl
+taken Failmap words parts read = rw (ends_at Failmap words, top_passes Failmap words, passes_sub Failmap words parts read) refl
+taken Bench words parts read = rw (ends_at Bench words, top_passes Bench words, passes_sub Bench words parts read) refl
+taken Balance words parts read = rw (ends_at Balance words, top_passes Balance words, passes_sub Balance words parts read) refl
 
 found_sub : (verb : Verb) (words : List Text) (parts : List Part) → parts_from (option_names verb) (takes_further verb) None words ≡ Some parts → rows_after (shape verb).rules [] words ≡ add_parts [] parts
 found_sub Rewire words parts read = no_defaults (shape Rewire).rules _ (refl, (refl, (refl, (refl, (refl, (refl, (refl, (refl, tt)))))))) ∙ (goes Rewire words parts read).rows
@@ -200,6 +230,9 @@ found_sub Reorder words parts read = no_defaults (shape Reorder).rules _ (refl, 
 found_sub Play words parts read = no_defaults (shape Play).rules _ (refl, (refl, (refl, (refl, tt)))) ∙ (goes Play words parts read).rows
 found_sub Bound words parts read = no_defaults (shape Bound).rules _ (refl, (refl, (refl, (refl, (refl, tt))))) ∙ (goes Bound words parts read).rows
 found_sub Verify words parts read = no_defaults (shape Verify).rules _ (refl, (refl, (refl, (refl, (refl, tt))))) ∙ (goes Verify words parts read).rows
+found_sub Failmap words parts read = no_defaults (shape Failmap).rules _ (refl, (refl, (refl, (refl, (refl, (refl, tt)))))) ∙ (goes Failmap words parts read).rows
+found_sub Bench words parts read = no_defaults (shape Bench).rules _ (refl, tt) ∙ (goes Bench words parts read).rows
+found_sub Balance words parts read = no_defaults (shape Balance).rules _ (refl, (refl, (refl, (refl, (refl, (refl, (refl, (refl, tt)))))))) ∙ (goes Balance words parts read).rows
 
 named : (verb : Verb) (words : List Text) → entered (built program) (Some (verb_name verb, words)) ≡ Some (verb_name verb, rows_after (shape verb).rules [] words)
 named Rewire words = refl
@@ -209,6 +242,9 @@ named Reorder words = refl
 named Play words = refl
 named Bound words = refl
 named Verify words = refl
+named Failmap words = refl
+named Bench words = refl
+named Balance words = refl
 
 pub matched : (verb : Verb) (words : List Text) (parts : List Part) → parts_from (option_names verb) (takes_further verb) None words ≡ Some parts → subcommand_of program (verb_name verb ∷ words) ≡ Some (verb_name verb, add_parts [] parts)
 matched verb words parts read =

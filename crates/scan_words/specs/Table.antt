@@ -29,6 +29,7 @@ option_row options.Def = option (codes "def") forms.File
 option_row options.Stil = option (codes "stil") forms.File
 option_row options.NewVerilog = option (codes "new-verilog") forms.File
 option_row options.NewStil = option (codes "new-stil") forms.File
+option_row options.Log = option (codes "log") forms.File
 option_row options.OutVerilog = option (codes "out-verilog") forms.File
 option_row options.OutDef = option (codes "out-def") forms.File
 option_row options.OutStil = option (codes "out-stil") forms.File
@@ -40,6 +41,7 @@ option_row options.ScanOut = option (codes "scan-out") forms.Name
 option_row options.Effort = option (codes "effort") forms.Effort
 option_row options.Device = option (codes "device") forms.Device
 option_row options.Rounds = option (codes "rounds") forms.Rounds
+option_row options.Units = option (codes "units") forms.Units
 
 -- the name behind the two hyphens
 abbrev pub option_text : OptionName → Text
@@ -65,6 +67,7 @@ has_form forms.Name value = true
 has_form forms.Effort value = bytes_eq value (codes "order") || bytes_eq value (codes "full")
 has_form forms.Device value = bytes_eq value (codes "hold") || bytes_eq value (codes "mix")
 has_form forms.Rounds value = is_number 0 1000 value
+has_form forms.Units value = is_number 8 16384 value
 
 -- the values that the words give each name
 abbrev pub Values : Type 0

@@ -6,7 +6,7 @@ use Rattle.scan_words.specs.declared.table.OptionName.TheVariants as options
 use Rattle.scan_words.specs.declared.table.Need.TheVariants.{Needed, Optional, With}
 use Rattle.scan_words.specs.declared.table.OptionForm.{OptionForm}
 use Rattle.scan_words.specs.declared.verb.Verb.{Verb}
-use Rattle.scan_words.specs.declared.verb.Verb.TheVariants.{Rewire, Trace, Check, Reorder, Play, Bound, Verify}
+use Rattle.scan_words.specs.declared.verb.Verb.TheVariants.{Rewire, Trace, Check, Reorder, Play, Bound, Verify, Failmap, Bench, Balance}
 use Rattle.scan_words.specs.Form.{Text}
 use Rattle.scan_words.specs.Table.{texts}
 
@@ -30,7 +30,7 @@ beside other name = record { name = name; need = With other }
 
 -- the commands
 abbrev pub verbs : List Verb
-verbs = Rewire ∷ Trace ∷ Check ∷ Reorder ∷ Play ∷ Bound ∷ Verify ∷ []
+verbs = Rewire ∷ Trace ∷ Check ∷ Reorder ∷ Play ∷ Bound ∷ Verify ∷ Failmap ∷ Bench ∷ Balance ∷ []
 
 -- the row of a command
 abbrev pub verb_row : Verb → VerbRow
@@ -68,6 +68,22 @@ verb_row Bound = record {
 verb_row Verify = record {
   word = codes "verify";
   options = needed options.Table ∷ needed options.Verilog ∷ needed options.Stil ∷ needed options.NewVerilog ∷ needed options.NewStil ∷ [];
+  takes_further = false;
+}
+verb_row Failmap = record {
+  word = codes "failmap";
+  options = needed options.Table ∷ needed options.Verilog ∷ needed options.Stil ∷ needed options.NewVerilog ∷ needed options.NewStil ∷ needed options.Log ∷ [];
+  takes_further = false;
+}
+verb_row Bench = record {
+  word = codes "bench";
+  options = needed options.Units ∷ [];
+  takes_further = false;
+}
+verb_row Balance = record {
+  word = codes "balance";
+  options = needed options.Table ∷ needed options.Lef ∷ needed options.Verilog ∷ needed options.Def ∷ needed options.OutVerilog ∷ needed options.OutDef
+      ∷ optional options.Stil ∷ beside options.Stil options.OutStil ∷ [];
   takes_further = false;
 }
 

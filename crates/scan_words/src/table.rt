@@ -14,6 +14,7 @@ pub enum OptionName {
     Stil,
     NewVerilog,
     NewStil,
+    Log,
     OutVerilog,
     OutDef,
     OutStil,
@@ -25,6 +26,7 @@ pub enum OptionName {
     Effort,
     Device,
     Rounds,
+    Units,
 }
 
 /// What the value of an option is.
@@ -42,6 +44,8 @@ pub enum ValueForm {
     Device,
     /// A decimal number from 0 to 1000, without sign or leading zero.
     Rounds,
+    /// A decimal number from 8 to 16384, without sign or leading zero.
+    Units,
 }
 
 /// Whether an option stands among the words.
@@ -76,6 +80,7 @@ impl OptionName {
             OptionName::Stil => ("stil", ValueForm::File),
             OptionName::NewVerilog => ("new-verilog", ValueForm::File),
             OptionName::NewStil => ("new-stil", ValueForm::File),
+            OptionName::Log => ("log", ValueForm::File),
             OptionName::OutVerilog => ("out-verilog", ValueForm::File),
             OptionName::OutDef => ("out-def", ValueForm::File),
             OptionName::OutStil => ("out-stil", ValueForm::File),
@@ -87,6 +92,7 @@ impl OptionName {
             OptionName::Effort => ("effort", ValueForm::Effort),
             OptionName::Device => ("device", ValueForm::Device),
             OptionName::Rounds => ("rounds", ValueForm::Rounds),
+            OptionName::Units => ("units", ValueForm::Units),
         }
     }
 
@@ -148,6 +154,7 @@ pub(crate) fn has_form(form: ValueForm, value: &str) -> bool
         ValueForm::Effort => value == "order" || value == "full",
         ValueForm::Device => value == "hold" || value == "mix",
         ValueForm::Rounds => is_number(0, 1000, value),
+        ValueForm::Units => is_number(8, 16384, value),
     }
 }
 

@@ -22,6 +22,13 @@ pub enum Verb {
     Bound,
     /// Tells whether two sets of a netlist and its patterns mean the same.
     Verify,
+    /// Carries a log of the fails of the second of two such sets back to the first.
+    Failmap,
+    /// Reorders a made design of so many units, and writes no file.
+    Bench,
+    /// Puts units of the scan chains of a placed design into other chains, so that the longest path is short, and retargets its patterns where
+    /// it is given some.
+    Balance,
 }
 
 /// A row of the table of commands.
@@ -35,7 +42,7 @@ pub(crate) struct VerbRow<'a> {
     pub takes_further: bool,
 }
 
-static VERBS: [Verb; 7] = [
+static VERBS: [Verb; 10] = [
     Verb::Rewire,
     Verb::Trace,
     Verb::Check,
@@ -43,6 +50,9 @@ static VERBS: [Verb; 7] = [
     Verb::Play,
     Verb::Bound,
     Verb::Verify,
+    Verb::Failmap,
+    Verb::Bench,
+    Verb::Balance,
 ];
 
 static REWIRE: [OptionForm; 7] = [
@@ -214,6 +224,73 @@ static VERIFY: [OptionForm; 5] = [
     },
 ];
 
+static FAILMAP: [OptionForm; 6] = [
+    OptionForm {
+        name: OptionName::Table,
+        need: Need::Needed,
+    },
+    OptionForm {
+        name: OptionName::Verilog,
+        need: Need::Needed,
+    },
+    OptionForm {
+        name: OptionName::Stil,
+        need: Need::Needed,
+    },
+    OptionForm {
+        name: OptionName::NewVerilog,
+        need: Need::Needed,
+    },
+    OptionForm {
+        name: OptionName::NewStil,
+        need: Need::Needed,
+    },
+    OptionForm {
+        name: OptionName::Log,
+        need: Need::Needed,
+    },
+];
+
+static BENCH: [OptionForm; 1] = [OptionForm {
+    name: OptionName::Units,
+    need: Need::Needed,
+}];
+
+static BALANCE: [OptionForm; 8] = [
+    OptionForm {
+        name: OptionName::Table,
+        need: Need::Needed,
+    },
+    OptionForm {
+        name: OptionName::Lef,
+        need: Need::Needed,
+    },
+    OptionForm {
+        name: OptionName::Verilog,
+        need: Need::Needed,
+    },
+    OptionForm {
+        name: OptionName::Def,
+        need: Need::Needed,
+    },
+    OptionForm {
+        name: OptionName::OutVerilog,
+        need: Need::Needed,
+    },
+    OptionForm {
+        name: OptionName::OutDef,
+        need: Need::Needed,
+    },
+    OptionForm {
+        name: OptionName::Stil,
+        need: Need::Optional,
+    },
+    OptionForm {
+        name: OptionName::OutStil,
+        need: Need::With(OptionName::Stil),
+    },
+];
+
 /// The commands.
 pub(crate) fn verbs<'a>() -> &'a [Verb]
     ensures { result.now ≡ verbs }
@@ -286,6 +363,21 @@ impl Verb {
             Verb::Verify => VerbRow {
                 word: "verify",
                 options: VERIFY.as_slice(),
+                takes_further: false,
+            },
+            Verb::Failmap => VerbRow {
+                word: "failmap",
+                options: FAILMAP.as_slice(),
+                takes_further: false,
+            },
+            Verb::Bench => VerbRow {
+                word: "bench",
+                options: BENCH.as_slice(),
+                takes_further: false,
+            },
+            Verb::Balance => VerbRow {
+                word: "balance",
+                options: BALANCE.as_slice(),
                 takes_further: false,
             },
         }

@@ -7,3 +7,4 @@ pub mod Comparing
 pub mod Beside
 pub mod Ahead
 pub mod Worth
+pub mod SameSets

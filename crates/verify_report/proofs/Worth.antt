@@ -22,7 +22,7 @@ use Rattle.verify_report.proofs.Runs.{told_run}
 other_text : (what : List ℕ) → differs_text what ≡ same_text → ⊥
 other_text what e = let f : 100 ≡ 115 = ap (λ (t : List ℕ). get_or t 0 0) e in omega (arith, f)
 
-no_difference : (old new : PatternText) (pattern place : ℕ) → All IsRun old.played.statements → HaveSameMeaning reading old new
+pub no_difference : (old new : PatternText) (pattern place : ℕ) → All IsRun old.played.statements → HaveSameMeaning reading old new
     → IsDifference old.played.chains new.played.chains old.played.statements new.played.statements pattern place → ⊥
 no_difference old new pattern place run same d =
     d.differs (all_places old.played.chains new.played.chains old.played.statements new.played.statements same.run.alike (back reading old.played new.played run same.run) d.at)

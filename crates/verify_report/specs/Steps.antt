@@ -3,9 +3,10 @@ use Rattle.std.specs.Prelude.{◌≡◌, ℕ, ◌<◌, nat_eq, List, [], ◌∷�
 use Rattle.stil_types.specs.declared.statement.PatternStatement.{PatternStatement}
 use Rattle.stil_reader.specs.Cursors.{Ahead, IsReadable}
 use Rattle.stil_tester.specs.declared.chains.Chains.{Chains}
-use Rattle.stil_tester.specs.Meaning.{Patterns}
+use Rattle.stil_tester.specs.Meaning.{Patterns, HaveSameMeaning}
+use Rattle.stil_written.specs.Readings.{reading}
 use Rattle.scan_verify.specs.Patterns.{IsSamePlace, IsDifference, differing, pattern_of}
-use Rattle.same_files.specs.Sets.{ReadSet}
+use Rattle.same_files.specs.Sets.{ReadSet, meant_by}
 use Rattle.same_files.specs.Cells.{HaveSameScanCells}
 use Rattle.path_chains.specs.Ranked.{bits_of_all}
 use Rattle.verify_report.specs.declared.places.Difference.{Difference}
@@ -68,3 +69,8 @@ IsPlaceOf old new (Some p) = IsDifference old.chains new.chains old.statements n
 -- two sets have as many chains, and the same scan cells
 abbrev pub AreAlikeSets : ReadSet → ReadSet → Type 0
 AreAlikeSets a b = (length a.bits ≡ length b.bits) × HaveSameScanCells a.netlist b.netlist (bits_of_all a.bits) (bits_of_all b.bits)
+
+-- two sets, each with its text of patterns, are the same: their cells are alike, and their patterns have the same meaning
+pub record AreSameSets (old : ReadSet) (stil : List ℕ) (new : ReadSet) (new_stil : List ℕ) : Type 0 where
+  pub cells : AreAlikeSets old new
+  pub meaning : HaveSameMeaning reading (meant_by old stil) (meant_by new new_stil)

@@ -21,8 +21,9 @@ fn next_item(alloc: Global, patterns: &mut PatternCursor) -> Result<Option<Patte
     }
 }
 
-/// The next statement; the names of the Patterns that open before it are passed.
-pub(crate) fn next_statement(
+/// Takes the next statement of patterns in which nothing is wrong; None where none is left. The names
+/// of the Patterns that open before it are passed. Want of memory is the only refusal.
+pub fn next_statement(
     alloc: Global,
     patterns: &mut PatternCursor,
 ) -> Result<Option<PatternStatement>, NoMemory>

@@ -6,12 +6,16 @@
 //! stil_calls, stil_reader, stil_tester, stil_written, head_alike, stil_alike, retarget, scan_verify, play_report,
 //! same_files and `itoa`.
 //! Contract: `verify_text` says what `specs/Texts.antt` says, or answers the first fault of `specs/Faults.antt`; it says `same` exactly
-//! where the sets are the same (`specs/Same.antt` of same_files). Begin with `verify.rt`.
+//! where the sets are the same (`specs/Same.antt` of same_files). `read_new`, `are_same_sets` and
+//! `next_statement` serve whoever goes on with two sets that are the same. Begin with `verify.rt`.
 #![tactic(auto)]
 
 mod items;
 mod places;
+mod sets;
 mod text;
 mod verify;
 
-pub use verify::verify_text;
+pub use items::next_statement;
+pub use sets::are_same_sets;
+pub use verify::{read_new, verify_text};

@@ -40,7 +40,7 @@ fn difference_text(alloc: Global, names: &[Name], place: Place) -> Result<Text, 
 }
 
 /// The head's text.
-fn head_text<'a>(stil: &'a [u8], set: &PatternSet) -> &'a [u8]
+pub(crate) fn head_text<'a>(stil: &'a [u8], set: &PatternSet) -> &'a [u8]
     requires patterns { ArePatternsOf stil.now set.now }
     ensures value { result.now ≡ head_text stil.now }
     ensures within { length result.now ≤ length stil.now }

@@ -35,8 +35,11 @@ fn at_new(fault: Fault) -> Fault
     }
 }
 
-/// The second set, whose faults are those of its files.
-fn read_new(
+/// What the files of the second set mean, a Verilog of less than 4 GiB and a STIL of at most 67108864
+/// bytes.
+///
+/// Refused by the first fault of these files, as `play` has it, at the files of the second set.
+pub fn read_new(
     alloc: Global,
     table: &[u8],
     verilog: &[u8],

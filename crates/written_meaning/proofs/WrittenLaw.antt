@@ -71,7 +71,6 @@ module _ (texts : TextsLaw) (fit : FitLaw) (anew : AnewLaw) (t : Texts) (text st
     for_any (Some head) checked p = for_head head checked p
 
 pub written_law : TextsLaw → FitLaw → AnewLaw → MeaningLaw
-written_law texts fit anew effort t verilog def figures plan text stil is_text is none fine =
-    let r = is.reordered in
-    for_any texts fit anew t text stil is_text none plan fine r.cells r.macros r.netlist r.written r.design r.paths r.after r.rules r.plan r.good.legal r.read_off.same
-    (keeps_names t.verilog r.netlist r.cells r.design r.paths (new_paths r.paths r.rules r.plan) r.edits verilog r.written r.verilog_is) r.head r.checked is.planned
+written_law texts fit anew t verilog def nets_cut plan text stil is_text made planned none fine =
+    for_any texts fit anew t text stil is_text none plan fine made.cells made.macros made.netlist made.written made.design made.paths made.after made.rules made.plan made.legal made.read_off.same
+    (keeps_names t.verilog made.netlist made.cells made.design made.paths (new_paths made.paths made.rules made.plan) made.edits verilog made.written made.verilog_is) made.head made.checked planned

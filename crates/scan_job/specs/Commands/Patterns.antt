@@ -1,4 +1,4 @@
--- The command `reorder` where it is given patterns: these are written anew with the design.
+-- The commands `reorder` and `balance` where they are given patterns: these are written anew with the design.
 use Rattle.std.specs.Prelude.{◌≡◌, ℕ, ◌≤◌, true, List, [], ◌∷◌, ◌++◌, codes, Some, None}
 use Rattle.base_types.specs.declared.fault.Fault.{Fault}
 use Rattle.base_types.specs.declared.kind.Kind.{Kind}
@@ -6,14 +6,13 @@ use Rattle.base_types.specs.Faults.{number_of}
 use Rattle.desk_io.specs.declared.slot.Slot.TheVariants.{Table, Lef, Verilog, Def, Stil, OutVerilog, OutDef, OutStil}
 use Rattle.desk_io.specs.declared.outputs.Outputs.{Outputs}
 use Rattle.desk_io.specs.Names.{Names}
-use Rattle.scan_words.specs.declared.verb.Verb.TheVariants as verbs
 use Rattle.stil_reader.specs.Sayings.{Told, told_whole}
 use Rattle.stil_reader.specs.Patterns.{statements_in}
 use Rattle.stil_written.specs.Written.{written_says}
 use Rattle.retargeted_patterns.specs.Figures.{figures_of}
 use Rattle.design_files.specs.Files.{Texts, with_head}
 use Rattle.design_files.specs.Faults.{HoldsInFiles}
-use Rattle.chain_reorder.specs.declared.reorder.Figures.{Figures}
+use Rattle.chain_reorder.specs.declared.figures.Figures.{Figures}
 use Rattle.chain_reorder.specs.declared.patterns.PatternPlan.{PatternPlan}
 use Rattle.chain_reorder.specs.PatternPlans.{IsReorderedWith}
 use Rattle.retargeted_patterns.specs.declared.figures.PatternFigures.{PatternFigures}
@@ -23,7 +22,7 @@ use Rattle.written_meaning.specs.Meaning.{KeepsMeaning, form_of}
 use Rattle.scan_job.specs.declared.commands.patterns.PatternsRequest.{PatternsRequest}
 use Rattle.scan_job.specs.Commands.{Command}
 use Rattle.scan_job.specs.Commands.Check.{design_in}
-use Rattle.scan_job.specs.Commands.Reorder.{effort_word, figure_line, figures_text}
+use Rattle.scan_job.specs.Commands.Reorder.{goal_verb, design_values, figure_line, figures_text}
 
 -- a fault of the files: of the design and the head of the patterns, or of the patterns, which are judged behind these
 pub data HoldsInRetargeting (t : Texts) (stil : List ℕ) (fault : Fault) : Type 0 where
@@ -42,11 +41,11 @@ figures_in plan told = figures_of plan.map.0 plan.map.1 (statements_in told.says
 abbrev pub pattern_lines : PatternFigures → List ℕ
 pattern_lines f = figure_line (codes "calls") f.calls ++ figure_line (codes "shifts_read") f.shifts_read ++ figure_line (codes "shifts_written") f.shifts_written
 
--- what `reorder` says with patterns
+-- what is said with patterns
 abbrev pub all_figures_text : Figures → PatternFigures → List ℕ
 all_figures_text figures patterns = figures_text figures ++ pattern_lines patterns
 
--- The outputs are those of `reorder` with patterns, all of one plan: the Verilog and the DEF, and the STIL with the declarations of the
+-- The outputs are those of the command with patterns, all of one plan: the Verilog and the DEF, and the STIL with the declarations of the
 -- new paths and with each scan call retargeted to them. Where the patterns have no fault, both STIL texts mean the same, each on the scan
 -- chains of its netlist.
 pub record AreRetargeted (r : PatternsRequest) (t : Texts) (stil : List ℕ) (outputs : Outputs) : Type 0 where
@@ -54,10 +53,10 @@ pub record AreRetargeted (r : PatternsRequest) (t : Texts) (stil : List ℕ) (ou
   pub head_is : IsHeadText stil text
   pub figures : Figures
   pub plan : PatternPlan
-  pub made : IsReorderedWith r.design.effort (with_head t text) outputs.verilog outputs.def figures (Some plan)
+  pub made : IsReorderedWith r.design.goal (with_head t text) outputs.verilog outputs.def figures (Some plan)
   pub stil_text : outputs.stil ≡ written_says (form_of plan) (told_whole plan.head stil).says
   pub meaning : (told_whole plan.head stil).fault ≡ None
-      → KeepsMeaning made.reordered.netlist made.reordered.written made.reordered.cells made.reordered.paths made.reordered.after stil outputs.stil
+      → KeepsMeaning made.reordered.made.netlist made.reordered.made.written made.reordered.made.cells made.reordered.made.paths made.reordered.made.after stil outputs.stil
   pub console : outputs.console ≡ all_figures_text figures (figures_in plan (told_whole plan.head stil))
 
 -- the written form of what stands before the refused statement, by such a plan: all that the text says before its fault
@@ -74,14 +73,10 @@ first_names r = (Table, r.design.table) ∷ (Lef, r.design.lef) ∷ (Verilog, r.
 abbrev pub last_names : PatternsRequest → Names
 last_names r = (OutVerilog, r.design.out_verilog) ∷ (OutDef, r.design.out_def) ∷ []
 
--- it puts the units of a placed design's scan chains into another order, by which they are shorter, and retargets its patterns
+-- it puts the units of a placed design's scan chains into another order, by which they are shorter or the longest path is, and retargets its patterns
 abbrev pub reorder_patterns : PatternsRequest → Command
 reorder_patterns r = record {
-  order = record {
-    verb = verbs.Reorder;
-    values = r.design.table ∷ r.design.lef ∷ r.design.verilog ∷ r.design.def ∷ r.design.out_verilog ∷ r.design.out_def ∷ effort_word r.design.effort ∷ r.stil ∷ r.out_stil ∷ [];
-    further = [];
-  };
+  order = record { verb = goal_verb r.design.goal; values = design_values r.design (r.stil ∷ r.out_stil ∷ []); further = [] };
   sound = Unit {0};
   names = (Table, r.design.table) ∷ (Lef, r.design.lef) ∷ (Verilog, r.design.verilog) ∷ (Def, r.design.def) ∷ (Stil, r.stil)
       ∷ (OutStil, r.out_stil) ∷ (OutVerilog, r.design.out_verilog) ∷ (OutDef, r.design.out_def) ∷ [];

@@ -1,9 +1,9 @@
 ghost use Rattle.std.specs.Prelude.{◌≡◌, refl, decimal, Option, Some, None, option_map};
 ghost use Rattle.scan_job.specs.Requests as requests;
-ghost use Rattle.scan_job.specs.Commands.Bound.{IsRounds, AreRounds};
+ghost use Rattle.scan_job.specs.Commands.Bound.{AreRounds};
 
 use crate::commands::{Command, Whole};
-use crate::copying::word_of;
+use crate::copying::{number_of, word_of};
 use base_types::{NoMemory, ReadFault, Word};
 use bound_report::bound_text;
 use desk_io::{Inputs, Names, Outputs, Slot};
@@ -23,17 +23,6 @@ pub struct BoundRequest {
     pub def: Word,
     /// For how many rounds the bounds by trees are improved, a number from 0 to 1000 as it is written; None where they aren't asked for.
     pub rounds: Option<Word>,
-}
-
-/// The number that a word says.
-fn number_of(word: &Word) -> u32
-    requires said { IsRounds word.now }
-    ensures value { word.now ≡ decimal result }
-{
-    match word.as_str().parse::<u32>() {
-        Ok(number) => number,
-        Err(_) => unreachable!(),
-    }
 }
 
 /// The number of rounds that a word says, if there is one.

@@ -3,16 +3,18 @@ ghost use Rattle.scan_job.specs.Requests as requests;
 ghost use Rattle.scan_job.specs.Commands.Patterns.{first_names, last_names, pattern_lines, all_figures_text};
 
 use crate::commands::Command;
-use crate::commands::reorder::{ReorderRequest, effort_of, figure_lines, push_figure};
+use crate::commands::reorder::{
+    ReorderRequest, design_request, effort_of, figure_lines, push_figure,
+};
 use crate::copying::word_of;
 use base_types::{NoMemory, Text, Word};
-use chain_reorder::Figures;
+use chain_reorder::{Figures, Goal};
 use desk_io::{Names, Slot};
 use retargeted_patterns::PatternFigures;
 use scan_words::Order;
 use std::alloc::Global;
 
-/// What the words of `reorder` ask for where they name patterns, by the names of its options.
+/// What the words of `reorder` or of `balance` ask for where they name patterns, by the names of its options.
 #[derive(Debug, Drop)]
 pub struct PatternsRequest {
     /// What is asked for of the design.
@@ -27,7 +29,10 @@ impl Command for PatternsRequest {
     ghost request = { requests.ReorderPatterns };
 
     fn of(alloc: Global, order: &Order) -> Result<PatternsRequest, NoMemory> {
-        match order.values.as_slice() {
+        let (table, lef, verilog, def, out_verilog, out_def, goal, stil, out_stil) = match order
+            .values
+            .as_slice()
+        {
             [
                 table,
                 lef,
@@ -38,21 +43,44 @@ impl Command for PatternsRequest {
                 effort,
                 stil,
                 out_stil,
-            ] => Ok(PatternsRequest {
-                design: ReorderRequest {
-                    table: word_of(alloc, table)?,
-                    lef: word_of(alloc, lef)?,
-                    verilog: word_of(alloc, verilog)?,
-                    def: word_of(alloc, def)?,
-                    out_verilog: word_of(alloc, out_verilog)?,
-                    out_def: word_of(alloc, out_def)?,
-                    effort: effort_of(effort),
-                },
-                stil: word_of(alloc, stil)?,
-                out_stil: word_of(alloc, out_stil)?,
-            }),
+            ] => (
+                table,
+                lef,
+                verilog,
+                def,
+                out_verilog,
+                out_def,
+                Goal::Shorter(effort_of(effort)),
+                stil,
+                out_stil,
+            ),
+            [
+                table,
+                lef,
+                verilog,
+                def,
+                out_verilog,
+                out_def,
+                stil,
+                out_stil,
+            ] => (
+                table,
+                lef,
+                verilog,
+                def,
+                out_verilog,
+                out_def,
+                Goal::Balanced,
+                stil,
+                out_stil,
+            ),
             _ => unreachable!(),
-        }
+        };
+        Ok(PatternsRequest {
+            design: design_request(alloc, table, lef, verilog, def, out_verilog, out_def, goal)?,
+            stil: word_of(alloc, stil)?,
+            out_stil: word_of(alloc, out_stil)?,
+        })
     }
 
     fn names(&self, alloc: Global) -> Result<Names, NoMemory> {
@@ -102,7 +130,7 @@ pub(crate) fn last_names(alloc: Global, request: &PatternsRequest) -> Result<Nam
     )
 }
 
-/// What `reorder` says with patterns: the lines of the design's figures, and then one for each of the patterns'.
+/// What `reorder` or `balance` says with patterns: the lines of the design's figures, and then one for each of the patterns'.
 pub(crate) fn all_figure_lines(
     alloc: Global,
     figures: &Figures,

@@ -1,18 +1,18 @@
 ghost use Rattle.std.specs.Prelude.{◌≡◌, ◌++◌, IfOk, OnOk, true, false, codes, refl};
 ghost use Rattle.std.specs.Str.{bytes_eq};
 ghost use Rattle.scan_job.specs.Requests as requests;
-ghost use Rattle.scan_job.specs.Commands.Reorder.{figure_line, figures_text};
+ghost use Rattle.scan_job.specs.Commands.Reorder.{design_request, figure_line, measured_text, cut_line, cut_text, names_text, figures_text};
 
 use crate::commands::{Command, Whole};
 use crate::copying::word_of;
-use base_types::{NoMemory, ReadFault, Text, Word};
-use chain_reorder::{Figures, reorder_texts};
+use base_types::{Name, NoMemory, ReadFault, Rows, Text, Word};
+use chain_reorder::{Figures, Goal, Measured, reorder_texts};
 use desk_io::{Inputs, Names, Outputs, Slot};
 use order_search::Effort;
 use scan_words::Order;
 use std::alloc::Global;
 
-/// What the words of `reorder` ask for, by the names of its options.
+/// What the words of `reorder` or of `balance` ask for, by the names of its options.
 #[derive(Debug, Drop)]
 pub struct ReorderRequest {
     /// The name of the cell table that is read.
@@ -27,8 +27,8 @@ pub struct ReorderRequest {
     pub out_verilog: Word,
     /// The name of the DEF file that is written.
     pub out_def: Word,
-    /// Which steps are searched.
-    pub effort: Effort,
+    /// What the plan is searched for, which is which of the two commands it is, and the effort of the first.
+    pub goal: Goal,
 }
 
 /// The effort of a word; a word that is no effort's counts as `full`.
@@ -41,6 +41,30 @@ pub(crate) fn effort_of(word: &Word) -> Effort
     } else {
         Effort::Full
     }
+}
+
+/// What is asked for of the design, by the names of its files.
+pub(crate) fn design_request(
+    alloc: Global,
+    table: &Word,
+    lef: &Word,
+    verilog: &Word,
+    def: &Word,
+    out_verilog: &Word,
+    out_def: &Word,
+    goal: Goal,
+) -> Result<ReorderRequest, NoMemory>
+    ensures value { IfOk result (λ request. request ≡ design_request table.now lef.now verilog.now def.now out_verilog.now out_def.now goal) }
+{
+    Ok(ReorderRequest {
+        table: word_of(alloc, table)?,
+        lef: word_of(alloc, lef)?,
+        verilog: word_of(alloc, verilog)?,
+        def: word_of(alloc, def)?,
+        out_verilog: word_of(alloc, out_verilog)?,
+        out_def: word_of(alloc, out_def)?,
+        goal,
+    })
 }
 
 /// Appends the line of a figure.
@@ -60,33 +84,71 @@ pub(crate) fn push_figure(
     Ok(())
 }
 
-/// What `reorder` says of the design: a line for each figure, its word, a blank and its number.
+/// Appends the lines of what is measured of the plan.
+fn push_measured(alloc: Global, text: &mut Vec<u8>, measured: &Measured) -> Result<(), NoMemory>
+    ensures value { OnOk result (text.new.items ≡ text.old.items ++ measured_text measured.now) }
+{
+    match measured {
+        Measured::Lengths(lengths) => {
+            push_figure(alloc, text, b"length_read", lengths.read as u128)?;
+            push_figure(alloc, text, b"length_nearest", lengths.nearest as u128)?;
+            push_figure(alloc, text, b"length_written", lengths.written as u128)?;
+            Ok(())
+        }
+        Measured::Longest(longest) => {
+            push_figure(alloc, text, b"longest_read", longest.read as u128)?;
+            push_figure(alloc, text, b"longest_written", longest.written as u128)?;
+            Ok(())
+        }
+    }
+}
+
+/// Appends each name behind a blank.
+fn push_names(text: &mut Vec<u8>, names: &[Name]) -> Result<(), NoMemory>
+    ensures value { OnOk result (text.new.items ≡ text.old.items ++ names_text names.now) }
+{
+    for name in names {
+        text.push(b' ')?;
+        text.extend_from_slice(name.bytes())?;
+    }
+    Ok(())
+}
+
+/// Appends the line of the ports that show that no plan has a shorter longest path.
+fn push_cut(text: &mut Vec<u8>, cut: &Option<Rows<Name>>) -> Result<(), NoMemory>
+    ensures value { OnOk result (text.new.items ≡ text.old.items ++ cut_line cut.now) }
+{
+    text.extend_from_slice(b"cut")?;
+    match cut {
+        Some(names) => push_names(text, names.as_slice())?,
+        None => text.extend_from_slice(b" none")?,
+    }
+    text.push(b'\n')?;
+    Ok(())
+}
+
+/// Appends this line where the longest path is what counts.
+fn push_cut_of(text: &mut Vec<u8>, measured: &Measured) -> Result<(), NoMemory>
+    ensures value { OnOk result (text.new.items ≡ text.old.items ++ cut_text measured.now) }
+{
+    match measured {
+        Measured::Lengths(_lengths) => Ok(()),
+        Measured::Longest(longest) => push_cut(text, &longest.cut),
+    }
+}
+
+/// What `reorder` or `balance` says of the design: a line for each figure, its word, a blank and its number; and behind these the line of the cut,
+/// where there is one.
 pub(crate) fn figure_lines(alloc: Global, figures: &Figures) -> Result<Vec<u8>, NoMemory>
     ensures value { IfOk result (λ text. text.items ≡ figures_text figures.now) }
 {
     let mut text = Vec::new(alloc);
     push_figure(alloc, &mut text, b"chains", figures.chains as u128)?;
     push_figure(alloc, &mut text, b"units", figures.units as u128)?;
-    push_figure(
-        alloc,
-        &mut text,
-        b"length_read",
-        figures.length_read as u128,
-    )?;
-    push_figure(
-        alloc,
-        &mut text,
-        b"length_nearest",
-        figures.length_nearest as u128,
-    )?;
-    push_figure(
-        alloc,
-        &mut text,
-        b"length_written",
-        figures.length_written as u128,
-    )?;
+    push_measured(alloc, &mut text, &figures.measured)?;
     push_figure(alloc, &mut text, b"pins_moved", figures.pins_moved as u128)?;
     push_figure(alloc, &mut text, b"nets_cut", figures.nets_cut as u128)?;
+    push_cut_of(&mut text, &figures.measured)?;
     Ok(text)
 }
 
@@ -94,18 +156,28 @@ impl Command for ReorderRequest {
     ghost request = { requests.Reorder };
 
     fn of(alloc: Global, order: &Order) -> Result<ReorderRequest, NoMemory> {
-        match order.values.as_slice() {
-            [table, lef, verilog, def, out_verilog, out_def, effort] => Ok(ReorderRequest {
-                table: word_of(alloc, table)?,
-                lef: word_of(alloc, lef)?,
-                verilog: word_of(alloc, verilog)?,
-                def: word_of(alloc, def)?,
-                out_verilog: word_of(alloc, out_verilog)?,
-                out_def: word_of(alloc, out_def)?,
-                effort: effort_of(effort),
-            }),
+        let (table, lef, verilog, def, out_verilog, out_def, goal) = match order.values.as_slice() {
+            [table, lef, verilog, def, out_verilog, out_def, effort] => (
+                table,
+                lef,
+                verilog,
+                def,
+                out_verilog,
+                out_def,
+                Goal::Shorter(effort_of(effort)),
+            ),
+            [table, lef, verilog, def, out_verilog, out_def] => (
+                table,
+                lef,
+                verilog,
+                def,
+                out_verilog,
+                out_def,
+                Goal::Balanced,
+            ),
             _ => unreachable!(),
-        }
+        };
+        design_request(alloc, table, lef, verilog, def, out_verilog, out_def, goal)
     }
 
     fn names(&self, alloc: Global) -> Result<Names, NoMemory> {
@@ -129,7 +201,7 @@ impl Whole for ReorderRequest {
         let lef = inputs.text(Slot::Lef);
         let verilog = inputs.text(Slot::Verilog);
         let def = inputs.text(Slot::Def);
-        let made = reorder_texts(alloc, table, lef, verilog, def, None, self.effort)?;
+        let made = reorder_texts(alloc, table, lef, verilog, def, None, self.goal)?;
         Ok(Outputs {
             verilog: made.verilog,
             def: made.def,

@@ -9,7 +9,7 @@ use Rattle.chain_reorder.proofs.reorder.paths_after.Goals as goal
 pub returns : goal.returns
 returns c =
     let f = c.args.files.now in
-    let plan = c.args.found.now.plan in
+    let plan = c.args.plan.now in
     record {
       new =
           IfOk-weaker c.new_paths.result (λ new. new.items ≡ new_paths c.as_slice.result.now f.rules plan) (λ new. AreNewPaths f plan new.items)

@@ -1,4 +1,4 @@
-use Rattle.std.proofs.Common.{◌≡◌, List, Option, Some, option_map, ap, subst, sym, ◌∙◌}
+use Rattle.std.proofs.Common.{◌≡◌, List, Some, option_map, ap, subst, sym, ◌∙◌}
 use Rattle.chain_trace.specs.declared.path.Path.{Path}
 use Rattle.chain_reorder.specs.PatternPlans.{AreMovable}
 use Rattle.chain_reorder.proofs.Movable.{movable}

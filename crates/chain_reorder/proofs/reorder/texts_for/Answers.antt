@@ -2,6 +2,8 @@ use Rattle.std.proofs.Common.{List, subst, sym}
 use Rattle.chain_trace.specs.declared.path.Path.{Path}
 use Rattle.net_edit.specs.Rearranged.{AreRearranged}
 use Rattle.design_files.specs.Files.{Texts, texts_with}
+use Rattle.chain_reorder.specs.declared.figures.Measured.{Measured}
+use Rattle.chain_reorder.specs.Planned.{AreMeasuredIn}
 use Rattle.chain_reorder.specs.Reordered.{is_free_port}
 use Rattle.chain_reorder.proofs.IsMade.{are_ready, AreWritten, as_read, is_made}
 use Rattle.chain_reorder.proofs.reorder.texts_for.Goals as goal
@@ -21,9 +23,9 @@ def_text-requires-clause-rearranged c =
 
 pub returns : goal.returns
 returns c = record {
-  reordered = λ effort table lef head checked good.
+  reordered = λ goal table lef head checked good measured.
       let f = c.args.files.now in
-      let plan = c.args.found.now.plan in
+      let plan = c.args.plan.now in
       let legal = c.requires.legal in
       let t : Texts = texts_with table lef c.args.verilog.now c.args.def.now head in
       let ps = c.as_slice-paths.result.now in
@@ -53,6 +55,8 @@ returns c = record {
         def_erased = c.in_ok-moved.ensures.erased;
         placed = c.in_ok-moved.ensures.denoted;
       } in
-      is_made t f checked plan legal edits text out (as_read t f checked plan legal ps ns edits text out ps_is ns_is w) effort c.figures_of-figures.result c.plan_law.ensures.read_off c.names_law.ensures.same
-      c.placing_law.ensures.law c.agreement_law.ensures.agree good c.figures_of-figures.ensures.figures c.figures_of-figures.ensures.cut;
+      let figures = c.figures_of-figures.result in
+      let measures = subst (λ (m : Measured). AreMeasuredIn goal f plan m) (sym c.figures_of-figures.ensures.measured) measured in
+      is_made t f checked plan legal edits text out (as_read t f checked plan legal ps ns edits text out ps_is ns_is w) goal figures c.plan_law.ensures.read_off c.names_law.ensures.same
+      c.placing_law.ensures.law c.agreement_law.ensures.agree good measures c.figures_of-figures.ensures.figures c.figures_of-figures.ensures.cut;
 }

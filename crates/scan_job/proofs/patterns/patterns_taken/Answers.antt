@@ -32,7 +32,7 @@ returns-in_ok-close_stil-in-Err-Fault g c =
     let f = g.D.Desk.state c.refuse.new.desk in
     let r = c.args.request.now in
     let opens : k Stil ≡ opened (b Stil) = search rules in
-    let (drawn, is) = subst (λ (stop : StilStop). HasPlanned r.design.effort (design_of c.args.inputs.now) (k Stil) (d Stil) (Err stop)) c.in-Err-Fault.field-0-is c.in-Err-Fault.ensures.planned in
+    let (drawn, is) = subst (λ (stop : StilStop). HasPlanned r.design.goal (design_of c.args.inputs.now) (k Stil) (d Stil) (Err stop)) c.in-Err-Fault.field-0-is c.in-Err-Fault.ensures.planned in
     let shut = c.in_ok-close_stil-in-Err-Fault.ensures in
     let said = subst (λ (names : Names). HasSaid names c.in-Err-Fault.fault e f c.refuse.result) c.requires.named c.refuse.ensures.ended in
     record {

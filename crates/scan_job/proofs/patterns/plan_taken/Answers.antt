@@ -17,7 +17,7 @@ pub returns-in_err-head-clause-planned : goal.returns-in_err-head-clause-planned
 returns-in_err-head-clause-planned g c =
     let p = err_from_is_err_and c.from_residual-in_err-head.result c.from_residual-in_err-head.ensures.1 in
     rw (p.1, p.2)
-    (plan_stopped c.args.request.now.design.effort (design_of c.args.inputs.now) c.in_ok-input.input c.next_head.new.self (g.D.Desk.state c.args.desk.now Stil) (g.D.Desk.state c.next_head.new.desk Stil)
+    (plan_stopped c.args.request.now.design.goal (design_of c.args.inputs.now) c.in_ok-input.input c.next_head.new.self (g.D.Desk.state c.args.desk.now Stil) (g.D.Desk.state c.next_head.new.desk Stil)
     c.in_ok-input.ensures.value c.in_err-head.field-0.0 c.in_err-head.ensures.gives)
 
 pub returns-in_err-verilog-clause-planned : goal.returns-in_err-verilog-clause-planned
@@ -28,7 +28,7 @@ returns-in_err-verilog-clause-planned g c =
     let read = c.in_err-verilog.field-0.0 in
     let first = subst (λ (t : Texts). IfFault {X = Reordered} (Err read) (IsFilesFault t)) same c.in_err-verilog.ensures.fault in
     rw (p.1, p.2)
-    (plan_refused c.args.request.now.design.effort (design_of c.args.inputs.now) c.in_ok-input.input c.next_head.new.self (g.D.Desk.state c.args.desk.now Stil) (g.D.Desk.state c.next_head.new.desk Stil)
+    (plan_refused c.args.request.now.design.goal (design_of c.args.inputs.now) c.in_ok-input.input c.next_head.new.self (g.D.Desk.state c.args.desk.now Stil) (g.D.Desk.state c.next_head.new.desk Stil)
     c.in_ok-input.ensures.value c.in_ok-head.head c.in_ok-head.ensures.gives.1 read first)
 
 pub returns-in_err-file-clause-planned : goal.returns-in_err-file-clause-planned
@@ -43,13 +43,13 @@ returns-in_err-warnings-clause-planned g c =
 
 pub returns-clause-planned : goal.returns-clause-planned
 returns-clause-planned g c =
-    let effort = c.args.request.now.design.effort in
+    let goal = c.args.request.now.design.goal in
     let same : texts_with c.text.result.now c.text-2.result.now c.text-3.result.now c.text-4.result.now (Some c.bytes.result.now) ≡ with_head (design_of c.args.inputs.now) c.in_ok-head.head
     = rw (c.text.ensures.value, c.text-2.ensures.value, c.text-3.ensures.value, c.text-4.ensures.value, c.bytes.ensures.value) refl in
     let made = c.in_ok-verilog.field-0 in
-    let some = subst (λ (o : Option PatternPlan). IsReorderedWith effort (texts_with c.text.result.now c.text-2.result.now c.text-3.result.now c.text-4.result.now (Some c.bytes.result.now)) made.verilog made.def made.figures o) c.in-Some.is
+    let some = subst (λ (o : Option PatternPlan). IsReorderedWith goal (texts_with c.text.result.now c.text-2.result.now c.text-3.result.now c.text-4.result.now (Some c.bytes.result.now)) made.verilog made.def made.figures o) c.in-Some.is
     c.in_ok-verilog.ensures.reordered in
-    let reordered = subst (λ (t : Texts). IsReorderedWith effort t made.verilog made.def made.figures (Some c.in-Some.plan)) same some in
+    let reordered = subst (λ (t : Texts). IsReorderedWith goal t made.verilog made.def made.figures (Some c.in-Some.plan)) same some in
     let none = subst (λ (t : Texts). (fault : Fault) → HoldsInFiles t fault → ⊥) same c.in_ok-verilog.ensures.no_fault in
-    plan_ready effort (design_of c.args.inputs.now) c.in_ok-input.input c.next_head.new.self (g.D.Desk.state c.args.desk.now Stil) (g.D.Desk.state c.next_head.new.desk Stil)
+    plan_ready goal (design_of c.args.inputs.now) c.in_ok-input.input c.next_head.new.self (g.D.Desk.state c.args.desk.now Stil) (g.D.Desk.state c.next_head.new.desk Stil)
     c.in_ok-input.ensures.value c.in_ok-head.head c.in_ok-head.ensures.gives.1 (record { verilog = made.verilog; def = made.def; figures = made.figures }) c.in-Some.plan c.in_ok-warnings.warnings reordered none

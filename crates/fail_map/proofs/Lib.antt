@@ -1,0 +1,17 @@
+pub mod Blocks
+pub mod Calls
+pub mod Carrying
+pub mod Counts
+pub mod Decimals
+pub mod Ends
+pub mod Events
+pub mod Failing
+pub mod FaultLines
+pub mod Least
+pub mod Lists
+pub mod LogRows
+pub mod Orders
+pub mod Passing
+pub mod Places
+pub mod Stretches
+pub mod Whole

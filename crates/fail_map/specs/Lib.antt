@@ -1,0 +1,9 @@
+pub mod Logs
+pub mod Fails
+pub mod FailLogs
+pub mod Mapped
+pub mod Carried
+pub mod Blocks
+pub mod Numbered
+pub mod Progress
+pub mod Rows

@@ -1,0 +1,4 @@
+pub mod OneLog
+pub mod FailFaults
+pub mod PassedPairs
+pub mod ReadPairs
