@@ -406,10 +406,25 @@ impl Tours {
         }
     }
 
-    // Opens the stretch for a run, to its shorter side where that has room.
+    // Brings a stretch to the beginning of its room, so that all of what is left is behind it.
+    fn slide(&mut self, chain: u32) {
+        let tour = self.tour(chain);
+        let before = tour.room_before();
+        for place in tour.first..tour.first.wrapping_add(tour.nodes) {
+            self.shift(place, place.wrapping_sub(before));
+        }
+        self.count_in(chain, tour.base, tour.nodes, tour.bits);
+    }
+
+    // Opens the stretch for a run, to its shorter side where that has room. Steps that are taken back leave the stretch elsewhere
+    // than it stood, so that the room may be on both sides, and on neither enough.
     fn open(&mut self, run: Run) {
-        let tour = self.tour(run.chain);
         let gap = run.nodes;
+        let stands = self.tour(run.chain);
+        if stands.room_before().max(stands.room_behind()) < gap {
+            self.slide(run.chain);
+        }
+        let tour = self.tour(run.chain);
         let from = tour.first.wrapping_add(run.from);
         let end = tour.first.wrapping_add(tour.nodes);
         let nodes = tour.nodes.wrapping_add(gap);
