@@ -4,6 +4,7 @@ use Rattle.std.proofs.lemmas.Bool.{cases_Bool, true≢false}
 use Rattle.std.proofs.lemmas.Option.{same_Some}
 use Rattle.base_types.specs.declared.span.Span.{Span}
 use Rattle.base_types.specs.Lines.{line_at}
+use Rattle.base_types.specs.Names.{plain_name}
 use Rattle.token_forms.specs.Tokens.{Token}
 use Rattle.token_forms.specs.Parsing.{◌>>=◌}
 use Rattle.token_forms.specs.Forms.{put_all}
@@ -220,10 +221,10 @@ module _ (new : ScanChainDecl) where
       record { chain = w.chain; is = ap (λ (o : Option ChainParts). o >>= λ p. whole_chain name (start_of s') (line_at text' (start_of s')) p) k.is ∙ w.is; says = w.says; out_length = w.out_length }
 
 -- from the statement to its block
-chain_fine : (text : List ℕ) (s : List Token) (n : List ℕ × List Token) → is_whole s ≡ true → name_at (behind_word s) ≡ Some n → opens n.1 ≡ true → chain_at text s ≡ block_chain text n.0 s
+chain_fine : (text : List ℕ) (s : List Token) (n : List ℕ × List Token) → is_whole s ≡ true → name_at (behind_word s) ≡ Some n → opens n.1 ≡ true → chain_at text s ≡ block_chain text (plain_name n.0) s
 unfolding chain_at
 chain_fine text s n a b c =
-    ap (λ (k : Bool). cond k (named_chain text s (name_at (behind_word s))) None) a ∙ ap (named_chain text s) b ∙ ap (λ (k : Bool). cond k (block_chain text n.0 s) None) c
+    ap (λ (k : Bool). cond k (named_chain text s (name_at (behind_word s))) None) a ∙ ap (named_chain text s) b ∙ ap (λ (k : Bool). cond k (block_chain text (plain_name n.0) s) None) c
 
 chain_whole : (text : List ℕ) (s : List Token) (old : ReadChain) → chain_at text s ≡ Some old → is_whole s ≡ true
 unfolding chain_at
@@ -250,9 +251,9 @@ chain_law allow text text' s old new are has is_old for_old turned =
       | NoName e f ↦ absurd (let k = chain_named text (olds s) old None is_old (ap name_at b.old ∙ e) in cc)
       | Named x r e f rest short fr cut ↦
           let k = chain_named text (olds s) old (Some (x, olds r)) is_old (ap name_at b.old ∙ e) in
-          let opened = opens_if (opens (olds r)) (block_chain text x (olds s)) old k in
-          let here = sym (ap (λ (c : Bool). cond c (block_chain text x (olds s)) None) opened) ∙ k in
-          let again = blocks_by new text' x (olds s) (news s) (start_of (olds s)) (line_at text (start_of (olds s))) old (parts_of (statements_in (olds s))) refl turned for_old here in
+          let opened = opens_if (opens (olds r)) (block_chain text (plain_name x) (olds s)) old k in
+          let here = sym (ap (λ (c : Bool). cond c (block_chain text (plain_name x) (olds s)) None) opened) ∙ k in
+          let again = blocks_by new text' (plain_name x) (olds s) (news s) (start_of (olds s)) (line_at text (start_of (olds s))) old (parts_of (statements_in (olds s))) refl turned for_old here in
           record {
             chain = again.chain;
             is = chain_fine text' (news s) (x, news r) (sym (whole_same allow true s are) ∙ whole) (ap name_at b.new ∙ f) (sym (opens_same allow false r rest) ∙ opened) ∙ again.is;

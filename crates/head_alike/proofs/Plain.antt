@@ -2,6 +2,7 @@
 use Rattle.std.proofs.Common.{◌≡◌, ℕ, zero, suc, ◌+◌, ◌-◌, Bool, true, false, ◌&&◌, ◌||◌, not, cond, inl, inr, List, [], ◌∷◌, ◌++◌, length, take, drop, map, codes, Option, Some, None, refl, sym, ap, ◌∙◌, subst, arith}
 use Rattle.std.specs.List.{flat_map, AllByRecursion as Each}
 use Rattle.std.proofs.lemmas.Bool.{cases_Bool, true≢false}
+use Rattle.base_types.specs.Names.{plain_name}
 use Rattle.token_forms.specs.Tokens.{Token}
 use Rattle.stil_tokens.specs.StilStatements.{is_only}
 use Rattle.stil_types.specs.declared.head.Callee.{Callee}
@@ -194,10 +195,10 @@ named_same s are r is = elim (plain_names r is) [
   | No e f ↦ ap (λ (o : Option (List ℕ × List Token)). told (named_callee (olds s) o)) e ∙ sym (ap (λ (o : Option (List ℕ × List Token)). told (named_callee (news s) o)) f)
   | Yes x q e f rest ↦
       ap (λ (o : Option (List ℕ × List Token)). told (named_callee (olds s) o)) e
-      ∙ callee_by (opens (olds q)) (start_of (olds s)) x (holds_shift (in_block (olds s)))
-      ∙ ap (λ (b : Bool). callee_as b x (holds_shift (in_block (olds s)))) (opens_steady q rest)
-      ∙ ap (λ (b : Bool). callee_as (opens (news q)) x b) (rest_steady holds_shift holds_shift holds_shift_steady _ _ (block_plain s are))
-      ∙ sym (callee_by (opens (news q)) (start_of (news s)) x (holds_shift (in_block (news s))))
+      ∙ callee_by (opens (olds q)) (start_of (olds s)) (plain_name x) (holds_shift (in_block (olds s)))
+      ∙ ap (λ (b : Bool). callee_as b (plain_name x) (holds_shift (in_block (olds s)))) (opens_steady q rest)
+      ∙ ap (λ (b : Bool). callee_as (opens (news q)) (plain_name x) b) (rest_steady holds_shift holds_shift holds_shift_steady _ _ (block_plain s are))
+      ∙ sym (callee_by (opens (news q)) (start_of (news s)) (plain_name x) (holds_shift (in_block (news s))))
       ∙ sym (ap (λ (o : Option (List ℕ × List Token)). told (named_callee (news s) o)) f)
 ]
 
@@ -218,11 +219,11 @@ callee_same s are =
 -- the names of UserKeywords
 names_nothing : (n : ℕ) (ts : List Token) → name_at ts ≡ None → names_within (suc n) ts ≡ names_within n (drop 1 ts)
 unfolding names_within
-names_nothing n ts e = ap (λ (o : Option (List ℕ × List Token)). elim o [ None ↦ names_within n (drop 1 ts) | Some name ↦ name.0 ∷ names_within n name.1 ]) e
+names_nothing n ts e = ap (λ (o : Option (List ℕ × List Token)). elim o [ None ↦ names_within n (drop 1 ts) | Some name ↦ plain_name name.0 ∷ names_within n name.1 ]) e
 
-names_one : (n : ℕ) (ts : List Token) (x : List ℕ) (r : List Token) → name_at ts ≡ Some (x, r) → names_within (suc n) ts ≡ x ∷ names_within n r
+names_one : (n : ℕ) (ts : List Token) (x : List ℕ) (r : List Token) → name_at ts ≡ Some (x, r) → names_within (suc n) ts ≡ plain_name x ∷ names_within n r
 unfolding names_within
-names_one n ts x r e = ap (λ (o : Option (List ℕ × List Token)). elim o [ None ↦ names_within n (drop 1 ts) | Some name ↦ name.0 ∷ names_within n name.1 ]) e
+names_one n ts x r e = ap (λ (o : Option (List ℕ × List Token)). elim o [ None ↦ names_within n (drop 1 ts) | Some name ↦ plain_name name.0 ∷ names_within n name.1 ]) e
 
 names_zero : (ts : List Token) → names_within zero ts ≡ []
 unfolding names_within
@@ -234,7 +235,7 @@ names_steady (suc n) s are = elim (plain_names s are) [
   | No e f ↦
       let d = drop_one s are in
       names_nothing n (olds s) e ∙ ap (names_within n) d.old_is ∙ names_steady n d.rest d.are ∙ sym (names_nothing n (news s) f ∙ ap (names_within n) d.new_is)
-  | Yes x r e f rest ↦ names_one n (olds s) x (olds r) e ∙ ap (λ (l : List (List ℕ)). x ∷ l) (names_steady n r rest) ∙ sym (names_one n (news s) x (news r) f)
+  | Yes x r e f rest ↦ names_one n (olds s) x (olds r) e ∙ ap (λ (l : List (List ℕ)). plain_name x ∷ l) (names_steady n r rest) ∙ sym (names_one n (news s) x (news r) f)
 ]
 
 pub keywords_steady : (s : List Step) → IsPlain s → statement_keywords (olds s) ≡ statement_keywords (news s)

@@ -8,6 +8,7 @@ use Rattle.std.proofs.lemmas.Option.{same_Some}
 use Rattle.base_types.specs.Lines.{line_at}
 use Rattle.base_types.specs.declared.span.Span.{Span}
 use Rattle.token_forms.specs.Parsing.{◌>>=◌}
+use Rattle.base_types.specs.Names.{plain_name}
 use Rattle.token_forms.specs.Tokens.{Token}
 use Rattle.splice.specs.declared.Edit.{Edit}
 use Rattle.splice.specs.Spliced.{AreRising}
@@ -172,8 +173,8 @@ chain_is text s c e = by (is_whole s) e
     of_parts name None f e = absurd cc
     of_parts name (Some p) f e = record { name = name; parts = p; said = f; whole = e }
 
-    of_open : (n : List ℕ × List Token) (b : Bool) → cond b (block_chain text n.0 s) None ≡ Some c → ChainIs text s c
-    of_open n true e = of_parts n.0 (parts_of (statements_in s)) refl e
+    of_open : (n : List ℕ × List Token) (b : Bool) → cond b (block_chain text (plain_name n.0) s) None ≡ Some c → ChainIs text s c
+    of_open n true e = of_parts (plain_name n.0) (parts_of (statements_in s)) refl e
     of_open n false e = absurd cc
 
     of_name : (o : Option (List ℕ × List Token)) → named_chain text s o ≡ Some c → ChainIs text s c

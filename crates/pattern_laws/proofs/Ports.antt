@@ -355,7 +355,7 @@ block_plain text name s e = then_chain HasPlain (parts_of (statements_in s)) _ (
 
 named_plain : (text : List ℕ) (s : List Token) (o : Option (List ℕ × List Token)) → AreClean s → IfSome (named_chain text s o) ArePlain
 named_plain text s None e = tt
-named_plain text s (Some n) e = by_test (λ (o : Option ReadChain). IfSome o ArePlain) (opens n.1) _ None (block_plain text n.0 s e) tt
+named_plain text s (Some n) e = by_test (λ (o : Option ReadChain). IfSome o ArePlain) (opens n.1) _ None (block_plain text (plain_name n.0) s e) tt
 
 chain_plain : (text : List ℕ) (s : List Token) → AreClean s → IfSome (chain_at text s) ArePlain
 unfolding chain_at

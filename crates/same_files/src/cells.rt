@@ -126,3 +126,93 @@ pub fn have_same_cells(alloc: Global, a: &PatternSet, b: &PatternSet) -> Result<
 {
     same_cells(alloc, a.netlist(), a.bits(), b.netlist(), b.bits())
 }
+
+/// A scan cell by its names.
+#[derive(Clone, Copy)]
+pub struct ScanCell<'a> {
+    /// The name of the instance.
+    pub instance: &'a [u8],
+    /// The number of the scan path in its cell, from 0.
+    pub path: u32,
+    /// The place of the bit on that path, from 0.
+    pub bit: u32,
+    /// The name of the instance's cell.
+    pub cell: &'a [u8],
+}
+
+/// The scan cell of an entry.
+fn cell_of<'a>(entry: (&'a [u8], u32, u32, &'a [u8])) -> ScanCell<'a> {
+    let (instance, path, bit, cell) = entry;
+    ScanCell {
+        instance,
+        path,
+        bit,
+        cell,
+    }
+}
+
+/// The scan cell of a bit.
+pub(crate) fn scan_cell(netlist: &Netlist, bit: BitId) -> ScanCell<'_> {
+    cell_of(entry_of(netlist, bit))
+}
+
+/// Scan cells that two sets have of one name, of which the first set or the second may have none.
+#[derive(Clone, Copy)]
+pub struct CellPair<'a> {
+    pub old: Option<ScanCell<'a>>,
+    pub new: Option<ScanCell<'a>>,
+}
+
+/// The first of two entries by name; both where they have one name.
+fn pair_of<'a>(
+    old: (&'a [u8], u32, u32, &'a [u8]),
+    new: (&'a [u8], u32, u32, &'a [u8]),
+) -> CellPair<'a> {
+    let order = (old.0, old.1, old.2).cmp(&(new.0, new.1, new.2));
+    CellPair {
+        old: if order.is_le() {
+            Some(cell_of(old))
+        } else {
+            None
+        },
+        new: if order.is_ge() {
+            Some(cell_of(new))
+        } else {
+            None
+        },
+    }
+}
+
+/// The scan cell of the entry at an index, if there is one.
+fn cell_at<'a>(entries: &[(&'a [u8], u32, u32, &'a [u8])], index: usize) -> Option<ScanCell<'a>> {
+    match entries.get(index) {
+        Some(entry) => Some(cell_of(*entry)),
+        None => None,
+    }
+}
+
+/// The first scan cell, in the order of names, that two sets don't both have on an instance of the same cell; None where there is no
+/// such one. Want of memory is the only refusal.
+pub fn first_other_cell<'a>(
+    alloc: Global,
+    a: &'a PatternSet,
+    b: &'a PatternSet,
+) -> Result<Option<CellPair<'a>>, NoMemory> {
+    let old = entries_of(alloc, a.netlist(), a.bits())?;
+    let new = entries_of(alloc, b.netlist(), b.bits())?;
+    let both = old.len().min(new.len());
+    for index in 0..both {
+        if !is_same(old[index], new[index]) {
+            return Ok(Some(pair_of(old[index], new[index])));
+        }
+    }
+    let left = CellPair {
+        old: cell_at(old.as_slice(), both),
+        new: cell_at(new.as_slice(), both),
+    };
+    Ok(if old.len() == new.len() {
+        None
+    } else {
+        Some(left)
+    })
+}

@@ -12,5 +12,5 @@
 mod cells;
 mod set;
 
-pub use cells::have_same_cells;
+pub use cells::{CellPair, ScanCell, first_other_cell, have_same_cells};
 pub use set::{PatternSet, read_set};

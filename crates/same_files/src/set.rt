@@ -9,6 +9,7 @@ ghost use Rattle.stil_reader.specs.Patterns.{patterns_told};
 ghost use Rattle.play_report.specs.Faults.{HoldsInPlay};
 ghost use Rattle.same_files.specs.Sets.{IsSet, AreNamed, AreNames};
 
+use crate::cells::{ScanCell, scan_cell};
 use base_types::{Name, ReadFault};
 use chain_trace::PathBits;
 use netlist_core::Netlist;
@@ -72,6 +73,13 @@ impl PatternSet {
         ensures named { AreNamed self.now.netlist self.now.bits }
     {
         self.declared.bits.as_slice()
+    }
+
+    /// The scan cell at a place of a chain, the place at the scan input being 0, if there is one.
+    pub fn scan_cell(&self, chain: u32, place: u32) -> Option<ScanCell<'_>> {
+        let path = self.declared.bits.as_slice().get(chain as usize)?;
+        let bit = path.bits.as_slice().get(place as usize)?;
+        Some(scan_cell(&self.declared.netlist, *bit))
     }
 }
 

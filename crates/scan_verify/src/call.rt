@@ -81,19 +81,19 @@ fn character_at(text: &[u8], index: usize) -> u8
     }
 }
 
-/// What a call leaves in a cell.
-fn loaded_by(call: &ScanCall, home: Home) -> Symbol
-    requires { home.chain < length call.now.loads }
-    ensures { result ≡ loaded_by call.now home }
+/// What a call that shifts leaves in a cell that stands there (IEEE 1450-1999, Shift).
+pub fn loaded_by(call: &ScanCall, home: Home) -> Symbol
+    requires chain { home.chain < length call.now.loads }
+    ensures value { result ≡ loaded_by call.now home }
 {
     let string = &call.loads.as_slice()[home.chain as usize];
     symbol_behind(home.load, load_character(string, home.place as usize))
 }
 
-/// What a call expects of a cell.
-fn expected_by(call: &ScanCall, home: Home) -> Expect
-    requires { home.chain < length call.now.compares }
-    ensures { result ≡ expected_by call.now home }
+/// What a call that shifts expects of a cell that stands there, as this was before (IEEE 1450-1999, Shift).
+pub fn expected_by(call: &ScanCall, home: Home) -> Expect
+    requires chain { home.chain < length call.now.compares }
+    ensures value { result ≡ expected_by call.now home }
 {
     let string = &call.compares.as_slice()[home.chain as usize];
     expect_before(home.compare, compare_character(string, home.exit as usize))

@@ -11,7 +11,7 @@ mod laws;
 mod patterns;
 mod statement;
 
-pub use call::{first_difference, same_call};
+pub use call::{expected_by, first_difference, loaded_by, same_call};
 pub use laws::back_law;
 pub use patterns::{Sameness, same_patterns};
 pub use statement::same_statement;

@@ -111,6 +111,30 @@ fn are_same_blocks(
     Ok(true)
 }
 
+/// The same of two Loops, each of so many rounds, with its bytes and the statements in its block.
+fn are_same_loops(
+    alloc: Global,
+    map: &Map,
+    a: (u32, &[u8], &[BodyStatement]),
+    b: (u32, &[u8], &[BodyStatement]),
+) -> Result<bool, NoMemory>
+    requires first { length a.1.now < 2 ^ 32 }
+    requires second { length b.1.now < 2 ^ 32 }
+    requires old_places { All (IsPlacedIn a.1.now) a.2.now }
+    requires new_places { All (IsPlacedIn b.1.now) b.2.now }
+    requires old { All (λ s. IsReadyCall map.now.0 s.call) a.2.now }
+    requires new { All (λ s. IsReadyCall map.now.1 s.call) b.2.now }
+    ensures value { IfOk result (λ same. IsTrue same ↔ ((a.entry.0 ≡ b.entry.0) × (reading.heading a.entry.1.now ≡ reading.heading b.entry.1.now)
+        × BlocksAlike reading a.entry.1.now b.entry.1.now a.entry.2.now b.entry.2.now × BlocksShowSame map.now.0 map.now.1 a.entry.2.now b.entry.2.now)) }
+{
+    let (times, text, body) = a;
+    let (often, other, block) = b;
+    if times != often || !have_same_heading(alloc, text, other)? {
+        return Ok(false);
+    }
+    are_same_blocks(alloc, map, text, body, other, block)
+}
+
 /// The number of a statement's Pattern.
 pub fn pattern_of(statement: &PatternStatement) -> u32
     ensures value { result ≡ pattern_of statement.now }
@@ -164,17 +188,9 @@ pub fn same_statement(
                 body: block,
                 ..
             } => {
-                if times != often || !have_same_heading(alloc, text.bytes(), other.bytes())? {
-                    return Ok(false);
-                }
-                are_same_blocks(
-                    alloc,
-                    map,
-                    text.bytes(),
-                    body.as_slice(),
-                    other.bytes(),
-                    block.as_slice(),
-                )
+                let one = (*times, text.bytes(), body.as_slice());
+                let two = (*often, other.bytes(), block.as_slice());
+                are_same_loops(alloc, map, one, two)
             }
             _ => Ok(false),
         },

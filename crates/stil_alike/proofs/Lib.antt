@@ -1,2 +1,4 @@
 pub mod Headings
-pub mod Heads
+pub mod Cutting
+pub mod NameFronts
+pub mod Passing

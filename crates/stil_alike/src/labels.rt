@@ -1,5 +1,6 @@
 //! The labels of statements, their words, and what they call.
 ghost use Rattle.std.specs.Prelude.{◌≡◌, ◌↔◌, ◌<◌, ◌^◌, ◌++◌, ◌∷◌, [], length, IsTrue, Some, None, IfOk, IfSome, OnOk, MatchOption};
+ghost use Rattle.base_types.specs.Names.{plain_name};
 ghost use Rattle.stil_syntax.specs.Names.{name_at};
 ghost use Rattle.stil_syntax.specs.Shapes.{is_call, label_at, behind_labels};
 ghost use Rattle.stil_written.specs.Readings.{name_there, label_names, word_and_name, reading};
@@ -14,7 +15,7 @@ use stil_tokens::stil_tokens;
 #[tactic(auto, unfolding(stil_syntax::specs::Shapes::label_at))]
 fn take_label<'a>(tokens: &mut Stretch<'a, '_>) -> Option<NameText<'a>>
     ensures label { MatchOption result ((label_at tokens.old ≡ None) × (tokens.new ≡ tokens.old)) (λ n. label_at tokens.old ≡ Some tokens.new) }
-    ensures name { IfSome result (λ n. name_there (name_at tokens.old) ≡ n ∷ []) }
+    ensures name { IfSome result (λ n. name_there (name_at tokens.old) ≡ plain_name n ∷ []) }
 {
     let mut rest = tokens.again();
     let name = rest.name()?;
@@ -27,7 +28,7 @@ fn take_label<'a>(tokens: &mut Stretch<'a, '_>) -> Option<NameText<'a>>
     }
 }
 
-/// Puts the names in the labels behind others, and takes the labels.
+/// Puts the plain names in the labels behind others, and takes the labels.
 #[tactic(auto, unfolding(stil_written::specs::Readings::label_names, stil_syntax::specs::Shapes::behind_within))]
 fn put_labels(
     alloc: Global,
@@ -42,7 +43,7 @@ fn put_labels(
         let Some(name) = take_label(tokens) else {
             return Ok(());
         };
-        names.push(name.to_name(alloc)?)?;
+        names.push(name.to_plain_name(alloc)?)?;
         left -= 1;
     }
     Ok(())
@@ -55,7 +56,7 @@ fn is_call(word: &[u8]) -> bool
     word == b"Call".as_slice() || word == b"Macro".as_slice()
 }
 
-/// Puts the word behind other names, and the name of what a Call or a Macro calls.
+/// Puts the word behind other names, and the plain name of what a Call or a Macro calls.
 fn put_word(alloc: Global, names: &mut Rows<Name>, tokens: &Stretch<'_, '_>) -> Result<(), NoMemory>
     ensures value { OnOk result (names.new ≡ names.old ++ word_and_name tokens.now) }
 {
@@ -70,7 +71,7 @@ fn put_word(alloc: Global, names: &mut Rows<Name>, tokens: &Stretch<'_, '_>) -> 
     let Some(name) = rest.name() else {
         return Ok(());
     };
-    names.push(name.to_name(alloc)?)?;
+    names.push(name.to_plain_name(alloc)?)?;
     Ok(())
 }
 

@@ -5,6 +5,7 @@ use Rattle.std.specs.List.{list_all}
 use Rattle.std.specs.Str.{bytes_eq}
 use Rattle.std.proofs.lemmas.Bool.{leb-true}
 use Rattle.std.proofs.lemmas.List.Elements.{All-nil, All-cons, All-append}
+use Rattle.base_types.specs.Names.{plain_name}
 use Rattle.base_types.specs.declared.span.Span.{Span}
 use Rattle.token_forms.specs.Tokens.{Token}
 use Rattle.token_forms.specs.Parsing.{◌>>=◌}
@@ -142,7 +143,7 @@ block_long text name s = then_chain HasLength (parts_of (statements_in s)) _ (pa
 
 named_long : (text : List ℕ) (s : List Token) (o : Option (List ℕ × List Token)) → IfSome (named_chain text s o) FromOne
 named_long text s None = tt
-named_long text s (Some n) = by_test (λ (o : Option ReadChain). IfSome o FromOne) (opens n.1) _ None (block_long text n.0 s) tt
+named_long text s (Some n) = by_test (λ (o : Option ReadChain). IfSome o FromOne) (opens n.1) _ None (block_long text (plain_name n.0) s) tt
 
 chain_long : (text : List ℕ) (s : List Token) → IfSome (chain_at text s) FromOne
 unfolding chain_at

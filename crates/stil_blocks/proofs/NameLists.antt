@@ -2,13 +2,14 @@
 use Rattle.std.proofs.Common.{◌≡◌, ℕ, suc, ◌+◌, ◌-◌, ◌<◌, Bool, true, false, cond, List, [], ◌∷◌, ◌++◌, length, drop, codes, Option, Some, None, refl, sym, ap, ◌∙◌, arith}
 use Rattle.std.specs.Prelude.{Result, Ok, Err, OnOk}
 use Rattle.std.proofs.lemmas.List.{append_assoc}
+use Rattle.base_types.specs.Names.{plain_name}
 use Rattle.token_forms.specs.Tokens.{Token}
 use Rattle.stil_syntax.specs.Names.{name_at}
 use Rattle.stil_blocks.specs.Statements.{has_word, behind_word}
 use Rattle.stil_blocks.specs.Callees.{names_within, statement_keywords}
 
 within_next : (n : ℕ) (ts : List Token) (o : Option (List ℕ × List Token)) → name_at ts ≡ o
-    → names_within (suc n) ts ≡ elim o [ None ↦ names_within n (drop 1 ts) | Some name ↦ name.0 ∷ names_within n name.1 ]
+    → names_within (suc n) ts ≡ elim o [ None ↦ names_within n (drop 1 ts) | Some name ↦ plain_name name.0 ∷ names_within n name.1 ]
 unfolding names_within
 within_next n ts o e = rw (e, names_within) refl
 
@@ -19,11 +20,11 @@ within_zero ts = refl
 one : (n : ℕ) (ts : List Token) → names_within (n + 1) ts ≡ names_within (suc n) ts
 one n ts = let e : n + 1 ≡ suc n = omega arith in ap (λ (k : ℕ). names_within k ts) e
 
-pub name_some : (n : ℕ) (names now : List (List ℕ)) (ts before rest : List Token) (x copy : List ℕ) → before ≡ ts → name_at before ≡ Some (x, rest) → copy ≡ x → now ≡ names ++ copy ∷ []
+pub name_some : (n : ℕ) (names now : List (List ℕ)) (ts before rest : List Token) (x copy : List ℕ) → before ≡ ts → name_at before ≡ Some (x, rest) → copy ≡ plain_name x → now ≡ names ++ copy ∷ []
     → now ++ names_within n rest ≡ names ++ names_within (n + 1) ts
 name_some n names now ts before rest x copy same e is put =
-    let next : names_within (n + 1) ts ≡ x ∷ names_within n rest = one n ts ∙ within_next n ts (Some (x, rest)) (ap name_at (sym same) ∙ e) in
-    rw (put, is, next) (append_assoc names (x ∷ []) (names_within n rest))
+    let next : names_within (n + 1) ts ≡ plain_name x ∷ names_within n rest = one n ts ∙ within_next n ts (Some (x, rest)) (ap name_at (sym same) ∙ e) in
+    rw (put, is, next) (append_assoc names (plain_name x ∷ []) (names_within n rest))
 
 pub name_none : (n : ℕ) (names : List (List ℕ)) (ts before rest : List Token) → before ≡ ts → name_at before ≡ None → rest ≡ drop 1 ts → names ++ names_within n rest ≡ names ++ names_within (n + 1) ts
 name_none n names ts before rest same e left =

@@ -2,6 +2,7 @@
 -- this profile).
 use Rattle.std.specs.Prelude.{ℕ, zero, suc, Bool, true, false, ◌&&◌, ◌||◌, if◌then◌else◌, List, [], ◌∷◌, length, drop, codes, Option, Some, None}
 use Rattle.std.specs.List.{flat_map}
+use Rattle.base_types.specs.Names.{plain_name}
 use Rattle.token_forms.specs.Tokens.{Token}
 use Rattle.stil_syntax.specs.Names.{name_at}
 use Rattle.stil_syntax.specs.Shapes.{behind_labels, in_block, begins_behind}
@@ -22,11 +23,11 @@ holds test begins (t ∷ ts) = (begins && test (t ∷ ts)) || holds test (begins
 abbrev pub holds_shift : List Token → Bool
 holds_shift body = holds begins_shift true body
 
--- name { .. } by its name
+-- name { .. } by its name, which is plain
 abbrev pub named_callee : List Token → Option (List ℕ × List Token) → Option ReadCallee
 named_callee s None = None
 named_callee s (Some n) =
-    if opens n.1 then Some (record { place = start_of s; callee = record { name = n.0; scan = holds_shift (in_block s) } }) else None
+    if opens n.1 then Some (record { place = start_of s; callee = record { name = plain_name n.0; scan = holds_shift (in_block s) } }) else None
 
 -- the procedure or macro that a statement defines, if it is of its form
 unfoldable pub callee_at : List Token → Option ReadCallee
@@ -40,10 +41,10 @@ block_callees word s = if has_word word s then flat_map (λ p. listed (callee_at
 abbrev pub callees_of : List ℕ → List ℕ → List ReadCallee
 callees_of word text = flat_map (block_callees word) (statements_of text)
 
--- the names among tokens, of which there are no more than so many
+-- the names among tokens, of which there are no more than so many, as plain names
 unfoldable pub names_within : ℕ → List Token → List (List ℕ)
 names_within zero ts = []
-names_within (suc n) ts = elim (name_at ts) [ None ↦ names_within n (drop 1 ts) | Some name ↦ name.0 ∷ names_within n name.1 ]
+names_within (suc n) ts = elim (name_at ts) [ None ↦ names_within n (drop 1 ts) | Some name ↦ plain_name name.0 ∷ names_within n name.1 ]
 
 -- the names in a UserKeywords statement
 unfoldable pub statement_keywords : List Token → List (List ℕ)

@@ -186,10 +186,10 @@ parts_of ss = put_all put_clause no_parts (map clause_of ss)
 abbrev pub block_chain : List ℕ → List ℕ → List Token → Option ReadChain
 block_chain text name s = parts_of (statements_in s) >>= λ p. whole_chain name (start_of s) (line_at text (start_of s)) p
 
--- ScanChain name { .. } by its name
+-- ScanChain name { .. } by its name, which is plain
 abbrev pub named_chain : List ℕ → List Token → Option (List ℕ × List Token) → Option ReadChain
 named_chain text s None = None
-named_chain text s (Some n) = if opens n.1 then block_chain text n.0 s else None
+named_chain text s (Some n) = if opens n.1 then block_chain text (plain_name n.0) s else None
 
 -- the chain that a ScanChain statement declares, if it is of its form
 unfoldable pub chain_at : List ℕ → List Token → Option ReadChain

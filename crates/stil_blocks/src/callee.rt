@@ -70,7 +70,7 @@ fn callee_at(alloc: Global, s: &Stretch<'_, '_>) -> Result<Option<ReadCallee>, N
     match rest.name() {
         Some(name) if opens(&rest) => {
             let callee = Callee {
-                name: name.to_name(alloc)?,
+                name: name.to_plain_name(alloc)?,
                 scan: holds_shift(&in_block(s)),
             };
             let place = start_of(s);

@@ -1,6 +1,7 @@
 //! ScanChain blocks, and those of ScanStructures.
 ghost use Rattle.std.specs.Prelude.{◌≡◌, [], ◌++◌, OnOk, IfOk};
 ghost use Rattle.std.specs.List.{flat_map};
+ghost use Rattle.base_types.specs.Names.{plain_name};
 ghost use Rattle.stil_syntax.specs.Shapes.{body_statements};
 ghost use Rattle.stil_blocks.specs.declared.clause.Clause.TheVariants.{Length, In, Out, Inversion, Cells};
 ghost use Rattle.stil_blocks.specs.Chains.{no_parts, put_clause, value_of, place_in, cell_names, has_marks, parts_of, whole_chain, block_chain, chain_at, chain_in, structure_chains};
@@ -221,14 +222,14 @@ pub fn chain_at(
     }
 }
 
-/// The chain of this name in a statement.
+/// The chain of this name, without its backslashes, in a statement.
 fn named_chain(
     alloc: Global,
     lines: &mut Lines<'_>,
     name: &NameText<'_>,
     s: &Stretch<'_, '_>,
 ) -> Result<Option<ReadChain>, NoMemory>
-    ensures value { IfOk result (λ chain. chain ≡ block_chain lines.old name.now s.now) }
+    ensures value { IfOk result (λ chain. chain ≡ block_chain lines.old (plain_name name.now) s.now) }
     ensures same { lines.new ≡ lines.old }
 {
     let Some(parts) = parts_of(alloc, &in_block(s))? else {
@@ -236,7 +237,7 @@ fn named_chain(
     };
     let place = start_of(s);
     let line = lines.line_of(place as usize);
-    Ok(whole_chain(name.to_name(alloc)?, place, line, parts))
+    Ok(whole_chain(name.to_plain_name(alloc)?, place, line, parts))
 }
 
 /// Adds the chain of a statement in ScanStructures, if it is one.

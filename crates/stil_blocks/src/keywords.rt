@@ -20,8 +20,8 @@ fn add_name(
     let mut behind = rest.again();
     match behind.name() {
         Some(name) => {
-            let copy = name.to_name(alloc)?;
-            names.push(copy)?;
+            let plain = name.to_plain_name(alloc)?;
+            names.push(plain)?;
             *rest = behind;
             Ok(())
         }

@@ -1,7 +1,9 @@
 -- The judge of the parts of a STIL text: what is wrong with each, if anything is.
 use Rattle.std.specs.Prelude.{ℕ, ◌||◌, not, if◌then◌else◌, List, [], ◌∷◌, codes, Option, Some, None}
 use Rattle.std.specs.Str.{bytes_eq}
+use Rattle.base_types.specs.Names.{plain_name}
 use Rattle.token_forms.specs.Tokens.{Token}
+use Rattle.token_forms.specs.Parsing.{◌>>=◌}
 use Rattle.base_types.specs.declared.kind.Kind.{Kind}
 use Rattle.base_types.specs.declared.kind.Kind.TheVariants.{PatternSyntax, PatternUnsupported}
 use Rattle.stil_tokens.specs.StilTokens.{tokens_in}
@@ -27,9 +29,9 @@ abbrev pub opens_by : List Token → Option (List ℕ)
 opens_by [] = None
 opens_by (t ∷ ts) = if bytes_eq t.text (codes "Pattern") then opened_name (name_at ts) else None
 
--- the name of the Pattern that bytes open
+-- the plain name of the Pattern that bytes open
 unfoldable pub opened_in : List ℕ → Option (List ℕ)
-opened_in text = opens_by (behind_labels (tokens_in text))
+opened_in text = opens_by (behind_labels (tokens_in text)) >>= λ name. Some (plain_name name)
 
 -- what opens a Pattern has this form
 abbrev pub opening_kind : Option (List ℕ) → Option Kind

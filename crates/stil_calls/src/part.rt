@@ -39,7 +39,7 @@ fn opens_by<'a>(tokens: &Stretch<'a, '_>) -> Option<NameText<'a>>
     }
 }
 
-/// The name of the Pattern that these bytes open, up to and with their `{`; None where they aren't labels, the word `Pattern`,
+/// The plain name of the Pattern that these bytes open, up to and with their `{`; None where they aren't labels, the word `Pattern`,
 /// one name and `{`. Or want of memory.
 #[tactic(auto, unfolding(crate::specs::Parts::opened_in))]
 pub fn opened_name(alloc: Global, text: &[u8]) -> Result<Option<Name>, NoMemory>
@@ -48,7 +48,7 @@ pub fn opened_name(alloc: Global, text: &[u8]) -> Result<Option<Name>, NoMemory>
 {
     let spans = stil_tokens(alloc, text)?;
     match opens_by(&behind_labels(&Stretch::of(text, &spans))) {
-        Some(name) => Ok(Some(name.to_name(alloc)?)),
+        Some(name) => Ok(Some(name.to_plain_name(alloc)?)),
         None => Ok(None),
     }
 }

@@ -2,6 +2,7 @@
 use Rattle.std.proofs.Common.{◌≡◌, ℕ, Bool, true, ◌||◌, ◌&&◌, cond, List, [], ◌∷◌, ◌++◌, Option, Some, None, refl, sym, ap, ◌∙◌}
 use Rattle.std.specs.List.{flat_map}
 use Rattle.std.specs.Prelude.{codes}
+use Rattle.base_types.specs.Names.{plain_name}
 use Rattle.token_forms.specs.Tokens.{Token}
 use Rattle.stil_syntax.specs.Names.{name_at}
 use Rattle.stil_syntax.specs.Shapes.{begins_behind, in_block}
@@ -25,7 +26,7 @@ same_places f g same b (t ∷ ts) =
 
 same_passes : (f g : List ℕ → Bool) → ((q : List ℕ) → f q ≡ g q) → (n : Option (List ℕ × List Token)) → name_passes f n ≡ name_passes g n
 same_passes f g same None = refl
-same_passes f g same (Some n) = same n.0
+same_passes f g same (Some n) = same (plain_name n.0)
 
 module _ (f g p q : List ℕ → Bool) (first : (name : List ℕ) → f name ≡ g name) (second : (name : List ℕ) → p name ≡ q name) where
   same_calls : (ts : List Token) → calls_scan f p ts ≡ calls_scan g q ts

@@ -4,6 +4,7 @@
 use Rattle.std.specs.Prelude.{ℕ, ◌+◌, ◌-◌, Bool, true, false, ◌&&◌, ◌||◌, not, ◌==◌, nat_le, if◌then◌else◌, List, [], ◌∷◌, ◌++◌, map, filter, drop, codes, Option, Some, None}
 use Rattle.std.specs.List.{flat_map, list_any, count_by}
 use Rattle.std.specs.Str.{bytes_eq}
+use Rattle.base_types.specs.Names.{plain_name}
 use Rattle.token_forms.specs.Tokens.{Token}
 use Rattle.token_forms.specs.Classes.{is_among}
 use Rattle.stil_tokens.specs.StilStatements.{is_only}
@@ -63,10 +64,10 @@ scan_names callees = map (λ c. c.callee.name) (filter (λ c. c.callee.scan) cal
 abbrev pub is_name_of : List (List ℕ) → List ℕ → Bool
 is_name_of names name = list_any (bytes_eq name) names
 
--- the name in front passes a test
+-- the name in front passes a test, as a plain name
 abbrev pub name_passes : (List ℕ → Bool) → Option (List ℕ × List Token) → Bool
 name_passes test None = false
-name_passes test (Some n) = test n.0
+name_passes test (Some n) = test (plain_name n.0)
 
 -- the same by all tokens
 abbrev pub names_one : (List ℕ → Bool) → List Token → Bool

@@ -1,6 +1,6 @@
 //! The head of a STIL text.
 ghost use Rattle.std.specs.Prelude.{◌≡◌, ◌<◌, ◌^◌, true, map, length, IfOk, OnOk};
-ghost use Rattle.std.specs.List.{list_any};
+ghost use Rattle.std.specs.List.{flat_map, list_any};
 ghost use Rattle.base_types.specs.declared.fault.Fault.{Fault as ghost_fault};
 ghost use Rattle.base_types.specs.FirstFault.{IfFault, IsFirstFault};
 ghost use Rattle.base_types.specs.Lines.{line_at};
@@ -9,6 +9,7 @@ ghost use Rattle.base_types.specs.declared.fault.FileKind.TheVariants.{Stil as s
 ghost use Rattle.base_types.specs.declared.fault.ReadFault.TheVariants.{Fault as refused};
 ghost use Rattle.stil_types.specs.declared.head.StilHead.{StilHead as ghost_head};
 ghost use Rattle.stil_syntax.specs.Shapes.{body_statements};
+ghost use Rattle.stil_blocks.specs.Callees.{statement_keywords};
 ghost use Rattle.stil_head.specs.Heads.{DenotesHead, IsHead, SaysAll, IsLeftFault};
 ghost use Rattle.stil_head.specs.Faults.{HoldsInHead, HoldsInText};
 
@@ -21,7 +22,7 @@ use std::alloc::Global;
 use stil_blocks::{ReadCallee, ReadChain, read_callees, read_chains, read_keywords};
 use stil_syntax::Stretch;
 use stil_tokens::stil_tokens;
-use stil_types::{Callee, ScanChainDecl, StilHead};
+use stil_types::{Callees, Keywords, ScanChainDecl, StilHead};
 
 /// The fault of a kind at a place.
 fn fault_at(text: &[u8], kind: Kind, place: u32) -> ReadFault
@@ -43,14 +44,22 @@ fn decls_of(alloc: Global, chains: Rows<ReadChain>) -> Result<Rows<ScanChainDecl
 }
 
 /// Procedures or macros without their places.
-fn callees_in(alloc: Global, read: Rows<ReadCallee>) -> Result<Rows<Callee>, NoMemory>
+fn callees_in(alloc: Global, read: Rows<ReadCallee>) -> Result<Callees, NoMemory>
     ensures value { IfOk result (λ callees. callees ≡ map (λ c. c.callee) read) }
 {
     let mut callees = Vec::new(alloc);
     for one in read.into_vec() {
         callees.push(one.callee)?;
     }
-    Ok(Rows::of(callees))
+    Callees::of(alloc, Rows::of(callees))
+}
+
+/// The names in UserKeywords.
+fn keywords_in(alloc: Global, tokens: &Stretch<'_, '_>) -> Result<Keywords, NoMemory>
+    ensures value { IfOk result (λ keywords. keywords ≡ flat_map statement_keywords (body_statements tokens.now)) }
+{
+    let names = read_keywords(alloc, tokens)?;
+    Keywords::of(alloc, names)
 }
 
 /// Whether a `!` stands in the ScanCells of one of these chains.
@@ -97,7 +106,7 @@ fn head_of(
         chains: decls_of(alloc, chains)?,
         procedures: callees_in(alloc, procedures)?,
         macros: callees_in(alloc, macros)?,
-        keywords: read_keywords(alloc, tokens)?,
+        keywords: keywords_in(alloc, tokens)?,
         marks,
         end: text.len() as u32,
     })

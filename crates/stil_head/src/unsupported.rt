@@ -143,13 +143,13 @@ fn scan_names<'a>(alloc: Global, callees: &'a [ReadCallee]) -> Result<Names<'a>,
     Ok(names)
 }
 
-/// Whether the name in front of some tokens is there.
+/// Whether the name in front of some tokens is there, without its backslashes.
 fn names_one(alloc: Global, names: &Names<'_>, tokens: &Stretch<'_, '_>) -> Result<bool, NoMemory>
     ensures value { IfOk result (λ is. is ≡ names_one (is_name_of names.now) tokens.now) }
 {
     let mut rest = tokens.again();
     match rest.name() {
-        Some(name) => Ok(names.has(name.to_name(alloc)?.bytes())),
+        Some(name) => Ok(names.has(name.to_plain_name(alloc)?.bytes())),
         None => Ok(false),
     }
 }

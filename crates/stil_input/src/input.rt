@@ -19,7 +19,7 @@ const ROOM: usize = 65536;
 /// What comes next of a STIL text behind its head.
 #[derive(Debug, Drop)]
 pub enum Said {
-    /// Bytes that belong to no statement; where they end with the brace of a Pattern, its name.
+    /// Bytes that belong to no statement; where they end with the brace of a Pattern, its plain name.
     Gap { text: Text, pattern: Option<Name> },
     /// A statement of a Pattern.
     Statement(PatternStatement),

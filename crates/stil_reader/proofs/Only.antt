@@ -1,6 +1,7 @@
 -- At most one value is denoted, and at most one fault is the first.
-use Rattle.std.proofs.Common.{◌≡◌, ℕ, List, Some, sym, ap, subst, ◌∙◌, inl}
+use Rattle.std.proofs.Common.{◌≡◌, ℕ, List, ◌++◌, take, Some, None, sym, ap, subst, ◌∙◌, inl}
 use Rattle.std.proofs.lemmas.Option.{same_Some}
+use Rattle.std.proofs.lemmas.List.{take-append-drop}
 use Rattle.base_types.specs.declared.fault.Fault.{Fault}
 use Rattle.base_types.specs.declared.fault.FileKind.TheVariants.{Stil}
 use Rattle.base_types.specs.Faults.{at_line}
@@ -16,7 +17,7 @@ use Rattle.stil_head.specs.Heads.{DenotesHead}
 use Rattle.stil_head.proofs.Texts.{only_head}
 use Rattle.stil_reader.specs.declared.stil.Stil.{Stil as read_stil}
 use Rattle.stil_reader.specs.declared.stil.Judged.{Judged}
-use Rattle.stil_reader.specs.Patterns.{patterns_told, SaysPatterns, DenotesStil, IsJudged, HoldsBehind, HoldsInStil, InHead, InPatterns}
+use Rattle.stil_reader.specs.Patterns.{patterns_told, SaysPatterns, DenotesStil, IsJudged, MakesUp, HoldsBehind, HoldsInStil, InHead, InPatterns}
 use Rattle.stil_reader.specs.Reading.{IsReadBy}
 use Rattle.stil_reader.proofs.Heads.{no_head_fault}
 
@@ -72,3 +73,21 @@ first_in_head bytes fault first = record { holds = InHead first.holds; least = l
 pub first_behind : (judging : Judging) (bytes : List ℕ) (head : StilHead) (fault : Fault) → HoldsBehind judging bytes head fault → IsFirstFault (HoldsBehind judging bytes head) fault
 first_behind judging bytes head fault h =
     first_of (HoldsBehind judging bytes head) fault h (λ g k. inl (k.2 ∙ ap (λ (p : PartFault). at_line p.kind Stil p.line) (same_Some _ _ (sym k.1 ∙ h.1)) ∙ sym h.2))
+
+-- where the patterns behind a head are read, nothing is wrong with them
+pub no_fault_behind : (judging : Judging) (bytes : List ℕ) (head : StilHead) (judged : Judged) → IsReadBy judging bytes head judged → (fault : Fault) → HoldsBehind judging bytes head fault → ⊥
+no_fault_behind judging bytes head judged r fault h = let e : None ≡ Some h.0 = sym r.says.sound ∙ h.1 in absurd cc
+
+-- they are what is judged, and make up the text
+module _ (bytes : List ℕ) (head : StilHead) (judged : Judged) (r : IsReadBy Lengths bytes head judged) where
+  pub is_judged : IsJudged bytes head judged
+  is_judged = record { says = r.says; gaps = r.gaps }
+
+  pub makes_up : MakesUp bytes head judged
+  makes_up = record { count = r.count; whole = ap (λ (l : List ℕ). take head.end bytes ++ l) r.pieces ∙ take-append-drop head.end bytes }
+
+-- and nothing is wrong with the text
+pub no_stil_fault : (bytes : List ℕ) (head : StilHead) → DenotesHead bytes head → (judged : Judged) → IsReadBy Form bytes head judged → (fault : Fault) → HoldsInStil bytes fault → ⊥
+no_stil_fault bytes head d judged r fault (InHead k) = no_head_fault bytes head d fault k
+no_stil_fault bytes head d judged r fault (InPatterns other o k) =
+    no_fault_behind Form bytes head judged r fault (subst (λ (x : StilHead). HoldsBehind Form bytes x fault) (only_head bytes head other d o) k)

@@ -17,7 +17,7 @@ use stil_types::{PatternStatement, StilHead};
 /// What the patterns of a text say next.
 #[derive(Drop)]
 pub enum PatternItem {
-    /// A Pattern of this name opens.
+    /// A Pattern of this plain name opens.
     Named(Name),
     /// A statement of a Pattern.
     Stated(PatternStatement),
@@ -124,5 +124,10 @@ impl<'a> PatternCursor<'a> {
         self.point = taken.point;
         self.rest = taken.rest;
         Ok(Some(taken.item))
+    }
+
+    /// How many bytes stand behind the item that was taken last, up to the end of the text.
+    pub fn left(&self) -> usize {
+        self.rest.len()
     }
 }

@@ -19,7 +19,7 @@ use stil_types::{PatternStatement, StilHead};
 /// A piece of the patterns.
 #[derive(Drop)]
 pub(crate) enum Piece {
-    /// Bytes that belong to no statement; where a Pattern opens behind them, its name.
+    /// Bytes that belong to no statement; where a Pattern opens behind them, its plain name.
     Gap(Option<Name>),
     Statement(PatternStatement),
 }

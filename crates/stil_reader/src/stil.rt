@@ -7,7 +7,7 @@ use stil_types::{PatternStatement, StilHead};
 #[derive(Debug, Drop)]
 pub struct Stil {
     pub head: StilHead,
-    /// The names of the Patterns in order.
+    /// The plain names of the Patterns in order.
     pub patterns: Rows<Name>,
     /// The statements of all Patterns in order.
     pub statements: Rows<PatternStatement>,

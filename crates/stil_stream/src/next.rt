@@ -17,7 +17,7 @@ pub enum HeadNext {
 pub enum Next {
     /// More bytes, or the end of the input: the bytes kept show nothing.
     Want,
-    /// Bytes that belong to no statement; where a Pattern opens behind them, its name.
+    /// Bytes that belong to no statement; where a Pattern opens behind them, its plain name.
     Gap { text: Text, pattern: Option<Name> },
     /// A statement of a Pattern.
     Statement { statement: PatternStatement },

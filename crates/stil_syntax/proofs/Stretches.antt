@@ -1,5 +1,5 @@
 -- Tokens at some spans, cut in two.
-use Rattle.std.proofs.Common.{◌≡◌, ◌<◌, ◌-◌, ℕ, zero, suc, Bool, true, false, cond, ◌&&◌, nat_eq, List, [], ◌∷◌, ◌++◌, length, take, drop, Some, refl, ap, subst, arith}
+use Rattle.std.proofs.Common.{◌≡◌, ◌<◌, ◌-◌, ℕ, zero, suc, Bool, true, false, cond, ◌&&◌, ◌||◌, nat_eq, List, [], ◌∷◌, ◌++◌, length, take, drop, Some, refl, sym, ap, ◌∙◌, subst, arith}
 use Rattle.std.proofs.lemmas.Option.{same_Some}
 use Rattle.base_types.specs.declared.span.Span.{Span}
 use Rattle.token_forms.specs.Tokens.{Token, token_of, tokens_of, AreSpansOf}
@@ -7,7 +7,7 @@ use Rattle.token_forms.proofs.Spelled.{choose}
 use Rattle.stil_tokens.specs.StilStatements.{is_only, statements_within, stil_statements}
 use Rattle.stil_syntax.specs.Names.{is_word, is_string, inner, string_at, name_at}
 use Rattle.stil_types.specs.declared.head.StilHead.{StilHead}
-use Rattle.stil_syntax.specs.Shapes.{before_block, behind_within, is_scan_call, holds_scan}
+use Rattle.stil_syntax.specs.Shapes.{before_block, behind_within, begins_behind, is_scan_call, holds_scan}
 
 pub take_spans : (text : List ℕ) (n : ℕ) (ss : List Span) → tokens_of text (take n ss) ≡ take n (tokens_of text ss)
 take_spans text zero ss = refl
@@ -65,3 +65,18 @@ pub holds_here : (head : StilHead) (ts : List Token) (b : Bool) → b ≡ true �
 unfolding behind_within
 holds_here head [] b e h = absurd cc
 holds_here head (t ∷ ts) b e h = rw (e, h) refl
+
+both_true : (a b : Bool) → (a && b) ≡ true → (a ≡ true) × (b ≡ true)
+both_true true b e = (refl, e)
+both_true false b e = absurd cc
+
+-- a scan call that begins here is held, and where none does, what is held stands behind the token
+pub holds_found : (head : StilHead) (ts : List Token) (b x : Bool) → x ≡ (b && is_scan_call head ts) → x ≡ true → true ≡ holds_scan head b ts
+holds_found head ts b x is sure = let k = both_true b (is_scan_call head ts) (sym is ∙ sure) in holds_here head ts b k.0 k.1
+
+pub holds_on : (head : StilHead) (ts rest : List Token) (t : Token) (b x next total : Bool) → ts ≡ t ∷ rest → x ≡ (b && is_scan_call head ts) → x ≡ false → next ≡ begins_behind t.text → holds_scan head b ts ≡ total
+    → holds_scan head next rest ≡ total
+holds_on head ts rest t b x next total cut is other behind e =
+    ap (λ (n : Bool). holds_scan head n rest) behind
+    ∙ ap (λ (k : Bool). k || holds_scan head (begins_behind t.text) rest) (sym other ∙ is ∙ ap (λ (l : List Token). b && is_scan_call head l) cut)
+    ∙ ap (holds_scan head b) (sym cut) ∙ e

@@ -2,11 +2,13 @@
 use Rattle.std.specs.Prelude.{ℕ, zero, suc, ◌-◌, Bool, true, false, ◌&&◌, ◌||◌, not, ◌==◌, nat_le, if◌then◌else◌, List, [], ◌∷◌, length, take, filter, codes, Option, Some, None}
 use Rattle.std.specs.List.{list_any, list_all}
 use Rattle.std.specs.Str.{bytes_eq}
+use Rattle.base_types.specs.Names.{plain_name}
 use Rattle.token_forms.specs.Tokens.{Token}
 use Rattle.token_forms.specs.Classes.{is_among}
 use Rattle.stil_tokens.specs.StilStatements.{is_only, is_note, is_closed, depth_behind, stil_statements}
 use Rattle.stil_types.specs.declared.head.StilHead.{StilHead}
 use Rattle.stil_types.specs.declared.head.Callee.{Callee}
+use Rattle.stil_types.specs.Callees.{is_known, scan_of}
 use Rattle.stil_syntax.specs.declared.item.Item.{Item}
 use Rattle.stil_syntax.specs.declared.shape.Shape.{Shape}
 use Rattle.stil_syntax.specs.declared.shape.Shape.TheVariants.{NoForm, Unsupported, Other, Scan, Loop}
@@ -46,10 +48,9 @@ closes_nothing depth (t ∷ ts) = (is_only 125 t.text && depth == 0) || closes_n
 abbrev pub is_call : List ℕ → Bool
 is_call word = bytes_eq word (codes "Call") || bytes_eq word (codes "Macro")
 
--- whether the procedure or macro of a name is a scan procedure; None where none has the name
+-- whether the procedure or macro of a name is a scan procedure, by plain names; None where none has the name
 abbrev pub scans_by : List Callee → List ℕ → Option Bool
-scans_by [] name = None
-scans_by (c ∷ cs) name = if bytes_eq name c.name then Some c.scan else scans_by cs name
+scans_by callees name = scan_of callees (plain_name name)
 
 -- what a Call or a Macro can name
 abbrev pub callees : StilHead → List ℕ → List Callee
@@ -89,9 +90,9 @@ other_words =
     codes "W" ∷ codes "WaveformTable" ∷ codes "V" ∷ codes "Vector" ∷ codes "C" ∷ codes "Condition" ∷ codes "F" ∷ codes "Fixed"
     ∷ codes "Ann" ∷ codes "IddqTestPoint" ∷ codes "IDDQTestPoint" ∷ codes "BreakPoint" ∷ codes "Stop" ∷ []
 
--- a word of these, or one listed in a UserKeywords statement
+-- a word of these, or one listed in a UserKeywords statement, by plain names
 abbrev pub passes_unread : StilHead → List ℕ → Bool
-passes_unread head word = is_among other_words word || list_any (λ k. bytes_eq k word) head.keywords
+passes_unread head word = is_among other_words word || is_known head.keywords (plain_name word)
 
 -- what passes unread holds no scan call
 abbrev pub other_shape : StilHead → List Token → Shape

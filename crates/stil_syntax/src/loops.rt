@@ -1,5 +1,5 @@
 //! The word Loop and what stands behind it.
-ghost use Rattle.std.specs.Prelude.{◌≡◌, ◌<◌, ◌≤◌, ◌∷◌, [], length, MatchOption, IfSome};
+ghost use Rattle.std.specs.Prelude.{◌≡◌, ◌<◌, ◌≤◌, ◌∷◌, [], length, MatchOption, IfSome, IfOk};
 ghost use Rattle.std.specs.List.{list_all, list_any};
 ghost use Rattle.token_forms.specs.Tokens.{Token};
 ghost use Rattle.stil_tokens.specs.StilStatements.{stil_statements};
@@ -10,6 +10,8 @@ use crate::callee::is_scan_call;
 use crate::digits::{count_from, is_digit};
 use crate::shape::{Shape, other_shape};
 use crate::stretch::Stretch;
+use base_types::NoMemory;
+use std::alloc::Global;
 use stil_types::StilHead;
 
 /// How many tokens stand before the first `{`.
@@ -58,16 +60,16 @@ pub fn in_block<'a, 's>(tokens: &Stretch<'a, 's>) -> Stretch<'a, 's>
 }
 
 /// Whether a scan call stands directly among some statements.
-fn has_scan_call(head: &StilHead, tokens: &Stretch<'_, '_>) -> bool
-    ensures value { result ≡ list_any (is_scan_call head.now) (stil_statements tokens.now) }
+fn has_scan_call(alloc: Global, head: &StilHead, tokens: &Stretch<'_, '_>) -> Result<bool, NoMemory>
+    ensures value { IfOk result (λ has. has ≡ list_any (is_scan_call head.now) (stil_statements tokens.now)) }
 {
     let mut rest = tokens.again();
     while let Some(statement) = rest.statement() {
-        if is_scan_call(head, &statement) {
-            return true;
+        if is_scan_call(alloc, head, &statement)? {
+            return Ok(true);
         }
     }
-    false
+    Ok(false)
 }
 
 fn are_digits(text: &[u8]) -> bool
@@ -102,16 +104,20 @@ fn loop_times(tokens: &Stretch<'_, '_>) -> Option<u32>
 }
 
 /// A Loop by its number and its block, outside the block of another.
-pub(crate) fn loop_shape<'a, 's>(head: &StilHead, tokens: &Stretch<'a, 's>) -> Shape<'a, 's>
-    ensures value { result ≡ loop_shape head.now tokens.now }
+pub(crate) fn loop_shape<'a, 's>(
+    alloc: Global,
+    head: &StilHead,
+    tokens: &Stretch<'a, 's>,
+) -> Result<Shape<'a, 's>, NoMemory>
+    ensures value { IfOk result (λ s. s ≡ loop_shape head.now tokens.now) }
 {
     let body = in_block(tokens);
-    if !has_scan_call(head, &body) {
-        return other_shape(head, tokens);
+    if !has_scan_call(alloc, head, &body)? {
+        return other_shape(alloc, head, tokens);
     }
     match loop_times(&before_block(tokens)) {
-        Some(times) => Shape::Loop(times, body),
-        None => Shape::Unsupported,
+        Some(times) => Ok(Shape::Loop(times, body)),
+        None => Ok(Shape::Unsupported),
     }
 }
 

@@ -63,7 +63,7 @@ impl<'a> NameText<'a> {
 
     /// The name without its backslashes, as a value of its own. One that is short and has none takes no memory.
     #[tactic(auto, using(crate::proofs::NameTexts::plain_front))]
-    pub(crate) fn to_plain_name(&self, alloc: Global) -> Result<Name, NoMemory>
+    pub fn to_plain_name(&self, alloc: Global) -> Result<Name, NoMemory>
         ensures value { IfOk result (λ name. name ≡ plain_name self.now) }
     {
         if self.back.is_empty() && !self.front.contains(&b'\\') {

@@ -1,8 +1,8 @@
 //! What form a statement has.
 ghost use Rattle.std.specs.Prelude.{◌≡◌, IfOk, true, false};
-ghost use Rattle.std.specs.List.{list_any};
-ghost use Rattle.std.specs.Str.{bytes_eq};
+ghost use Rattle.base_types.specs.Names.{plain_name};
 ghost use Rattle.token_forms.specs.Classes.{is_among};
+ghost use Rattle.stil_types.specs.Callees.{is_known};
 ghost use Rattle.stil_syntax.specs.Grammar.{call_end};
 ghost use Rattle.stil_syntax.specs.Names.{name_at};
 ghost use Rattle.stil_syntax.specs.Shapes.{other_words, passes_unread, other_shape, scan_shape, callee_shape, call_shape, loop_shape, word_shape, unlabelled_shape, shape_of};
@@ -13,7 +13,7 @@ use crate::labels::{behind_labels, closes_nothing};
 use crate::loops::loop_shape;
 use crate::stretch::Stretch;
 use crate::words::is_word;
-use base_types::{NoMemory, Stop};
+use base_types::{NoMemory, Stop, plain_name};
 use std::alloc::Global;
 use stil_types::StilHead;
 use token_forms::{Parser, Read};
@@ -53,27 +53,35 @@ fn is_other_word(word: &[u8]) -> bool
 }
 
 /// Whether the word is listed in a UserKeywords statement.
-fn is_keyword(head: &StilHead, word: &[u8]) -> bool
-    ensures { result ≡ list_any (λ k. bytes_eq k word.now) head.now.keywords }
+fn is_keyword(alloc: Global, head: &StilHead, word: &[u8]) -> Result<bool, NoMemory>
+    ensures value { IfOk result (λ is. is ≡ is_known head.now.keywords (plain_name word.now)) }
 {
-    head.keywords.as_slice().iter().any(|k| k.bytes() == word)
+    let plain = plain_name(alloc, word)?;
+    Ok(head.keywords.has(plain.bytes()))
 }
 
 /// Such a word, or one listed in a UserKeywords statement.
-fn passes_unread(head: &StilHead, word: &[u8]) -> bool
-    ensures value { result ≡ passes_unread head.now word.now }
+fn passes_unread(alloc: Global, head: &StilHead, word: &[u8]) -> Result<bool, NoMemory>
+    ensures value { IfOk result (λ passes. passes ≡ passes_unread head.now word.now) }
 {
-    is_other_word(word) || is_keyword(head, word)
+    if is_other_word(word) {
+        return Ok(true);
+    }
+    is_keyword(alloc, head, word)
 }
 
 /// A statement that passes unread, unless it holds a scan call.
-pub(crate) fn other_shape<'a, 's>(head: &StilHead, tokens: &Stretch<'_, '_>) -> Shape<'a, 's>
-    ensures value { result ≡ other_shape head.now tokens.now }
+pub(crate) fn other_shape<'a, 's>(
+    alloc: Global,
+    head: &StilHead,
+    tokens: &Stretch<'_, '_>,
+) -> Result<Shape<'a, 's>, NoMemory>
+    ensures value { IfOk result (λ s. s ≡ other_shape head.now tokens.now) }
 {
-    if holds_scan(head, tokens) {
-        Shape::Unsupported
+    if holds_scan(alloc, head, tokens)? {
+        Ok(Shape::Unsupported)
     } else {
-        Shape::Other
+        Ok(Shape::Other)
     }
 }
 
@@ -110,7 +118,7 @@ fn callee_shape<'a, 's>(
     match scan {
         None => Ok(Shape::Unsupported),
         Some(true) => scan_shape(alloc, tokens),
-        Some(false) => Ok(other_shape(head, tokens)),
+        Some(false) => other_shape(alloc, head, tokens),
     }
 }
 
@@ -125,7 +133,10 @@ fn call_shape<'a, 's>(
 {
     let mut rest = tokens.again();
     match rest.name() {
-        Some(name) => callee_shape(alloc, head, &rest, callee_of(head, word, &name)),
+        Some(name) => {
+            let scan = callee_of(alloc, head, word, &name)?;
+            callee_shape(alloc, head, &rest, scan)
+        }
         None => Ok(Shape::NoForm),
     }
 }
@@ -145,12 +156,12 @@ fn word_shape<'a, 's>(
     }
     if word == b"Loop".as_slice() {
         if inside {
-            return Ok(other_shape(head, tokens));
+            return other_shape(alloc, head, tokens);
         }
-        return Ok(loop_shape(head, tokens));
+        return loop_shape(alloc, head, tokens);
     }
-    if passes_unread(head, word) {
-        Ok(other_shape(head, tokens))
+    if passes_unread(alloc, head, word)? {
+        other_shape(alloc, head, tokens)
     } else {
         Ok(Shape::Unsupported)
     }

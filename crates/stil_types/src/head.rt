@@ -1,14 +1,16 @@
+use crate::tables::{Callees, Keywords};
 use base_types::{Name, Rows, Span};
 
 /// A ScanChain block (IEEE 1450-1999, ScanStructures).
 #[derive(Debug, Drop)]
 pub struct ScanChainDecl {
+    /// Its plain name.
     pub name: Name,
     /// ScanLength, in bits; one beyond 32 bits is the greatest number of these.
     pub length: u32,
-    /// The port that the chain's first cell is loaded from.
+    /// The plain name of the port that the chain's first cell is loaded from.
     pub scan_in: Name,
-    /// The port that shows the chain's last cell.
+    /// The plain name of the port that shows the chain's last cell.
     pub scan_out: Name,
     /// ScanInversion, where it stands: whether the output shows the inverse of what the input gave.
     pub inversion: Option<bool>,
@@ -27,6 +29,7 @@ pub struct ScanChainDecl {
 /// A procedure or macro that a Pattern can call (IEEE 1450-1999, Procedures and MacroDefs).
 #[derive(Debug, Drop)]
 pub struct Callee {
+    /// Its plain name.
     pub name: Name,
     /// Whether its statements hold a Shift.
     pub scan: bool,
@@ -36,10 +39,10 @@ pub struct Callee {
 #[derive(Debug)]
 pub struct StilHead {
     pub chains: Rows<ScanChainDecl>,
-    pub procedures: Rows<Callee>,
-    pub macros: Rows<Callee>,
-    /// The names in UserKeywords statements.
-    pub keywords: Rows<Name>,
+    pub procedures: Callees,
+    pub macros: Callees,
+    /// The plain names in UserKeywords statements.
+    pub keywords: Keywords,
     /// Whether any ScanCells has a `!`.
     pub marks: bool,
     /// The byte place at which the head ends.

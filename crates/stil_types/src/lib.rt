@@ -4,7 +4,10 @@
 #![tactic(auto)]
 
 mod head;
+mod sorted;
 mod statement;
+mod tables;
 
 pub use head::{Callee, ScanChainDecl, StilHead};
 pub use statement::{BodyStatement, PatternStatement, ScanCall};
+pub use tables::{Callees, Keywords};

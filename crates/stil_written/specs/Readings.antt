@@ -1,6 +1,7 @@
 -- How a statement of a Pattern is read beside the data of its scan calls (IEEE 1450-1999, Pattern statements): by its tokens, and by its
--- heading, which is its labels, its word and what it calls, each by its name.
+-- heading, which is its labels, its word and what it calls, each by its plain name.
 use Rattle.std.specs.Prelude.{ℕ, zero, suc, if◌then◌else◌, List, [], ◌∷◌, ◌++◌, length, Option, Some, None}
+use Rattle.base_types.specs.Names.{plain_name}
 use Rattle.token_forms.specs.Tokens.{Token}
 use Rattle.token_forms.specs.Parts.{token_texts}
 use Rattle.stil_tokens.specs.StilTokens.{tokens_in}
@@ -8,10 +9,10 @@ use Rattle.stil_syntax.specs.Names.{name_at}
 use Rattle.stil_syntax.specs.Shapes.{label_at, behind_labels, is_call}
 use Rattle.stil_tester.specs.Meaning.{Reading}
 
--- a name, where one stands there
+-- a name without its backslashes, where one stands there
 abbrev pub name_there : Option (List ℕ × List Token) → List (List ℕ)
 name_there None = []
-name_there (Some n) = n.0 ∷ []
+name_there (Some n) = plain_name n.0 ∷ []
 
 -- the names of the labels, of which there are no more than so many
 unfoldable pub label_names : ℕ → List Token → List (List ℕ)

@@ -1,5 +1,9 @@
-use Rattle.std.proofs.Common.{◌≡◌, ℕ, ◌<◌, get_or, map, []}
+use Rattle.std.proofs.Common.{◌≡◌, length}
+use Rattle.std.specs.Prelude.{◌↔◌}
 use Rattle.stil_alike.proofs.head.are_equal.Given as goal
 
-abbrev pub invariant-loop-index : goal.invariant-loop-index
-invariant-loop-index l = (k : ℕ) → k < l.index → get_or (map (λ text. text.now) l.a) k [] ≡ get_or (map (λ text. text.now) l.b) k []
+abbrev pub invariant-loop-token : goal.invariant-loop-token
+invariant-loop-token l = (l.fn.a ≡ l.fn.b) ↔ (l.a ≡ l.b)
+
+abbrev pub decreases-loop-token : goal.decreases-loop-token
+decreases-loop-token l = length l.a

@@ -35,7 +35,7 @@ returns-clause-value c =
       chains_are = c.in_ok-decls_of.ensures.value;
       procedures_are = c.in_ok-callees_in.ensures.value;
       macros_are = c.in_ok-callees_in-2.ensures.value;
-      keywords = c.in_ok-read_keywords.ensures.value;
+      keywords = c.in_ok-keywords_in.ensures.value;
       marks = c.any_marks-marks.ensures.value ∙ ap (λ (l : List ReadChain). list_any (λ c. c.marks) l) c.as_slice-7.ensures.value;
       end = omega (arith, c.requires.size);
     }

@@ -8,7 +8,7 @@ use Rattle.stil_head.specs.Faults.{HoldsInHead}
 use Rattle.stil_reader.specs.declared.stil.Judged.{Judged}
 use Rattle.stil_reader.specs.Patterns.{HoldsBehind, HoldsInStil}
 use Rattle.stil_reader.proofs.Heads.{head_within}
-use Rattle.stil_reader.proofs.Only.{only_stil, first_in_head, first_in_patterns}
+use Rattle.stil_reader.proofs.Only.{only_stil, first_in_head, first_in_patterns, no_stil_fault}
 use Rattle.stil_reader.proofs.read.read_stil.Goals as goal
 
 pub read_patterns-requires-clause-within : goal.read_patterns-requires-clause-within
@@ -32,3 +32,6 @@ returns-in_err-read_patterns-clause-first c =
 
 pub returns-clause-only : goal.returns-clause-only
 returns-clause-only c = only_stil c.args.bytes.now c.in_ok-head.head c.in_ok-head.ensures.value c.in_ok-read_patterns.field-0 c.in_ok-read_patterns.ensures.value
+
+pub returns-clause-no_fault : goal.returns-clause-no_fault
+returns-clause-no_fault c = no_stil_fault c.args.bytes.now c.in_ok-head.head c.in_ok-head.ensures.value c.in_ok-read_patterns.field-0 c.in_ok-read_patterns.ensures.value

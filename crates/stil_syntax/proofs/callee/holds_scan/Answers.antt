@@ -1,7 +1,6 @@
-use Rattle.std.proofs.Common.{◌∙◌, sym}
-use Rattle.stil_syntax.proofs.Stretches.{holds_here}
+use Rattle.std.proofs.Common.{◌∙◌}
+use Rattle.stil_syntax.proofs.Stretches.{holds_found}
 use Rattle.stil_syntax.proofs.callee.holds_scan.Goals as goal
 
-pub returns-then-is_scan_call : goal.returns-then-is_scan_call
-returns-then-is_scan_call c =
-    record { value = holds_here c.args.head.now c.loop-begins.rest c.loop-begins.begins c.if-begins.true (sym c.is_scan_call.ensures.value ∙ c.if-is_scan_call.true) ∙ c.loop-begins.invariant }
+pub returns-then-found : goal.returns-then-found
+returns-then-found c = record { value = holds_found c.args.head.now c.loop-found.rest c.loop-found.begins c.in_ok-found.found c.in_ok-found.ensures.value c.if-found.true ∙ c.loop-found.invariant }
