@@ -2,7 +2,10 @@
 //!
 //! Nodes are numbers: first the units, then the start and the stop of each chain in turn. Each node knows its chain and its
 //! place in the list. A stretch has room before and behind it, so that units taken out or put in move the shorter side.
-//! What changes together: `places`, `stands` and `at_chain` of each node that is moved.
+//! What changes together: `places`, `stands` and `at_chain` of each node that is moved. Each loop over places or over nodes of
+//! a run ends where the list does (`within`), so that no number that wrapped makes one longer.
+ghost use Rattle.std.specs.Prelude.{◌≤◌, length};
+
 use crate::lists::{at, count, filled, item, part_mut, put};
 use crate::nodes::{Node, way};
 use base_types::NoMemory;
@@ -158,6 +161,20 @@ impl Tours {
         })
     }
 
+    // So many, or as many as the list has places where these are fewer.
+    #[inline(always)]
+    fn within(&self, places: u32) -> u32
+        ensures end { result ≤ length self.now.stands.items }
+        ensures asked { result ≤ places }
+    {
+        let all = self.stands.len();
+        if places as usize <= all {
+            places
+        } else {
+            all as u32
+        }
+    }
+
     /// The node at a place of the list.
     #[inline(always)]
     pub fn node(&self, place: u32) -> u32 {
@@ -274,7 +291,7 @@ impl Tours {
             return self.each.wrapping_mul(nodes);
         }
         let mut bits = 0u32;
-        for t in 0..nodes {
+        for t in 0..self.within(nodes) {
             bits = bits.wrapping_add(self.bits_of(self.node(place.wrapping_add(t))));
         }
         bits
@@ -286,7 +303,7 @@ impl Tours {
         if self.is_plain {
             return more;
         }
-        for place in from..to {
+        for place in from..self.within(to) {
             let next = place.wrapping_add(1);
             more = more.wrapping_add(
                 self.between(next, place)
@@ -300,7 +317,7 @@ impl Tours {
     pub fn length(&self) -> i64 {
         let mut length = 0i64;
         for tour in self.tours.as_slice() {
-            for place in tour.first..tour.last() {
+            for place in tour.first..self.within(tour.last()) {
                 length = length.wrapping_add(self.link_at(place));
             }
         }
@@ -344,7 +361,7 @@ impl Tours {
 
     // Tells the nodes from one place up to another where they stand.
     fn number(&mut self, from: u32, to: u32) {
-        for place in from..to {
+        for place in from..self.within(to) {
             let node = self.node(place);
             put(self.places.as_mut_slice(), node, place);
         }
@@ -393,13 +410,13 @@ impl Tours {
         let end = tour.first.wrapping_add(tour.nodes);
         let nodes = tour.nodes.wrapping_sub(gap);
         if run.from < end.wrapping_sub(behind) {
-            for t in 0..run.from {
+            for t in 0..self.within(run.from) {
                 let place = from.wrapping_sub(1).wrapping_sub(t);
                 self.shift(place, place.wrapping_add(gap));
             }
             self.count_in(run.chain, tour.first.wrapping_add(gap), nodes, tour.bits);
         } else {
-            for place in behind..end {
+            for place in behind..self.within(end) {
                 self.shift(place, place.wrapping_sub(gap));
             }
             self.count_in(run.chain, tour.first, nodes, tour.bits);
@@ -410,7 +427,7 @@ impl Tours {
     fn slide(&mut self, chain: u32) {
         let tour = self.tour(chain);
         let before = tour.room_before();
-        for place in tour.first..tour.first.wrapping_add(tour.nodes) {
+        for place in tour.first..self.within(tour.first.wrapping_add(tour.nodes)) {
             self.shift(place, place.wrapping_sub(before));
         }
         self.count_in(chain, tour.base, tour.nodes, tour.bits);
@@ -430,12 +447,12 @@ impl Tours {
         let nodes = tour.nodes.wrapping_add(gap);
         let shorter = run.from < end.wrapping_sub(from);
         if tour.room_before() >= gap && (shorter || tour.room_behind() < gap) {
-            for place in tour.first..from {
+            for place in tour.first..self.within(from) {
                 self.shift(place, place.wrapping_sub(gap));
             }
             self.count_in(run.chain, tour.first.wrapping_sub(gap), nodes, tour.bits);
         } else {
-            for t in 0..end.wrapping_sub(from) {
+            for t in 0..self.within(end.wrapping_sub(from)) {
                 let place = end.wrapping_sub(1).wrapping_sub(t);
                 self.shift(place, place.wrapping_add(gap));
             }
@@ -446,7 +463,7 @@ impl Tours {
     // Brings a run to a place of another chain.
     fn carry(&mut self, run: Run, chain: u32, to: u32) {
         let from = self.first(run.chain).wrapping_add(run.from);
-        for t in 0..run.nodes {
+        for t in 0..self.within(run.nodes) {
             let node = self.node(from.wrapping_add(t));
             put(self.spare.as_mut_slice(), t, node);
         }
@@ -458,7 +475,7 @@ impl Tours {
         };
         self.open(opened);
         let into = self.first(chain).wrapping_add(to);
-        for t in 0..run.nodes {
+        for t in 0..self.within(run.nodes) {
             let node = at(self.spare.as_slice(), t);
             self.set(chain, into.wrapping_add(t), node);
         }
@@ -479,7 +496,7 @@ impl Tours {
         let taken = self.bits_from(j, other.nodes);
         self.carry_bits(one.chain, other.chain, given.wrapping_sub(taken));
         let both = one.nodes.min(other.nodes);
-        for t in 0..both {
+        for t in 0..self.within(both) {
             let a = self.node(i.wrapping_add(t));
             let b = self.node(j.wrapping_add(t));
             self.set(one.chain, i.wrapping_add(t), b);
@@ -523,7 +540,7 @@ impl Tours {
             let first = tour.base.wrapping_add(tour.room.wrapping_sub(nodes) / 2);
             let start = self.start(chain);
             self.set(chain, first, start);
-            for t in 0..has {
+            for t in 0..self.within(has) {
                 let node = at(units, next);
                 next = next.wrapping_add(1);
                 self.set(chain, first.wrapping_add(1).wrapping_add(t), node);
@@ -534,7 +551,7 @@ impl Tours {
                 start.wrapping_add(1),
             );
             let mut bits = 0u32;
-            for t in 1..nodes.wrapping_sub(1) {
+            for t in 1..self.within(nodes.wrapping_sub(1)) {
                 bits = bits.wrapping_add(self.bits_of(self.node(first.wrapping_add(t))));
             }
             self.count_in(chain, first, nodes, bits);
@@ -548,7 +565,7 @@ impl Tours {
             let tour = self.tour(chain);
             let has = tour.nodes.wrapping_sub(2);
             put(counts, chain, has);
-            for t in 0..has {
+            for t in 0..self.within(has) {
                 let node = self.node(tour.first.wrapping_add(1).wrapping_add(t));
                 put(units, next, node);
                 next = next.wrapping_add(1);

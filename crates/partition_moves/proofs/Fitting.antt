@@ -1,5 +1,5 @@
 -- The most units that a chain of a legal plan holds.
-use Rattle.std.proofs.Common.{◌≡◌, ℕ, zero, suc, ◌+◌, ◌<◌, ◌≤◌, Bool, cond, nat_eq, List, [], ◌∷◌, ◌++◌, length, take, get_or, insert, remove, map, sum_by, count_by, refl, sym, ap, ◌∙◌, arith, subst}
+use Rattle.std.proofs.Common.{◌≡◌, ℕ, zero, suc, ◌+◌, ◌<◌, ◌≤◌, Bool, cond, nat_eq, List, [], ◌∷◌, ◌++◌, length, take, get_or, insert, remove, map, sum_by, count_by, refl, sym, ap, ◌∙◌, arith}
 use Rattle.std.specs.List.{concat, range_with_len}
 use Rattle.std.proofs.lemmas.List.{length-set, take_all}
 use Rattle.std.proofs.lemmas.List.Edits.{length-insert}
@@ -15,6 +15,7 @@ use Rattle.chain_rules.proofs.Steps.{with_chain_same}
 use Rattle.chain_rules.proofs.Totals.{counted-cons, sum_by-map}
 use Rattle.order_search.specs.Trials.{at}
 use Rattle.order_search.proofs.Legal.{chain_few}
+use Rattle.partition_moves.proofs.Spared.{chain_within_spare, roomy_still}
 use Rattle.partition_moves.specs.Roomy.{AreRoomyFor, bitless, most_in, room_in}
 
 one_or_none : (n : ℕ) → 1 ≤ n + cond (nat_eq n 0) 1 0
@@ -54,22 +55,19 @@ counted_in p css c h =
     omega (arith, ap (λ (xs : List ℕ). count_by p xs) (concat_at css c h), sum_by-append f (before css c) (get_or css c [] ++ behind css c), sum_by-append f (get_or css c []) (behind css c))
 
 -- a chain of a legal plan holds no more units than it may
-pub most_in_legal : (rules : Rules) (p : Plan) (c : ℕ) → c < length p.chains → IsLegal rules p → length (chain_at p c) ≤ most_in rules c
+pub most_in_legal : (rules : Rules) (p : Plan) (c : ℕ) → c < length p.chains → IsLegal rules p → length (chain_at p c) ≤ most_in rules p c
 most_in_legal rules p c h legal =
-    omega (arith, chain_few rules p c h legal, few_by_bits rules (chain_at p c), counted_in (λ u. nat_eq (unit_at rules u).bits 0) p.chains c h, bitless_in rules p legal, legal.bounded c h)
+    omega (arith, chain_few rules p c h legal, chain_within_spare rules p c h, few_by_bits rules (chain_at p c), counted_in (λ u. nat_eq (unit_at rules u).bits 0) p.chains c h, bitless_in rules p legal, legal.bounded c h)
 
 -- so there is room where a unit is put, if the plan with it is legal
-pub room_to_land : (rules : Rules) (p : Plan) (rooms : List ℕ) (c i d j : ℕ) → AreRoomyFor rules rooms → IsLegal rules (moved_plan p (at c i) (at d j)) → d < length p.chains → j ≤ length (chain_at (taken_out p (at c i)) d)
+pub room_to_land : (rules : Rules) (p : Plan) (rooms : List ℕ) (c i d j : ℕ) → AreRoomyFor rules p rooms → IsLegal rules p → IsLegal rules (moved_plan p (at c i) (at d j)) → d < length p.chains → j ≤ length (chain_at (taken_out p (at c i)) d)
     → length (chain_at (taken_out p (at c i)) d) < room_in rooms d
-room_to_land rules p rooms c i d j roomy legal h within =
+room_to_land rules p rooms c i d j roomy before legal h within =
     let q : Plan = taken_out p (at c i) in
     let there : d < length q.chains = omega (arith, length-set p.chains c (remove (chain_at p c) i)) in
     let landed = insert (chain_at q d) j (unit_in p (at c i)) in
     let long = ap (λ (us : List ℕ). length us) (with_chain_same q d landed there) in
     let more = length-insert (chain_at q d) j (unit_in p (at c i)) within in
     let still : d < length (moved_plan p (at c i) (at d j)).chains = omega (arith, length-set q.chains d landed) in
-    omega (arith, long, more, most_in_legal rules (moved_plan p (at c i) (at d j)) d still legal, roomy.each d (omega (arith, legal.chains)))
-
--- as roomy as before
-pub roomy_kept : (rules : Rules) (now then : List ℕ) → then ≡ now → AreRoomyFor rules now → AreRoomyFor rules then
-roomy_kept rules now then e roomy = subst (AreRoomyFor rules) (sym e) roomy
+    let after : AreRoomyFor rules (moved_plan p (at c i) (at d j)) rooms = roomy_still rules p (moved_plan p (at c i) (at d j)) rooms before legal roomy in
+    omega (arith, long, more, most_in_legal rules (moved_plan p (at c i) (at d j)) d still legal, after.each d (omega (arith, legal.chains)))

@@ -4,3 +4,6 @@ pub mod Gains
 pub mod Landing
 pub mod Settled
 pub mod Worked
+pub mod Refused
+pub mod Grouped
+pub mod Spared

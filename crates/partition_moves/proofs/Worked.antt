@@ -35,6 +35,10 @@ rooms_push {A} most vs v n e all last k h =
           subst (λ (x : ℕ). most x ≤ room_in (rooms_of (vs ++ v ∷ [])) x) same (omega (arith, here, last)))
     ]
 
+-- the same where the room was asked for by a number that is no less
+pub rooms_pushed : {A : Type 0} (most : ℕ → ℕ) (vs : List (Vec ℕ A)) (v : Vec ℕ A) (n m : ℕ) → length vs ≡ n → ((k : ℕ) → k < n → most k ≤ room_in (rooms_of vs) k) → most n ≤ m → m ≤ vec_capacity v → (k : ℕ) → k < n + 1 → most k ≤ room_in (rooms_of (vs ++ v ∷ [])) k
+rooms_pushed {A} most vs v n m e all low last k h = rooms_push most vs v n e all (omega (arith, low, last)) k h
+
 -- what an insertion that succeeded leaves
 pub inserted : {E : Type 0} (zs xs ys : List ℕ) (j u w : ℕ) (r : Result (Unit {0}) E) (x : Unit {0}) → zs ≡ (if is_ok r then insert xs j u else xs) → r ≡ Ok x → xs ≡ ys → u ≡ w → zs ≡ insert ys j w
 inserted zs xs ys j u w r x e f g h = e ∙ ap (λ (o : Result (Unit {0}) _). if is_ok o then insert xs j u else xs) f ∙ (λ t. insert (g t) j (h t))

@@ -1,4 +1,6 @@
 pub mod Roomy
+pub mod Fits
+pub mod Together
 pub mod Within
 pub mod Links
 pub mod Quiet

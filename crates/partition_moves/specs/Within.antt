@@ -2,13 +2,15 @@
 use Rattle.std.specs.Prelude.{◌≡◌, ◌*◌, ◌<◌, ◌≤◌, length}
 use Rattle.chain_rules.specs.declared.plan.Plan.{Plan}
 use Rattle.chain_rules.specs.declared.unit.Rules.{Rules}
-use Rattle.partition_moves.specs.Roomy.{AreRoomyFor}
+use Rattle.partition_moves.specs.Roomy.{IsKept}
+use Rattle.partition_moves.specs.Together.{AreTogetherBy}
 use Rattle.partition_moves.specs.declared.room.Room.{Room as SettlingRoom}
 
--- the room holds the plan with room for the most units of each chain, a block for each 32 places of a chain, and sums for a
--- chain of all units
+-- the room holds the plan with room for the most units of each chain and the bits of each, a block for each 32 places of a chain, sums
+-- for a chain of all units, and the chains of each partition
 pub record IsRoomFor (rules : Rules) (p : Plan) (room : SettlingRoom) : Type 0 where
   pub plan : room.work.plan ≡ p
-  pub chains : AreRoomyFor rules room.work.rooms
+  pub kept : IsKept rules room.work
   pub blocks : length rules.units < 32 * length room.blocks.items
   pub sums : length rules.units ≤ room.sums.room
+  pub parts : AreTogetherBy rules room.parts

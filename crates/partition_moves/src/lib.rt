@@ -4,10 +4,13 @@
 //! Contract: a settled plan is what `order_search/specs/Steps.antt` says. Begin with `settle.rt`.
 #![tactic(auto)]
 
+mod held;
 mod lift;
 mod moves;
+mod partitions;
 mod room;
 mod settle;
+mod spares;
 mod swaps;
 mod work;
 

@@ -1,7 +1,7 @@
 //! A unit that is taken out of its place, and the places of a chain where it makes the wire shorter.
 //!
 //! The places of a chain go by blocks: where the bounds of a block leave no gain, none of its places is tested.
-ghost use Rattle.std.specs.Prelude.{◌≡◌, ℕ, ◌+◌, ◌*◌, ◌<◌, ◌≤◌, ◌↔◌, List, length, Some, IfSome, IfNone, IsTrue};
+ghost use Rattle.std.specs.Prelude.{◌≡◌, ℕ, ◌+◌, ◌*◌, ◌<◌, ◌≤◌, ◌↔◌, List, length, slice_get, Some, IfSome, IfNone, IsTrue};
 ghost use Rattle.wire_cost.specs.Lengths.{ArePlaced, ChainEnds, IsChainAt, chain_ends};
 ghost use Rattle.place_blocks.specs.Covers.{AreBlocks, Covers, IsNearBlock};
 ghost use Rattle.partition_moves.specs.Links.{IsCloserAt, IsLift, IsShorterAt, IsSmallLift};
@@ -40,6 +40,23 @@ pub(crate) fn lift_of(ends: &Ends, chain: u32, units: &[u32], i: usize) -> Lift
         exit,
         opened: wire(before, Some(entry)) + wire(Some(exit), after),
         closed: wire(before, after),
+    }
+}
+
+/// A unit without its links: what the test of the two links at another place reads of it.
+pub(crate) fn unplaced(ends: &Ends, unit: u32) -> Lift
+    requires placed { ArePlaced ends.now }
+    requires entry { unit < length ends.now.entry }
+    requires exit { unit < length ends.now.exit }
+    ensures entry { slice_get ends.now.entry unit ≡ Some result.entry }
+    ensures exit { slice_get ends.now.exit unit ≡ Some result.exit }
+    ensures small { IsSmallLift result }
+{
+    Lift {
+        entry: entry_of(ends, unit),
+        exit: exit_of(ends, unit),
+        opened: 0,
+        closed: 0,
     }
 }
 

@@ -3,28 +3,53 @@
 //! The chains are gone over as those that units are put into, so that the blocks of one chain at a time are enough.
 ghost use Rattle.std.specs.Prelude.{◌≡◌, ℕ, ◌+◌, ◌*◌, ◌<◌, ◌≤◌, ◌↔◌, cond, length, IfOk, OnOk, IfSome, IfNone, IsTrue};
 ghost use Rattle.chain_rules.specs.Legality.{IsLegal, IsOpen, chain_at, moved_plan, rule_at, taken_out};
+ghost use Rattle.wire_cost.specs.declared.ends.Ends.{Ends as ChainPlaces};
 ghost use Rattle.wire_cost.specs.Lengths.{chain_ends, plan_length_of};
 ghost use Rattle.place_blocks.specs.Covers.{AreBlocks};
 ghost use Rattle.order_search.specs.Searches.{AreSearchable};
 ghost use Rattle.order_search.specs.Trials.{IsGain, NoMoveTo, at};
 ghost use Rattle.partition_moves.specs.Links.{IsApart, Lands};
 ghost use Rattle.partition_moves.specs.Quiet.{HasNoMove, NoMoveBetween};
-ghost use Rattle.partition_moves.specs.Roomy.{AreRoomyFor};
+ghost use Rattle.partition_moves.specs.Roomy.{IsKept};
+ghost use Rattle.partition_moves.specs.Together.{AreTogetherBy};
 
 use crate::lift::{Lift, lift_of, shorter_place};
+use crate::partitions::{Partitions, are_together};
 use crate::work::Work;
 use chain_rules::{Position, Rules};
 use place_blocks::{Block, fill_blocks};
 use wire_cost::Ends;
 
-/// Whether two chains are of one partition.
-pub(crate) fn are_together(rules: &Rules, c: usize, d: usize) -> bool
-    requires one { c < length rules.now.chains }
-    requires other { d < length rules.now.chains }
-    ensures value { IsTrue result ↔ ((rule_at rules.now c).partition ≡ (rule_at rules.now d).partition) }
+/// Whether a unit of chain c may be put into chain d, by their partitions and the kept numbers.
+fn are_open(rules: &Rules, plan: &Work, c: usize, d: usize) -> bool
+    requires legal { IsLegal rules.now plan.now.plan }
+    requires kept { IsKept rules.now plan.now }
+    requires chain { c < length plan.now.plan.chains }
+    requires other { d < length plan.now.plan.chains }
+    ensures none { ¬ IsTrue result → (ends : ChainPlaces) → NoMoveBetween rules.now ends plan.now.plan c d }
 {
-    let chains = rules.chains.as_slice();
-    chains[c].partition == chains[d].partition
+    if c == d {
+        return true;
+    }
+    if !are_together(rules, c, d) {
+        return false;
+    }
+    !plan.are_shut(rules, c, d)
+}
+
+/// Whether the unit at place i of chain c may be put into chain d, by the kept numbers.
+fn may_go(rules: &Rules, plan: &Work, c: usize, i: usize, d: usize) -> bool
+    requires legal { IsLegal rules.now plan.now.plan }
+    requires kept { IsKept rules.now plan.now }
+    requires chain { c < length plan.now.plan.chains }
+    requires place { i < length (chain_at plan.now.plan c) }
+    requires other { d < length plan.now.plan.chains }
+    ensures none { ¬ IsTrue result → (ends : ChainPlaces) → NoMoveTo rules.now ends plan.now.plan c i d }
+{
+    if c == d {
+        return true;
+    }
+    plan.may_move(rules, c, i, d)
 }
 
 /// The place in chain d, without the unit at place i of chain c, that its place k is.
@@ -85,12 +110,16 @@ fn place_for(
     requires chain { c < length plan.now.plan.chains }
     requires place { i < length (chain_at plan.now.plan c) }
     requires other { d < length plan.now.plan.chains }
+    requires kept { IsKept rules.now plan.now }
     requires room { length rules.now.units < 32 * length blocks.now }
     requires blocks { AreBlocks (chain_ends ends.now d) (chain_at plan.now.plan d) blocks.now }
     ensures open { IfSome result (λ j. j ≤ length (chain_at (taken_out plan.now.plan (at c i)) d)) }
     ensures found { IfSome result (λ j. IsGain rules.now ends.now plan.now.plan (moved_plan plan.now.plan (at c i) (at d j))) }
     ensures none { IfNone result (NoMoveTo rules.now ends.now plan.now.plan c i d) }
 {
+    if !may_go(rules, plan, c, i, d) {
+        return None;
+    }
     let others = plan.chain(d);
     let lift = lift_of(ends, c as u32, plan.chain(c), i);
     let mut from = 0;
@@ -101,6 +130,23 @@ fn place_for(
         from = k + 1;
     }
     None
+}
+
+/// Moves a unit and counts the bits of both chains anew.
+fn move_counted(rules: &Rules, plan: &mut Work, c: usize, i: usize, d: usize, j: usize)
+    requires legal { IsLegal rules.now plan.old.plan }
+    requires kept { IsKept rules.now plan.old }
+    requires chain { c < length plan.old.plan.chains }
+    requires place { i < length (chain_at plan.old.plan c) }
+    requires other { d < length plan.old.plan.chains }
+    requires open { j ≤ length (chain_at (taken_out plan.old.plan (at c i)) d) }
+    requires after { IsLegal rules.now (moved_plan plan.old.plan (at c i) (at d j)) }
+    ensures value { plan.new.plan ≡ moved_plan plan.old.plan (at c i) (at d j) }
+    ensures kept { IsKept rules.now plan.new }
+{
+    plan.move_unit(c, i, d, j);
+    plan.recount(rules, c);
+    plan.recount(rules, d);
 }
 
 /// Moves a unit, as the plan gets shorter by, and fills in the blocks of the chain that it goes to.
@@ -116,7 +162,7 @@ fn take_move(
 )
     requires searchable { AreSearchable rules.now ends.now }
     requires legal { IsLegal rules.now plan.old.plan }
-    requires roomy { AreRoomyFor rules.now plan.old.rooms }
+    requires kept { IsKept rules.now plan.old }
     requires chain { c < length plan.old.plan.chains }
     requires place { i < length (chain_at plan.old.plan c) }
     requires other { d < length plan.old.plan.chains }
@@ -124,12 +170,12 @@ fn take_move(
     requires gain { IsGain rules.now ends.now plan.old.plan (moved_plan plan.old.plan (at c i) (at d j)) }
     requires room { length rules.now.units < 32 * length blocks.old }
     ensures legal { IsLegal rules.now plan.new.plan }
-    ensures roomy { AreRoomyFor rules.now plan.new.rooms }
+    ensures kept { IsKept rules.now plan.new }
     ensures shorter { plan_length_of ends.now plan.new.plan < plan_length_of ends.now plan.old.plan }
     ensures blocks { AreBlocks (chain_ends ends.now d) (chain_at plan.new.plan d) blocks.new }
     ensures room { length blocks.new ≡ length blocks.old }
 {
-    plan.move_unit(c, i, d, j);
+    move_counted(rules, plan, c, i, d, j);
     fill_blocks(blocks, ends, d as u32, plan.chain(d));
 }
 
@@ -145,13 +191,13 @@ fn move_one(
 ) -> bool
     requires searchable { AreSearchable rules.now ends.now }
     requires legal { IsLegal rules.now plan.old.plan }
-    requires roomy { AreRoomyFor rules.now plan.old.rooms }
+    requires kept { IsKept rules.now plan.old }
     requires chain { c < length plan.old.plan.chains }
     requires other { d < length plan.old.plan.chains }
     requires room { length rules.now.units < 32 * length blocks.old }
     requires blocks { AreBlocks (chain_ends ends.now d) (chain_at plan.old.plan d) blocks.old }
     ensures legal { IsLegal rules.now plan.new.plan }
-    ensures roomy { AreRoomyFor rules.now plan.new.rooms }
+    ensures kept { IsKept rules.now plan.new }
     ensures shorter { plan_length_of ends.now plan.new.plan + cond result 1 0 ≤ plan_length_of ends.now plan.old.plan }
     ensures room { length blocks.new ≡ length blocks.old }
     ensures blocks { AreBlocks (chain_ends ends.now d) (chain_at plan.new.plan d) blocks.new }
@@ -179,19 +225,19 @@ fn moves_between(
 ) -> bool
     requires searchable { AreSearchable rules.now ends.now }
     requires legal { IsLegal rules.now plan.old.plan }
-    requires roomy { AreRoomyFor rules.now plan.old.rooms }
+    requires kept { IsKept rules.now plan.old }
     requires chain { c < length plan.old.plan.chains }
     requires other { d < length plan.old.plan.chains }
     requires room { length rules.now.units < 32 * length blocks.old }
     requires blocks { AreBlocks (chain_ends ends.now d) (chain_at plan.old.plan d) blocks.old }
     ensures legal { IsLegal rules.now plan.new.plan }
-    ensures roomy { AreRoomyFor rules.now plan.new.rooms }
+    ensures kept { IsKept rules.now plan.new }
     ensures shorter { plan_length_of ends.now plan.new.plan + cond result 1 0 ≤ plan_length_of ends.now plan.old.plan }
     ensures room { length blocks.new ≡ length blocks.old }
     ensures blocks { AreBlocks (chain_ends ends.now d) (chain_at plan.new.plan d) blocks.new }
     ensures quiet { ¬ IsTrue result → (plan.new.plan ≡ plan.old.plan) × NoMoveBetween rules.now ends.now plan.old.plan c d }
 {
-    if !are_together(rules, c, d) {
+    if !are_open(rules, plan, c, d) {
         return false;
     }
     let mut again = false;
@@ -204,44 +250,61 @@ fn moves_between(
 }
 
 /// Moves each unit once to chain d, where such a move makes the plan shorter, and tells whether one did.
-fn moves_into(rules: &Rules, ends: &Ends, plan: &mut Work, blocks: &mut [Block], d: usize) -> bool
+fn moves_into(
+    rules: &Rules,
+    ends: &Ends,
+    parts: &Partitions,
+    plan: &mut Work,
+    blocks: &mut [Block],
+    d: usize,
+) -> bool
     requires searchable { AreSearchable rules.now ends.now }
+    requires parts { AreTogetherBy rules.now parts.now }
     requires legal { IsLegal rules.now plan.old.plan }
-    requires roomy { AreRoomyFor rules.now plan.old.rooms }
+    requires kept { IsKept rules.now plan.old }
     requires chain { d < length plan.old.plan.chains }
     requires room { length rules.now.units < 32 * length blocks.old }
     ensures legal { IsLegal rules.now plan.new.plan }
-    ensures roomy { AreRoomyFor rules.now plan.new.rooms }
+    ensures kept { IsKept rules.now plan.new }
     ensures shorter { plan_length_of ends.now plan.new.plan + cond result 1 0 ≤ plan_length_of ends.now plan.old.plan }
     ensures room { length blocks.new ≡ length blocks.old }
     ensures quiet { ¬ IsTrue result → (plan.new.plan ≡ plan.old.plan) × ((c : ℕ) → c < length plan.old.plan.chains → NoMoveBetween rules.now ends.now plan.old.plan c d) }
 {
     fill_blocks(blocks, ends, d as u32, plan.chain(d));
     let mut again = false;
-    for c in 0..plan.len() {
+    let mut c = parts.first(rules, d);
+    'chains: while c < plan.len() {
         if moves_between(rules, ends, plan, blocks, c, d) {
             again = true;
         }
+        c = parts.after(rules, c, d);
     }
     again
 }
 
 /// Goes once over all units and chains and moves each unit that a move makes the plan shorter by; tells whether there was
 /// one.
-pub(crate) fn move_pass(rules: &Rules, ends: &Ends, plan: &mut Work, blocks: &mut [Block]) -> bool
+pub(crate) fn move_pass(
+    rules: &Rules,
+    ends: &Ends,
+    parts: &Partitions,
+    plan: &mut Work,
+    blocks: &mut [Block],
+) -> bool
     requires searchable { AreSearchable rules.now ends.now }
+    requires parts { AreTogetherBy rules.now parts.now }
     requires legal { IsLegal rules.now plan.old.plan }
-    requires roomy { AreRoomyFor rules.now plan.old.rooms }
+    requires kept { IsKept rules.now plan.old }
     requires room { length rules.now.units < 32 * length blocks.old }
     ensures legal { IsLegal rules.now plan.new.plan }
-    ensures roomy { AreRoomyFor rules.now plan.new.rooms }
+    ensures kept { IsKept rules.now plan.new }
     ensures shorter { plan_length_of ends.now plan.new.plan + cond result 1 0 ≤ plan_length_of ends.now plan.old.plan }
     ensures room { length blocks.new ≡ length blocks.old }
     ensures quiet { ¬ IsTrue result → (plan.new.plan ≡ plan.old.plan) × HasNoMove rules.now ends.now plan.old.plan }
 {
     let mut again = false;
     for d in 0..plan.len() {
-        if moves_into(rules, ends, plan, blocks, d) {
+        if moves_into(rules, ends, parts, plan, blocks, d) {
             again = true;
         }
     }

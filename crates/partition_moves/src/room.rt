@@ -2,6 +2,7 @@
 ghost use Rattle.std.specs.Prelude.{IfOk};
 ghost use Rattle.chain_rules.specs.Legality.{IsLegal};
 
+use crate::partitions::Partitions;
 use crate::work::Work;
 use base_types::NoMemory;
 use chain_rules::{Plan, Rules};
@@ -10,12 +11,13 @@ use std::alloc::Global;
 use wire_cost::Sums;
 
 /// A copy of a plan in which each chain has room for the most units that it may hold, with room for the bounds of a chain's
-/// places and for the sums of its links.
+/// places and for the sums of its links, and the chains of each partition.
 #[derive(Debug, Drop)]
 pub struct Room {
     pub(crate) work: Work,
     pub(crate) blocks: Vec<Block>,
     pub(crate) sums: Sums,
+    pub(crate) parts: Partitions,
 }
 
 impl Room {
@@ -30,6 +32,12 @@ impl Room {
         let work = Work::make(alloc, rules, plan)?;
         let blocks = vec![in alloc; no_block(); units / PLACES + 1]?;
         let sums = Sums::make(alloc, units)?;
-        Ok(Room { work, blocks, sums })
+        let parts = Partitions::of(alloc, rules)?;
+        Ok(Room {
+            work,
+            blocks,
+            sums,
+            parts,
+        })
     }
 }

@@ -5,10 +5,12 @@ ghost use Rattle.wire_cost.specs.Lengths.{plan_length_of};
 ghost use Rattle.order_search.specs.Searches.{AreSearchable};
 ghost use Rattle.order_search.specs.Steps.{IsSettled};
 ghost use Rattle.order_search.specs.declared.effort.Effort.TheVariants.{Full, Order};
-ghost use Rattle.partition_moves.specs.Roomy.{AreRoomyFor};
+ghost use Rattle.partition_moves.specs.Roomy.{IsKept};
+ghost use Rattle.partition_moves.specs.Together.{AreTogetherBy};
 ghost use Rattle.partition_moves.specs.Within.{IsRoomFor};
 
 use crate::moves::move_pass;
+use crate::partitions::Partitions;
 use crate::room::Room;
 use crate::swaps::swap_pass;
 use crate::work::Work;
@@ -22,10 +24,10 @@ use wire_cost::{Ends, Sums};
 fn settle_orders(rules: &Rules, ends: &Ends, plan: &mut Work, sums: &mut Sums)
     requires searchable { AreSearchable rules.now ends.now }
     requires legal { IsLegal rules.now plan.old.plan }
-    requires roomy { AreRoomyFor rules.now plan.old.rooms }
+    requires kept { IsKept rules.now plan.old }
     requires sums { length rules.now.units ≤ sums.old.room }
     ensures legal { IsLegal rules.now plan.new.plan }
-    ensures roomy { AreRoomyFor rules.now plan.new.rooms }
+    ensures kept { IsKept rules.now plan.new }
     ensures no_longer { plan_length_of ends.now plan.new.plan ≤ plan_length_of ends.now plan.old.plan }
     ensures settled { IsSettled Order rules.now ends.now plan.new.plan }
     ensures room { sums.new.room ≡ sums.old.room }
@@ -36,10 +38,18 @@ fn settle_orders(rules: &Rules, ends: &Ends, plan: &mut Work, sums: &mut Sums)
 }
 
 /// Takes steps until none makes the plan shorter.
-fn settle_steps(rules: &Rules, ends: &Ends, plan: &mut Work, blocks: &mut [Block], sums: &mut Sums)
+fn settle_steps(
+    rules: &Rules,
+    ends: &Ends,
+    parts: &Partitions,
+    plan: &mut Work,
+    blocks: &mut [Block],
+    sums: &mut Sums,
+)
     requires searchable { AreSearchable rules.now ends.now }
+    requires parts { AreTogetherBy rules.now parts.now }
     requires legal { IsLegal rules.now plan.old.plan }
-    requires roomy { AreRoomyFor rules.now plan.old.rooms }
+    requires kept { IsKept rules.now plan.old }
     requires room { length rules.now.units < 32 * length blocks.old }
     requires sums { length rules.now.units ≤ sums.old.room }
     ensures legal { IsLegal rules.now plan.new.plan }
@@ -49,9 +59,9 @@ fn settle_steps(rules: &Rules, ends: &Ends, plan: &mut Work, blocks: &mut [Block
     let mut again = true;
     'passes: while again {
         settle_orders(rules, ends, plan, sums);
-        again = move_pass(rules, ends, plan, blocks);
+        again = move_pass(rules, ends, parts, plan, blocks);
         if !again {
-            again = swap_pass(rules, ends, plan, blocks);
+            again = swap_pass(rules, ends, parts, plan, blocks);
         }
     }
 }
@@ -72,8 +82,16 @@ pub fn settle_all_within(rules: &Rules, ends: &Ends, plan: &mut Plan, room: Room
         mut work,
         mut blocks,
         mut sums,
+        parts,
     } = room;
-    settle_steps(rules, ends, &mut work, blocks.as_mut_slice(), &mut sums);
+    settle_steps(
+        rules,
+        ends,
+        &parts,
+        &mut work,
+        blocks.as_mut_slice(),
+        &mut sums,
+    );
     *plan = work.into_plan();
 }
 

@@ -10,10 +10,11 @@ ghost use Rattle.order_search.specs.Searches.{AreSearchable};
 ghost use Rattle.order_search.specs.Trials.{IsGain, at};
 ghost use Rattle.partition_moves.specs.Links.{NoCloserSwapAt};
 ghost use Rattle.partition_moves.specs.Quiet.{HasNoSwap, NoCloserSwap};
-ghost use Rattle.partition_moves.specs.Roomy.{AreRoomyFor};
+ghost use Rattle.partition_moves.specs.Roomy.{IsKept};
+ghost use Rattle.partition_moves.specs.Together.{AreTogetherBy};
 
-use crate::lift::{closer_place, lift_of};
-use crate::moves::are_together;
+use crate::lift::{closer_place, unplaced};
+use crate::partitions::{Partitions, are_together};
 use crate::work::Work;
 use chain_rules::{Position, Rules};
 use place_blocks::{Block, fill_blocks};
@@ -22,8 +23,10 @@ use wire_cost::{Ends, entry_of, exit_of, point_after, point_before, wire};
 /// Whether an exchange that is told to be shorter or not is also legal.
 fn is_swap(rules: &Rules, plan: &Work, shorter: bool, one: Position, other: Position) -> bool
     requires legal { IsLegal rules.now plan.now.plan }
+    requires kept { IsKept rules.now plan.now }
     requires one { IsIn plan.now.plan one }
     requires other { IsIn plan.now.plan other }
+    requires apart { one.chain ≢ other.chain }
     ensures value { IsTrue result ↔ (IsTrue shorter × IsLegal rules.now (swapped_plan plan.now.plan one other)) }
 {
     shorter && plan.can_swap(rules, one, other)
@@ -39,6 +42,7 @@ fn is_gain(rules: &Rules, ends: &Ends, plan: &Work, c: usize, i: usize, d: usize
     requires other { d < length plan.now.plan.chains }
     requires there { j < length (chain_at plan.now.plan d) }
     requires apart { c ≢ d }
+    requires kept { IsKept rules.now plan.now }
     ensures value { IsTrue result ↔ IsGain rules.now ends.now plan.now.plan (swapped_plan plan.now.plan (at c i) (at d j)) }
 {
     let us = plan.chain(c);
@@ -84,13 +88,14 @@ fn partner_for(
     requires place { i < length (chain_at plan.now.plan c) }
     requires other { d < length plan.now.plan.chains }
     requires apart { c ≢ d }
+    requires kept { IsKept rules.now plan.now }
     requires room { length rules.now.units < 32 * length blocks.now }
     requires blocks { AreBlocks (chain_ends ends.now d) (chain_at plan.now.plan d) blocks.now }
     ensures found { IfSome result (λ j. (j < length (chain_at plan.now.plan d)) × IsGain rules.now ends.now plan.now.plan (swapped_plan plan.now.plan (at c i) (at d j))) }
     ensures none { IfNone result ((k : ℕ) → k < length (chain_at plan.now.plan d) → NoCloserSwapAt rules.now ends.now plan.now.plan c i d k) }
 {
     let others = plan.chain(d);
-    let lift = lift_of(ends, c as u32, plan.chain(c), i);
+    let lift = unplaced(ends, plan.chain(c)[i]);
     let mut from = 0;
     'places: while let Some(k) = closer_place(ends, d as u32, others, blocks, &lift, from) {
         if is_gain(rules, ends, plan, c, i, d, k) {
@@ -99,6 +104,24 @@ fn partner_for(
         from = k + 1;
     }
     None
+}
+
+/// Exchanges two units of two chains and counts the bits of both anew.
+fn swap_counted(rules: &Rules, plan: &mut Work, c: usize, i: usize, d: usize, j: usize)
+    requires legal { IsLegal rules.now plan.old.plan }
+    requires kept { IsKept rules.now plan.old }
+    requires chain { c < length plan.old.plan.chains }
+    requires place { i < length (chain_at plan.old.plan c) }
+    requires other { d < length plan.old.plan.chains }
+    requires there { j < length (chain_at plan.old.plan d) }
+    requires apart { c ≢ d }
+    requires after { IsLegal rules.now (swapped_plan plan.old.plan (at c i) (at d j)) }
+    ensures value { plan.new.plan ≡ swapped_plan plan.old.plan (at c i) (at d j) }
+    ensures kept { IsKept rules.now plan.new }
+{
+    swap_units(plan, c, i, d, j);
+    plan.recount(rules, c);
+    plan.recount(rules, d);
 }
 
 /// Exchanges two units of two chains.
@@ -110,6 +133,8 @@ fn swap_units(plan: &mut Work, c: usize, i: usize, d: usize, j: usize)
     requires apart { c ≢ d }
     ensures value { plan.new.plan ≡ swapped_plan plan.old.plan (at c i) (at d j) }
     ensures rooms { plan.new.rooms ≡ plan.old.rooms }
+    ensures bits { plan.new.bits ≡ plan.old.bits }
+    ensures least { plan.new.least ≡ plan.old.least }
 {
     let one = plan.chain(c)[i];
     let two = plan.chain(d)[j];
@@ -130,7 +155,7 @@ fn take_swap(
 )
     requires searchable { AreSearchable rules.now ends.now }
     requires legal { IsLegal rules.now plan.old.plan }
-    requires roomy { AreRoomyFor rules.now plan.old.rooms }
+    requires kept { IsKept rules.now plan.old }
     requires chain { c < length plan.old.plan.chains }
     requires place { i < length (chain_at plan.old.plan c) }
     requires other { d < length plan.old.plan.chains }
@@ -139,12 +164,12 @@ fn take_swap(
     requires gain { IsGain rules.now ends.now plan.old.plan (swapped_plan plan.old.plan (at c i) (at d j)) }
     requires room { length rules.now.units < 32 * length blocks.old }
     ensures legal { IsLegal rules.now plan.new.plan }
-    ensures roomy { AreRoomyFor rules.now plan.new.rooms }
+    ensures kept { IsKept rules.now plan.new }
     ensures shorter { plan_length_of ends.now plan.new.plan < plan_length_of ends.now plan.old.plan }
     ensures blocks { AreBlocks (chain_ends ends.now d) (chain_at plan.new.plan d) blocks.new }
     ensures room { length blocks.new ≡ length blocks.old }
 {
-    swap_units(plan, c, i, d, j);
+    swap_counted(rules, plan, c, i, d, j);
     fill_blocks(blocks, ends, d as u32, plan.chain(d));
 }
 
@@ -160,13 +185,13 @@ fn swaps_between(
 ) -> bool
     requires searchable { AreSearchable rules.now ends.now }
     requires legal { IsLegal rules.now plan.old.plan }
-    requires roomy { AreRoomyFor rules.now plan.old.rooms }
+    requires kept { IsKept rules.now plan.old }
     requires chain { c < length plan.old.plan.chains }
     requires other { d < length plan.old.plan.chains }
     requires room { length rules.now.units < 32 * length blocks.old }
     requires blocks { AreBlocks (chain_ends ends.now d) (chain_at plan.old.plan d) blocks.old }
     ensures legal { IsLegal rules.now plan.new.plan }
-    ensures roomy { AreRoomyFor rules.now plan.new.rooms }
+    ensures kept { IsKept rules.now plan.new }
     ensures shorter { plan_length_of ends.now plan.new.plan + cond result 1 0 ≤ plan_length_of ends.now plan.old.plan }
     ensures room { length blocks.new ≡ length blocks.old }
     ensures blocks { AreBlocks (chain_ends ends.now d) (chain_at plan.new.plan d) blocks.new }
@@ -189,43 +214,60 @@ fn swaps_between(
 
 /// Exchanges each unit once with one of chain d, where such an exchange makes the plan shorter, and tells
 /// whether one did.
-fn swaps_into(rules: &Rules, ends: &Ends, plan: &mut Work, blocks: &mut [Block], d: usize) -> bool
+fn swaps_into(
+    rules: &Rules,
+    ends: &Ends,
+    parts: &Partitions,
+    plan: &mut Work,
+    blocks: &mut [Block],
+    d: usize,
+) -> bool
     requires searchable { AreSearchable rules.now ends.now }
+    requires parts { AreTogetherBy rules.now parts.now }
     requires legal { IsLegal rules.now plan.old.plan }
-    requires roomy { AreRoomyFor rules.now plan.old.rooms }
+    requires kept { IsKept rules.now plan.old }
     requires chain { d < length plan.old.plan.chains }
     requires room { length rules.now.units < 32 * length blocks.old }
     ensures legal { IsLegal rules.now plan.new.plan }
-    ensures roomy { AreRoomyFor rules.now plan.new.rooms }
+    ensures kept { IsKept rules.now plan.new }
     ensures shorter { plan_length_of ends.now plan.new.plan + cond result 1 0 ≤ plan_length_of ends.now plan.old.plan }
     ensures room { length blocks.new ≡ length blocks.old }
     ensures quiet { ¬ IsTrue result → (plan.new.plan ≡ plan.old.plan) × ((c : ℕ) → c < length plan.old.plan.chains → NoCloserSwap rules.now ends.now plan.old.plan c d) }
 {
     fill_blocks(blocks, ends, d as u32, plan.chain(d));
     let mut again = false;
-    for c in 0..plan.len() {
+    let mut c = parts.first(rules, d);
+    'chains: while c < plan.len() {
         if swaps_between(rules, ends, plan, blocks, c, d) {
             again = true;
         }
+        c = parts.after(rules, c, d);
     }
     again
 }
 
 /// Goes once over all units and exchanges each that an exchange makes the plan shorter by; tells whether there was one.
-pub(crate) fn swap_pass(rules: &Rules, ends: &Ends, plan: &mut Work, blocks: &mut [Block]) -> bool
+pub(crate) fn swap_pass(
+    rules: &Rules,
+    ends: &Ends,
+    parts: &Partitions,
+    plan: &mut Work,
+    blocks: &mut [Block],
+) -> bool
     requires searchable { AreSearchable rules.now ends.now }
+    requires parts { AreTogetherBy rules.now parts.now }
     requires legal { IsLegal rules.now plan.old.plan }
-    requires roomy { AreRoomyFor rules.now plan.old.rooms }
+    requires kept { IsKept rules.now plan.old }
     requires room { length rules.now.units < 32 * length blocks.old }
     ensures legal { IsLegal rules.now plan.new.plan }
-    ensures roomy { AreRoomyFor rules.now plan.new.rooms }
+    ensures kept { IsKept rules.now plan.new }
     ensures shorter { plan_length_of ends.now plan.new.plan + cond result 1 0 ≤ plan_length_of ends.now plan.old.plan }
     ensures room { length blocks.new ≡ length blocks.old }
     ensures quiet { ¬ IsTrue result → (plan.new.plan ≡ plan.old.plan) × HasNoSwap rules.now ends.now plan.old.plan }
 {
     let mut again = false;
     for d in 0..plan.len() {
-        if swaps_into(rules, ends, plan, blocks, d) {
+        if swaps_into(rules, ends, parts, plan, blocks, d) {
             again = true;
         }
     }

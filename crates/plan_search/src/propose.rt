@@ -10,12 +10,22 @@ use order_search::Effort;
 use std::alloc::Global;
 use wire_cost::Ends;
 
-// The work for each unit, as if there were so many more units; and the most for each.
+// The work for each unit, as if there were so many more units, and the most for each of few units.
 const WORK: u64 = 9000;
 
 const MORE: u64 = 2500;
 
 const MOST_WORK: u64 = 108000;
+
+// From so many units on: the least for all together, and the most for each.
+const SOME: u32 = 500;
+
+const SOME_WORK: u64 = 460000000;
+
+const MOST_SOME_WORK: u64 = 216000;
+
+// Up to so many units that is enough work for a search that begins with longer steps back.
+const MOST_SHAKEN: u32 = 8000;
 
 // The work for each unit of the first improvement.
 const FIRST_WORK: u64 = 20000;
@@ -162,12 +172,17 @@ fn reach_of(climb: &Climb) -> Reach {
     }
 }
 
+// Whether so many units get work enough to begin farther from the plan that is found.
+fn is_shaken_long(units: u32) -> bool {
+    units >= SOME && units <= MOST_SHAKEN
+}
+
 // By how many spacings the chains may become longer at first: by more where there is more to be shared out.
 fn spacings_of(climb: &Climb, reach: Reach) -> i64 {
     let chains = climb.tours.tours.as_slice().len();
     if chains == 1 || reach.exchanged > 1 {
         5
-    } else if chains <= 16 {
+    } else if chains <= 16 && !is_shaken_long(climb.tours.units) {
         10
     } else {
         20
@@ -193,8 +208,12 @@ fn search(layouts: &mut [Layout], climb: &mut Climb, work: u64) {
 // The work for each of so many units.
 fn work_for(units: u32) -> u64 {
     let all = u64::from(units).max(1);
-    let work = WORK.wrapping_mul(MORE.wrapping_add(all)) / all;
-    work.min(MOST_WORK)
+    let work = WORK.wrapping_mul(MORE.wrapping_add(all));
+    if units < SOME {
+        (work / all).min(MOST_WORK)
+    } else {
+        (work.max(SOME_WORK) / all).min(MOST_SOME_WORK)
+    }
 }
 
 // Searches a group of chains and writes what was found into the plan.

@@ -20,7 +20,13 @@ pub enum Layout {
     Middle,
     /// Ends at random.
     Random,
+    /// All units and ends at one place; those of each second chain have seven bits and are left far from their entry, the
+    /// others have one and are entered there. Each of a chain would stand between two of the other for nothing.
+    Opposed,
 }
+
+/// How far apart a unit's entry and exit are in the last layout.
+const FAR: i64 = 200000;
 
 /// What a case is made of.
 #[derive(Clone, Copy)]
@@ -36,6 +42,10 @@ pub struct Case {
     pub is_uneven: bool,
     /// A tenth of the units have several bits and an exit far from the entry.
     pub is_ordered: bool,
+    /// Each chain may hold all units.
+    pub is_wide: bool,
+    /// Each chain is a partition.
+    pub is_alone: bool,
 }
 
 /// A sequence by shifts and exclusive ors.
@@ -86,8 +96,11 @@ fn grid(seed: u64) -> i64 {
 fn entries(alloc: Global, case: Case, dice: &mut Dice) -> Result<Vec<Point>, NoMemory> {
     let mut places = Vec::with_capacity(alloc, case.units as usize)?;
     let mut seed = 1u64;
-    for _ in 0..case.units {
-        if case.layout == Layout::Generated {
+    for unit in 0..case.units {
+        if case.layout == Layout::Opposed {
+            let x = i64::from(unit % 2).wrapping_mul(FAR);
+            places.push(Point { x, y: 0 })?;
+        } else if case.layout == Layout::Generated {
             let x = next(seed);
             seed = next(x);
             places.push(Point {
@@ -103,6 +116,12 @@ fn entries(alloc: Global, case: Case, dice: &mut Dice) -> Result<Vec<Point>, NoM
 
 /// Where a unit is left that is entered at a place.
 fn exit(case: Case, dice: &mut Dice, place: Point) -> Point {
+    if case.layout == Layout::Opposed {
+        return Point {
+            x: FAR.wrapping_sub(place.x),
+            y: place.y,
+        };
+    }
     if !case.is_apart {
         return place;
     }
@@ -159,6 +178,7 @@ fn chain_ends(case: Case, dice: &mut Dice, chain: u32) -> (Point, Point) {
                 moved(middle, stop.x, stop.y.wrapping_neg()),
             )
         }
+        Layout::Opposed => (Point { x: 0, y: 0 }, Point { x: 0, y: 0 }),
         Layout::Random => {
             let start = dice.point(SIDE);
             (start, dice.point(SIDE))
@@ -178,6 +198,9 @@ fn add_units(
     for place in entry {
         let mut left = exit(case, dice, *place);
         let mut has = bits(case, dice);
+        if case.layout == Layout::Opposed && place.x == 0 {
+            has = 7;
+        }
         if case.is_ordered && dice.roll(10) == 0 {
             let far = dice.point(400000);
             left = moved(
@@ -206,8 +229,16 @@ fn rule(case: Case, chain: u32, bits: u32) -> ChainRule {
         path: chain,
         first: 0,
         last: 0,
-        partition: if is_generated { chain / 4 } else { 0 },
-        bound: if case.is_tight {
+        partition: if case.is_alone {
+            chain
+        } else if is_generated {
+            chain / 4
+        } else {
+            0
+        },
+        bound: if case.is_wide {
+            case.units
+        } else if case.is_tight {
             bits
         } else {
             bits.wrapping_add(4)

@@ -2,8 +2,9 @@
 //!
 //! Without an argument it takes a small chain and a small case of several chains and prints lengths, passes and steps alone;
 //! with a number of units it times the settling of one chain; with the name of a layout, a number of units, a number of chains
-//! and letters it times the search: e for units left beside their entry, t for tight bounds, b for units of several bits, o
-//! for some units of several bits that are left far away. With the word `chains` and a number it times `units_of` of so many
+//! and letters it times the search: e for units left beside their entry, t for tight bounds, w for bounds of all units, b for
+//! units of several bits, o for some units of several bits that are left far away, n for chains that are partitions of their
+//! own. With the word `chains` and a number it times `units_of` of so many
 //! chains, each between a START and a STOP cell.
 //!
 //! Floor: benches, on plan_search, partition_moves, chain_rules, wire_cost, order_search and base_types.

@@ -18,6 +18,7 @@ fn case_named(layout: &str, units: u32, chains: u32, letters: &str) -> Case {
         "generated" => Layout::Generated,
         "middle" => Layout::Middle,
         "random" => Layout::Random,
+        "opposed" => Layout::Opposed,
         _ => Layout::Across,
     };
     let letters = letters.as_bytes();
@@ -29,6 +30,8 @@ fn case_named(layout: &str, units: u32, chains: u32, letters: &str) -> Case {
         is_tight: letters.contains(&b't'),
         is_uneven: letters.contains(&b'b'),
         is_ordered: letters.contains(&b'o'),
+        is_wide: letters.contains(&b'w'),
+        is_alone: letters.contains(&b'n'),
     }
 }
 

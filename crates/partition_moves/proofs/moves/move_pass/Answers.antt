@@ -9,7 +9,7 @@ pub loop-d-preserved : goal.loop-d-preserved
 loop-d-preserved c = elim c.if-moves_into.branch [
   | then-moves_into w ↦ record {
     legal = c.moves_into.ensures.legal;
-    roomy = c.moves_into.ensures.roomy;
+    kept = c.moves_into.ensures.kept;
     room = omega (arith, c.moves_into.ensures.room, c.loop-d.invariant.room);
     shorter = omega (arith, ap {B = ℕ} (λ (b : Bool). cond b 1 0) w.again-is, ap {B = ℕ} (λ (b : Bool). cond b 1 0) w.if-moves_into.true, c.moves_into.ensures.shorter, c.loop-d.invariant.shorter);
     same = λ e. absurd (not_both c.if-moves_into.again w.again-is e);
@@ -17,7 +17,7 @@ loop-d-preserved c = elim c.if-moves_into.branch [
   }
   | else-moves_into w ↦ record {
     legal = c.moves_into.ensures.legal;
-    roomy = c.moves_into.ensures.roomy;
+    kept = c.moves_into.ensures.kept;
     room = omega (arith, c.moves_into.ensures.room, c.loop-d.invariant.room);
     shorter = omega (arith, ap {B = ℕ} (λ (b : Bool). cond b 1 0) w.again-is, ap {B = ℕ} (λ (b : Bool). cond b 1 0) w.if-moves_into.false, c.moves_into.ensures.shorter, c.loop-d.invariant.shorter);
     same = λ e. (c.moves_into.ensures.quiet (not_true c.moves_into.result w.if-moves_into.false)).0 ∙ c.loop-d.invariant.same (sym w.again-is ∙ e);

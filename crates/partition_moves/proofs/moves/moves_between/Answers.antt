@@ -1,7 +1,6 @@
 use Rattle.std.proofs.Common.{refl}
-use Rattle.std.proofs.lemmas.Bool.{iff_false}
-use Rattle.partition_moves.proofs.Landing.{no_move_across}
+use Rattle.partition_moves.proofs.Settled.{not_true}
 use Rattle.partition_moves.proofs.moves.moves_between.Goals as goal
 
-pub returns-then-not-are_together-clause-quiet : goal.returns-then-not-are_together-clause-quiet
-returns-then-not-are_together-clause-quiet c = λ y. (refl, no_move_across c.args.rules.now c.args.ends.now c.args.plan.now.plan c.args.c c.args.d c.requires.legal c.requires.chain c.requires.other (iff_false c.are_together.ensures.value c.if-not-are_together.true))
+pub returns-then-not-are_open-clause-quiet : goal.returns-then-not-are_open-clause-quiet
+returns-then-not-are_open-clause-quiet c = λ y. (refl, c.are_open.ensures.none (not_true c.are_open.result c.if-not-are_open.true) c.args.ends.now)

@@ -1,8 +1,12 @@
-use Rattle.std.proofs.Common.{ℕ, Bool, List, length, ap, arith, cond, sym, ◌∙◌}
+use Rattle.std.proofs.Common.{ℕ, Bool, List, length, ap, arith, cond, refl, subst, sym, ◌∙◌}
 use Rattle.chain_rules.specs.declared.plan.Plan.{Plan}
 use Rattle.partition_moves.specs.Quiet.{NoMoveBetween}
+use Rattle.wire_cost.specs.Lengths.{chain_ends}
+use Rattle.place_blocks.specs.Covers.{AreBlocks}
 use Rattle.order_search.proofs.Legal.{chain_few}
-use Rattle.partition_moves.proofs.Settled.{in_range, not_both, not_true, still_quiet}
+use Rattle.partition_moves.proofs.Landing.{no_move_across}
+use Rattle.partition_moves.proofs.Grouped.{quiet_after}
+use Rattle.partition_moves.proofs.Settled.{in_range, is_false, not_both, not_true}
 use Rattle.partition_moves.proofs.moves.moves_into.Goals as goal
 use Rattle.partition_moves.proofs.moves.moves_into.Goals.{then-moves_between, else-moves_between}
 
@@ -12,24 +16,42 @@ fill_blocks-requires-clause-chain c = in_range c.args.rules.now c.args.ends.now 
 pub fill_blocks-requires-clause-room : goal.fill_blocks-requires-clause-room
 fill_blocks-requires-clause-room c = omega (arith, ap (λ (us : List ℕ). length us) c.chain.ensures.value, chain_few c.args.rules.now c.args.plan.now.plan c.args.d c.requires.chain c.requires.legal, c.requires.room)
 
-pub loop-c-preserved : goal.loop-c-preserved
-loop-c-preserved c = elim c.if-moves_between.branch [
+pub chains-init : goal.chains-init
+chains-init c = record {
+  legal = c.requires.legal;
+  kept = c.requires.kept;
+  room = c.fill_blocks.ensures.room;
+  blocks = subst (λ (us : List ℕ). AreBlocks (chain_ends c.args.ends.now c.args.d) us c.fill_blocks.new.blocks) c.chain.ensures.value c.fill_blocks.ensures.blocks;
+  shorter = omega arith;
+  same = λ e. refl;
+  quiet = λ e k h l. no_move_across c.args.rules.now c.args.ends.now c.args.plan.now.plan k c.args.d c.requires.legal l c.requires.chain (c.first-c.ensures.none k h);
+}
+
+pub chains-preserved : goal.chains-preserved
+chains-preserved c = elim c.if-moves_between.branch [
   | then-moves_between w ↦ record {
     legal = c.moves_between.ensures.legal;
-    roomy = c.moves_between.ensures.roomy;
-    room = omega (arith, c.moves_between.ensures.room, c.loop-c.invariant.room);
+    kept = c.moves_between.ensures.kept;
+    room = omega (arith, c.moves_between.ensures.room, c.chains.invariant.room);
     blocks = c.moves_between.ensures.blocks;
-    shorter = omega (arith, ap {B = ℕ} (λ (b : Bool). cond b 1 0) w.again-is, ap {B = ℕ} (λ (b : Bool). cond b 1 0) w.if-moves_between.true, c.moves_between.ensures.shorter, c.loop-c.invariant.shorter);
+    shorter = omega (arith, ap {B = ℕ} (λ (b : Bool). cond b 1 0) w.again-is, ap {B = ℕ} (λ (b : Bool). cond b 1 0) w.if-moves_between.true, c.moves_between.ensures.shorter, c.chains.invariant.shorter);
     same = λ e. absurd (not_both c.if-moves_between.again w.again-is e);
     quiet = λ e. absurd (not_both c.if-moves_between.again w.again-is e);
   }
   | else-moves_between w ↦ record {
     legal = c.moves_between.ensures.legal;
-    roomy = c.moves_between.ensures.roomy;
-    room = omega (arith, c.moves_between.ensures.room, c.loop-c.invariant.room);
+    kept = c.moves_between.ensures.kept;
+    room = omega (arith, c.moves_between.ensures.room, c.chains.invariant.room);
     blocks = c.moves_between.ensures.blocks;
-    shorter = omega (arith, ap {B = ℕ} (λ (b : Bool). cond b 1 0) w.again-is, ap {B = ℕ} (λ (b : Bool). cond b 1 0) w.if-moves_between.false, c.moves_between.ensures.shorter, c.loop-c.invariant.shorter);
-    same = λ e. (c.moves_between.ensures.quiet (not_true c.moves_between.result w.if-moves_between.false)).0 ∙ c.loop-c.invariant.same (sym w.again-is ∙ e);
-    quiet = λ e. still_quiet (λ (q : Plan) (k : ℕ). NoMoveBetween c.args.rules.now c.args.ends.now q k c.args.d) c.args.plan.now.plan c.loop-c.plan.plan c.loop-c.c (c.loop-c.invariant.same (sym w.again-is ∙ e)) (c.loop-c.invariant.quiet (sym w.again-is ∙ e)) (c.moves_between.ensures.quiet (not_true c.moves_between.result w.if-moves_between.false)).1;
+    shorter = omega (arith, ap {B = ℕ} (λ (b : Bool). cond b 1 0) w.again-is, ap {B = ℕ} (λ (b : Bool). cond b 1 0) w.if-moves_between.false, c.moves_between.ensures.shorter, c.chains.invariant.shorter);
+    same = λ e. (c.moves_between.ensures.quiet (not_true c.moves_between.result w.if-moves_between.false)).0 ∙ c.chains.invariant.same (sym w.again-is ∙ e);
+    quiet = λ e. quiet_after (λ (q : Plan) (k : ℕ). NoMoveBetween c.args.rules.now c.args.ends.now q k c.args.d) c.args.plan.now.plan c.chains.plan.plan c.chains.c c.after-c.result (c.chains.invariant.same (sym w.again-is ∙ e)) (c.chains.invariant.quiet (sym w.again-is ∙ e)) (c.moves_between.ensures.quiet (not_true c.moves_between.result w.if-moves_between.false)).1
+        (λ k a b l. no_move_across c.args.rules.now c.args.ends.now c.args.plan.now.plan k c.args.d c.requires.legal l c.requires.chain (c.after-c.ensures.none k a b));
   }
 ]
+
+pub returns-clause-quiet : goal.returns-clause-quiet
+returns-clause-quiet c y =
+    let f = is_false c.chains.again y in
+    let same = c.chains.invariant.same f in
+    (same, λ k h. c.chains.invariant.quiet f k (omega (arith, ap (λ (q : Plan). length q.chains) same, h, c.chains-test.false)) h)

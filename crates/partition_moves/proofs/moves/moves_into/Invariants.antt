@@ -1,18 +1,21 @@
-use Rattle.std.proofs.Common.{◌≡◌, ℕ, ◌+◌, ◌<◌, ◌≤◌, cond, false, length}
+use Rattle.std.proofs.Common.{◌≡◌, ℕ, ◌+◌, ◌-◌, ◌<◌, ◌≤◌, cond, false, length}
 use Rattle.chain_rules.specs.Legality.{IsLegal, chain_at}
 use Rattle.wire_cost.specs.Lengths.{chain_ends, plan_length_of}
 use Rattle.place_blocks.specs.Covers.{AreBlocks}
 use Rattle.partition_moves.specs.Quiet.{NoMoveBetween}
-use Rattle.partition_moves.specs.Roomy.{AreRoomyFor}
+use Rattle.partition_moves.specs.Roomy.{IsKept}
 use Rattle.partition_moves.proofs.moves.moves_into.Given as goal
 
-abbrev pub invariant-loop-c : goal.invariant-loop-c
-invariant-loop-c l = record {
+abbrev pub invariant-chains : goal.invariant-chains
+invariant-chains l = record {
   legal : IsLegal l.rules l.plan.plan;
-  roomy : AreRoomyFor l.rules l.plan.rooms;
+  kept : IsKept l.rules l.plan;
   room : length l.blocks ≡ length l.fn.blocks;
   blocks : AreBlocks (chain_ends l.ends l.d) (chain_at l.plan.plan l.d) l.blocks;
   shorter : plan_length_of l.ends l.plan.plan + cond l.again 1 0 ≤ plan_length_of l.ends l.fn.plan.plan;
   same : l.again ≡ false → l.plan.plan ≡ l.fn.plan.plan;
-  quiet : l.again ≡ false → (c : ℕ) → c < l.c → NoMoveBetween l.rules l.ends l.fn.plan.plan c l.d;
+  quiet : l.again ≡ false → (k : ℕ) → k < l.c → k < length l.fn.plan.plan.chains → NoMoveBetween l.rules l.ends l.fn.plan.plan k l.d;
 }
+
+abbrev pub decreases-chains : goal.decreases-chains
+decreases-chains l = length l.rules.chains - l.c

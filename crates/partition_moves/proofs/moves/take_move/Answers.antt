@@ -1,18 +1,11 @@
 use Rattle.std.proofs.Common.{length}
-use Rattle.partition_moves.proofs.Fitting.{room_to_land, roomy_kept}
 use Rattle.partition_moves.proofs.Settled.{filled_few, filled_range}
 use Rattle.partition_moves.proofs.moves.take_move.Goals as goal
 
 pub fill_blocks-requires-clause-chain : goal.fill_blocks-requires-clause-chain
 fill_blocks-requires-clause-chain c =
-    filled_range c.args.rules.now c.args.ends.now _ _ c.args.plan.now.plan c.args.d c.chain.result.now c.move_unit.ensures.value c.requires.searchable c.requires.gain.legal c.requires.legal c.requires.other c.chain.ensures.value
+    filled_range c.args.rules.now c.args.ends.now _ _ c.args.plan.now.plan c.args.d c.chain.result.now c.move_counted.ensures.value c.requires.searchable c.requires.gain.legal c.requires.legal c.requires.other c.chain.ensures.value
 
 pub fill_blocks-requires-clause-room : goal.fill_blocks-requires-clause-room
 fill_blocks-requires-clause-room c =
-    filled_few c.args.rules.now _ _ c.args.plan.now.plan c.args.d c.chain.result.now (length c.args.blocks.now) c.move_unit.ensures.value c.requires.gain.legal c.requires.legal c.requires.other c.chain.ensures.value c.requires.room
-
-pub move_unit-requires-clause-room : goal.move_unit-requires-clause-room
-move_unit-requires-clause-room c = room_to_land c.args.rules.now c.args.plan.now.plan c.args.plan.now.rooms c.args.c c.args.i c.args.d c.args.j c.requires.roomy c.requires.gain.legal c.requires.other c.requires.open
-
-pub returns-clause-roomy : goal.returns-clause-roomy
-returns-clause-roomy c = roomy_kept c.args.rules.now _ _ c.move_unit.ensures.rooms c.requires.roomy
+    filled_few c.args.rules.now _ _ c.args.plan.now.plan c.args.d c.chain.result.now (length c.args.blocks.now) c.move_counted.ensures.value c.requires.gain.legal c.requires.legal c.requires.other c.chain.ensures.value c.requires.room

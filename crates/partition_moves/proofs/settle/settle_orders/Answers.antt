@@ -7,7 +7,7 @@ use Rattle.wire_cost.specs.Lengths.{AreWithin}
 use Rattle.order_search.specs.Steps.{IsPinnedLast}
 use Rattle.order_search.proofs.Legal.{AreTurned, chain_apart, chain_few, chain_within, legal_turned, pinned_last_in}
 use Rattle.order_search.proofs.Settling.{order_settled, plan_le, turned_more}
-use Rattle.partition_moves.proofs.Fitting.{roomy_kept}
+use Rattle.partition_moves.proofs.Refused.{kept_turned}
 use Rattle.partition_moves.proofs.settle.settle_orders.Goals as goal
 
 pub settle_chain-requires-clause-units : goal.settle_chain-requires-clause-units
@@ -41,6 +41,8 @@ loop-c-preserved c =
       turned = turned_more rules ends c.args.plan.now.plan q q s n (chain_at q n) (chain_at s n) c.loop-c.invariant.turned (omega arith) (sym (with_chain-same q n (chain_at q n) refl)) c.settle_chain.ensures.plan
           c.settle_chain.ensures.permutation c.settle_chain.ensures.pinned c.settle_chain.ensures.no_longer c.settle_chain.ensures.settled;
       rooms = c.settle_chain.ensures.rooms ∙ c.loop-c.invariant.rooms;
+      bits = c.settle_chain.ensures.bits ∙ c.loop-c.invariant.bits;
+      least = c.settle_chain.ensures.least ∙ c.loop-c.invariant.least;
       same_room = c.settle_chain.ensures.room ∙ c.loop-c.invariant.same_room;
     }
 
@@ -50,8 +52,12 @@ returns-clause-legal c =
     let turned : AreTurned c.args.plan.now.plan c.loop-c.plan.plan = record { count = t.count; chains = t.same } in
     legal_turned c.args.rules.now c.args.plan.now.plan c.loop-c.plan.plan c.requires.legal turned (λ k l. t.pinned k (omega arith))
 
-pub returns-clause-roomy : goal.returns-clause-roomy
-returns-clause-roomy c = roomy_kept c.args.rules.now _ _ c.loop-c.invariant.rooms c.requires.roomy
+pub returns-clause-kept : goal.returns-clause-kept
+returns-clause-kept c =
+    let t = c.loop-c.invariant.turned in
+    let turned : AreTurned c.args.plan.now.plan c.loop-c.plan.plan = record { count = t.count; chains = t.same } in
+    let legal = legal_turned c.args.rules.now c.args.plan.now.plan c.loop-c.plan.plan c.requires.legal turned (λ k l. t.pinned k (omega arith)) in
+    kept_turned c.args.rules.now c.args.plan.now c.loop-c.plan c.requires.kept c.requires.legal legal c.loop-c.invariant.rooms c.loop-c.invariant.bits c.loop-c.invariant.least t.count (λ k h. t.same k h)
 
 pub returns-clause-no_longer : goal.returns-clause-no_longer
 returns-clause-no_longer c =

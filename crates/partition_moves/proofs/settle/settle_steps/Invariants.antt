@@ -3,13 +3,13 @@ use Rattle.chain_rules.specs.Legality.{IsLegal}
 use Rattle.wire_cost.specs.Lengths.{plan_length_of}
 use Rattle.order_search.specs.Steps.{IsSettled}
 use Rattle.order_search.specs.declared.effort.Effort.TheVariants.{Full}
-use Rattle.partition_moves.specs.Roomy.{AreRoomyFor}
+use Rattle.partition_moves.specs.Roomy.{IsKept}
 use Rattle.partition_moves.proofs.settle.settle_steps.Given as goal
 
 abbrev pub invariant-passes : goal.invariant-passes
 invariant-passes l = record {
   legal : IsLegal l.rules l.plan.plan;
-  roomy : AreRoomyFor l.rules l.plan.rooms;
+  kept : IsKept l.rules l.plan;
   room : length l.rules.units < 32 * length l.blocks;
   no_longer : plan_length_of l.ends l.plan.plan ≤ plan_length_of l.ends l.fn.plan.plan;
   sums : length l.rules.units ≤ l.sums.room;

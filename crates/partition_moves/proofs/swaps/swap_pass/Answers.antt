@@ -10,7 +10,7 @@ pub loop-d-preserved : goal.loop-d-preserved
 loop-d-preserved c = elim c.if-swaps_into.branch [
   | then-swaps_into w ↦ record {
     legal = c.swaps_into.ensures.legal;
-    roomy = c.swaps_into.ensures.roomy;
+    kept = c.swaps_into.ensures.kept;
     room = omega (arith, c.swaps_into.ensures.room, c.loop-d.invariant.room);
     shorter = omega (arith, ap {B = ℕ} (λ (b : Bool). cond b 1 0) w.again-is, ap {B = ℕ} (λ (b : Bool). cond b 1 0) w.if-swaps_into.true, c.swaps_into.ensures.shorter, c.loop-d.invariant.shorter);
     same = λ e. absurd (not_both c.if-swaps_into.again w.again-is e);
@@ -18,7 +18,7 @@ loop-d-preserved c = elim c.if-swaps_into.branch [
   }
   | else-swaps_into w ↦ record {
     legal = c.swaps_into.ensures.legal;
-    roomy = c.swaps_into.ensures.roomy;
+    kept = c.swaps_into.ensures.kept;
     room = omega (arith, c.swaps_into.ensures.room, c.loop-d.invariant.room);
     shorter = omega (arith, ap {B = ℕ} (λ (b : Bool). cond b 1 0) w.again-is, ap {B = ℕ} (λ (b : Bool). cond b 1 0) w.if-swaps_into.false, c.swaps_into.ensures.shorter, c.loop-d.invariant.shorter);
     same = λ e. (c.swaps_into.ensures.quiet (not_true c.swaps_into.result w.if-swaps_into.false)).0 ∙ c.loop-d.invariant.same (sym w.again-is ∙ e);

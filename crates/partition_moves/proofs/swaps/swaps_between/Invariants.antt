@@ -3,13 +3,13 @@ use Rattle.chain_rules.specs.Legality.{IsLegal, chain_at}
 use Rattle.wire_cost.specs.Lengths.{chain_ends, plan_length_of}
 use Rattle.place_blocks.specs.Covers.{AreBlocks}
 use Rattle.partition_moves.specs.Links.{NoCloserSwapAt}
-use Rattle.partition_moves.specs.Roomy.{AreRoomyFor}
+use Rattle.partition_moves.specs.Roomy.{IsKept}
 use Rattle.partition_moves.proofs.swaps.swaps_between.Given as goal
 
 abbrev pub invariant-loop-i : goal.invariant-loop-i
 invariant-loop-i l = record {
   legal : IsLegal l.rules l.plan.plan;
-  roomy : AreRoomyFor l.rules l.plan.rooms;
+  kept : IsKept l.rules l.plan;
   room : length l.blocks ≡ length l.fn.blocks;
   blocks : AreBlocks (chain_ends l.ends l.d) (chain_at l.plan.plan l.d) l.blocks;
   shorter : plan_length_of l.ends l.plan.plan + cond l.again 1 0 ≤ plan_length_of l.ends l.fn.plan.plan;

@@ -1,15 +1,11 @@
 use Rattle.std.proofs.Common.{length}
-use Rattle.partition_moves.proofs.Fitting.{roomy_kept}
 use Rattle.partition_moves.proofs.Settled.{filled_few, filled_range}
 use Rattle.partition_moves.proofs.swaps.take_swap.Goals as goal
 
 pub fill_blocks-requires-clause-chain : goal.fill_blocks-requires-clause-chain
 fill_blocks-requires-clause-chain c =
-    filled_range c.args.rules.now c.args.ends.now _ _ c.args.plan.now.plan c.args.d c.chain.result.now c.swap_units.ensures.value c.requires.searchable c.requires.gain.legal c.requires.legal c.requires.other c.chain.ensures.value
+    filled_range c.args.rules.now c.args.ends.now _ _ c.args.plan.now.plan c.args.d c.chain.result.now c.swap_counted.ensures.value c.requires.searchable c.requires.gain.legal c.requires.legal c.requires.other c.chain.ensures.value
 
 pub fill_blocks-requires-clause-room : goal.fill_blocks-requires-clause-room
 fill_blocks-requires-clause-room c =
-    filled_few c.args.rules.now _ _ c.args.plan.now.plan c.args.d c.chain.result.now (length c.args.blocks.now) c.swap_units.ensures.value c.requires.gain.legal c.requires.legal c.requires.other c.chain.ensures.value c.requires.room
-
-pub returns-clause-roomy : goal.returns-clause-roomy
-returns-clause-roomy c = roomy_kept c.args.rules.now _ _ c.swap_units.ensures.rooms c.requires.roomy
+    filled_few c.args.rules.now _ _ c.args.plan.now.plan c.args.d c.chain.result.now (length c.args.blocks.now) c.swap_counted.ensures.value c.requires.gain.legal c.requires.legal c.requires.other c.chain.ensures.value c.requires.room

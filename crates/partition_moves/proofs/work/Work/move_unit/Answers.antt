@@ -47,4 +47,6 @@ returns c =
     record {
       value = planned-set (set vs c.args.c c.remove-unit.new.self) c.args.d c.insert.new.self (taken_out p (at c.args.c c.args.i)) (insert (chain_at (taken_out p (at c.args.c c.args.i)) c.args.d) c.args.j (unit_in p (at c.args.c c.args.i))) e put;
       rooms = rooms_set (set vs c.args.c c.remove-unit.new.self) c.args.d c.index_mut-2.result.now c.insert.new.self c.index_mut-2.ensures.value (c.insert.ensures.in_place room).1.0 ∙ kept;
+      bits = ap (λ (w : RoomyPlan). w.bits) c.self.view_is;
+      least = ap (λ (w : RoomyPlan). w.least) c.self.view_is;
     }

@@ -17,4 +17,6 @@ returns c =
     record {
       value = planned-set vs c.args.c (with_item v c.args.i c.args.unit) p (set (chain_at p c.args.c) c.args.i c.args.unit) view (ap (λ (xs : List ℕ). set xs c.args.i c.args.unit) there);
       rooms = rooms_set vs c.args.c v (with_item v c.args.i c.args.unit) c.index_mut.ensures.value refl ∙ ap (λ (w : RoomyPlan). w.rooms) c.self.view_is;
+      bits = ap (λ (w : RoomyPlan). w.bits) c.self.view_is;
+      least = ap (λ (w : RoomyPlan). w.least) c.self.view_is;
     }

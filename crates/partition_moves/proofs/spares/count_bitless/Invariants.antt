@@ -1,5 +1,5 @@
 use Rattle.std.proofs.Common.{◌≡◌, ◌≤◌, count_by, nat_eq, take}
-use Rattle.partition_moves.proofs.work.count_bitless.Given as goal
+use Rattle.partition_moves.proofs.spares.count_bitless.Given as goal
 
 abbrev pub invariant-loop-unit : goal.invariant-loop-unit
 invariant-loop-unit l = record {
