@@ -1,0 +1,10 @@
+pub mod Members
+pub mod Units
+pub mod Elements
+pub mod Placing
+pub mod Traces
+pub mod Rows
+pub mod Agreeing
+pub mod NetPins
+pub mod Chains
+pub mod Heads

@@ -1,0 +1,3 @@
+pub mod MadeAsked
+pub mod MadeBlocks
+pub mod Laws

@@ -1,0 +1,10 @@
+pub mod Names
+pub mod Places
+pub mod MadeMacros
+pub mod MadeComponents
+pub mod MadePins
+pub mod MadeNets
+pub mod MadeChains
+pub mod MadeStatements
+pub mod MadeDesign
+pub mod Laws

@@ -1,0 +1,5 @@
+pub mod Joins
+pub mod Sources
+pub mod Leading
+pub mod Bits
+pub mod Netlists

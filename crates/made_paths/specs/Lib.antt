@@ -1,0 +1,3 @@
+pub mod MadeNetlist
+pub mod MadePaths
+pub mod Laws

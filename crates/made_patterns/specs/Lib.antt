@@ -1,0 +1,3 @@
+pub mod MadeHead
+pub mod MadePatterns
+pub mod Laws

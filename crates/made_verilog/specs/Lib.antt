@@ -1,0 +1,3 @@
+pub mod MadeWords
+pub mod MadeModule
+pub mod Laws
