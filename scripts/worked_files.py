@@ -45,3 +45,8 @@ def answer(program, words, folder, **how):
                 left[name] = file.read()
             os.remove(path)
     return done.returncode, done.stdout, left
+
+
+def told(program, words, folder):
+    """What a run in the folder tells its user on standard error."""
+    return subprocess.run([program] + words, cwd=folder, stdin=subprocess.DEVNULL, stdout=subprocess.DEVNULL, stderr=subprocess.PIPE, timeout=60).stderr

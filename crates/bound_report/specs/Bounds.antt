@@ -1,5 +1,5 @@
 -- What `bound` says of a placed design: for each chain a length that no order of its units goes below, with the numbers that prove it.
-use Rattle.std.specs.Prelude.{◌≡◌, ℕ, ℤ, pos, ◌+◌, ◌-◌, ◌*◌, ◌/◌, ◌<◌, ◌≤ℤ◌, nat_lt, if◌then◌else◌, List, [], ◌∷◌, ◌++◌, length, slice_index_or, sum_by, codes, decimal, Option, Some, None}
+use Rattle.std.specs.Prelude.{◌≡◌, ℕ, ℤ, pos, ◌+◌, ◌-◌, ◌*◌, ◌/◌, ◌<◌, ◌≤◌, ◌≤ℤ◌, nat_lt, if◌then◌else◌, List, [], ◌∷◌, ◌++◌, length, slice_index_or, sum_by, codes, decimal, Option, Some, None}
 use Rattle.std.specs.Fmt.{signed_decimal}
 use Rattle.netlist_core.specs.declared.netlist.Netlist.{Netlist}
 use Rattle.cell_table.specs.Cells.{Cells}
@@ -38,6 +38,8 @@ pub record IsChainBound (w : ChainEnds) (us : List ℕ) (b : ChainBound) : Type 
   pub above : total b.potentials.enter ≤ℤ pos b.bound
   -- the bound by trees is at most the length of every order of the units too
   pub tree : IsBelowOrders w us (pos b.tree)
+  -- and no less than the bound
+  pub no_less : b.bound ≤ b.tree
 
 -- stands for what is behind the last chain
 abbrev pub no_bound : ChainBound

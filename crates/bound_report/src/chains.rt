@@ -20,7 +20,7 @@ pub(crate) struct ChainBound {
     pub(crate) bound: u64,
     /// The certificate.
     pub(crate) potentials: Potentials,
-    /// The bound by trees, or 0 where none was asked for.
+    /// The greater of that and the bound by trees, where one was asked for.
     pub(crate) tree: u64,
 }
 
@@ -59,7 +59,7 @@ fn bound_of(
     let length = wire_of(ends, chain, units);
     let potentials = potentials(alloc, ends, chain, units)?;
     let bound = value(&potentials).unsigned_abs();
-    let tree = tree_of(alloc, ends, chain, units, rounds)?;
+    let tree = tree_of(alloc, ends, chain, units, rounds)?.max(bound);
     Ok(ChainBound {
         length,
         bound,

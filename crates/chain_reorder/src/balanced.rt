@@ -12,6 +12,7 @@ ghost use Rattle.chain_reorder.specs.Planned.{IsGoodIn, AreMeasuredIn};
 
 use crate::figures::{FoundPlan, Longest, Measured};
 use crate::fixed::fixed_bits;
+use crate::limits::limit_note;
 use base_types::{Name, NoMemory, Rows};
 use chain_balance::{balance, least_law, longest};
 use chain_rules::Plan;
@@ -100,12 +101,14 @@ pub(crate) fn balanced_plan(alloc: Global, files: &DesignFiles) -> Result<FoundP
     let mut plan = rules.read.copy(alloc)?;
     balance(alloc, rules, fixed, &mut plan)?;
     order_within(alloc, files, fixed, &mut plan)?;
-    // The paths have as many bits as before, so that this moves nothing as a rule; it tells the cut of the plan as it is now.
+    // Each chain has its units still, so that none moves now; this tells the cut of the plan as it is.
     let cut = balance(alloc, rules, fixed, &mut plan)?;
+    let note = limit_note(alloc, files, &plan, &cut)?;
     let longest = Longest {
         read: longest(rules, fixed, &rules.read) as u64,
         written: longest(rules, fixed, &plan) as u64,
         cut: cut_names(alloc, files, cut)?,
+        note,
     };
     Ok(FoundPlan {
         plan,

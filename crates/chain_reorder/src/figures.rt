@@ -28,6 +28,8 @@ pub struct Longest {
     /// The plain names of the scan-out ports of the paths that are reached from the first longest one, step by step by giving, in
     /// the order of the paths; none where there is no path, or some unit hasn't one bit.
     pub cut: Option<Rows<Name>>,
+    /// A line for the user, without its end, that tells what limits the longest path. No clause speaks of it.
+    pub note: Option<String>,
 }
 
 /// What is measured of a plan, by what it is searched for.

@@ -14,6 +14,7 @@ mod balanced;
 mod figures;
 mod fixed;
 mod goal;
+mod limits;
 mod patterns;
 mod plans;
 mod reorder;

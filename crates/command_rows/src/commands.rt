@@ -24,10 +24,11 @@ const INPUTS: [(Slot, &str); 8] = [
 ];
 
 /// The files that are written, with the file that each is made of.
-const OUTPUTS: [(Slot, &str, &str); 3] = [
+const OUTPUTS: [(Slot, &str, &str); 4] = [
     (Slot::OutVerilog, "w.v", "v.v"),
     (Slot::OutDef, "w.def", "d.def"),
     (Slot::OutStil, "w.stil", "s.stil"),
+    (Slot::OutSvg, "w.svg", "d.def"),
 ];
 
 /// The bytes that a read or a write moves at most.
@@ -54,6 +55,7 @@ pub(crate) fn form_of(call: &str) -> Option<&'static str> {
             "failmap --table t.toml --verilog v.v --stil s.stil --new-verilog nv.v --new-stil ns.stil --log l.log"
         }
         "bound" => "bound --table t.toml --lef m.lef --verilog v.v --def d.def",
+        "draw" => { "draw --table t.toml --lef m.lef --verilog v.v --def d.def --out-svg w.svg" }
         "bench" => "bench",
         "balance" => {
             "balance --table t.toml --lef m.lef --verilog v.v --def d.def --out-verilog w.v --out-def w.def"
@@ -120,7 +122,7 @@ fn wanted_in<'t>(row: &Row<'t>, file: &str) -> Result<Option<&'t Value>> {
         None => Ok(None),
         Some(Value::Table(files)) => {
             for (name, _text) in files {
-                let is_output = matches!(name.as_str(), "w.v" | "w.def" | "w.stil");
+                let is_output = matches!(name.as_str(), "w.v" | "w.def" | "w.stil" | "w.svg");
                 ensure!(is_output, "{name:?} isn't written");
             }
             Ok(files.get(file))

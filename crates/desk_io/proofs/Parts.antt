@@ -28,14 +28,14 @@ part_reads old new file room count portion some wide within is moved same =
     }
 
 -- the part of a slot is the one that stands at its number
-part_of : (slot : Slot) (parts : List PartState) (old : PartState) (at : ℕ) → at ≡ number slot → length parts ≡ 12 → old ≡ get_or parts at old → part_at parts slot ≡ old
+part_of : (slot : Slot) (parts : List PartState) (old : PartState) (at : ℕ) → at ≡ number slot → length parts ≡ 13 → old ≡ get_or parts at old → part_at parts slot ≡ old
 part_of slot parts old at here all found = let small = number_small slot in grind (arith, common_steps)
 
-part_set : (slot : Slot) (parts : List PartState) (new : PartState) (at : ℕ) → at ≡ number slot → length parts ≡ 12 → part_at (set parts at new) slot ≡ new
+part_set : (slot : Slot) (parts : List PartState) (new : PartState) (at : ℕ) → at ≡ number slot → length parts ≡ 13 → part_at (set parts at new) slot ≡ new
 part_set slot parts new at here all = let small = number_small slot in grind (arith, common_steps)
 
 pub part_reads_at : (slot : Slot) (parts : List PartState) (old new : PartState) (at : ℕ) (files : List (Slot × List ℕ)) (file room : List ℕ) (count portion : ℕ) →
-    0 < portion → 0 < length room → ((slot : Slot) → (part_at parts slot).taken ≤ length (bytes_of files slot)) → count ≡ min portion (min (length room) (length file - old.taken)) → at ≡ number slot → length parts ≡ 12 → old ≡ get_or parts at old → file ≡ bytes_of files slot → take count room ≡ take count (drop old.taken file) → new ≡ record old { taken = old.taken + count } →
+    0 < portion → 0 < length room → ((slot : Slot) → (part_at parts slot).taken ≤ length (bytes_of files slot)) → count ≡ min portion (min (length room) (length file - old.taken)) → at ≡ number slot → length parts ≡ 13 → old ≡ get_or parts at old → file ≡ bytes_of files slot → take count room ≡ take count (drop old.taken file) → new ≡ record old { taken = old.taken + count } →
     HasRead count room (state_of (part_at parts slot) (bytes_of files slot)) (state_of (part_at (set parts at new) slot) (bytes_of files slot))
 part_reads_at slot parts old new at files file room count portion some wide within is here all found whole moved same =
     let before : part_at parts slot ≡ old = part_of slot parts old at here all found in
@@ -55,7 +55,7 @@ part_writes old new file piece count portion some wide space is appended same = 
 }
 
 pub part_writes_at : (slot : Slot) (parts : List PartState) (old new : PartState) (at : ℕ) (file piece : List ℕ) (count portion : ℕ) →
-    0 < portion → 0 < length piece → length old.written < old.room → count ≡ min portion (min (length piece) (old.room - length old.written)) → at ≡ number slot → length parts ≡ 12 → old ≡ get_or parts at old → new.written ≡ old.written ++ take count piece → new ≡ record old { written = new.written } →
+    0 < portion → 0 < length piece → length old.written < old.room → count ≡ min portion (min (length piece) (old.room - length old.written)) → at ≡ number slot → length parts ≡ 13 → old ≡ get_or parts at old → new.written ≡ old.written ++ take count piece → new ≡ record old { written = new.written } →
     HasWritten count piece (state_of (part_at parts slot) file) (state_of (part_at (set parts at new) slot) file)
 part_writes_at slot parts old new at file piece count portion some wide space is here all found appended same =
     let before : part_at parts slot ≡ old = part_of slot parts old at here all found in
@@ -63,7 +63,7 @@ part_writes_at slot parts old new at file piece count portion some wide space is
     rw (before, after) (part_writes old new file piece count portion some wide space is appended same)
 
 -- a desk stays one where a part takes nothing and keeps its room
-pub desk_kept : (desk : MemoryState) (old new : PartState) (at : ℕ) → IsMemoryDesk desk → at < 12 → old ≡ get_or desk.parts at old → new ≡ record old { written = new.written } → IsMemoryDesk (record desk { parts = set desk.parts at new })
+pub desk_kept : (desk : MemoryState) (old new : PartState) (at : ℕ) → IsMemoryDesk desk → at < 13 → old ≡ get_or desk.parts at old → new ≡ record old { written = new.written } → IsMemoryDesk (record desk { parts = set desk.parts at new })
 desk_kept desk old new at is small found same =
     let taken : new.taken ≡ old.taken = ap (λ (p : PartState). p.taken) same in
     let room : new.room ≡ old.room = ap (λ (p : PartState). p.room) same in

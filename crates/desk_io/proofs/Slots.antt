@@ -2,7 +2,7 @@
 use Rattle.std.proofs.Common.{◌≡◌, ◌≢◌, ◌<◌, ◌⊎◌, ℕ, Bool, true, false, nat_lt, refl, ap, subst, arith, inl, inr}
 use Rattle.std.proofs.lemmas.Bool.Decides.{nat_tests}
 use Rattle.desk_io.specs.declared.slot.Slot.{Slot}
-use Rattle.desk_io.specs.declared.slot.Slot.TheVariants.{Table, Lef, Verilog, Def, Stil, NewVerilog, NewStil, Log, OutVerilog, OutDef, OutStil, Console}
+use Rattle.desk_io.specs.declared.slot.Slot.TheVariants.{Table, Lef, Verilog, Def, Stil, NewVerilog, NewStil, Log, OutVerilog, OutDef, OutStil, OutSvg, Console}
 use Rattle.desk_io.specs.declared.slot.Way.{Way}
 use Rattle.desk_io.specs.declared.slot.Way.TheVariants.{In, Out}
 use Rattle.desk_io.specs.Number.{number}
@@ -10,7 +10,7 @@ use Rattle.desk_io.specs.Ways.{way_of, IsIn, IsOut}
 use Rattle.desk_io.specs.Desk.{IsInput, IsOutput}
 use Rattle.desk_io.specs.Outputs.{turn}
 
-pub number_small : (slot : Slot) → number slot < 12
+pub number_small : (slot : Slot) → number slot < 13
 number_small Table = omega arith
 number_small Lef = omega arith
 number_small Verilog = omega arith
@@ -22,6 +22,7 @@ number_small Log = omega arith
 number_small OutVerilog = omega arith
 number_small OutDef = omega arith
 number_small OutStil = omega arith
+number_small OutSvg = omega arith
 number_small Console = omega arith
 
 -- no two slots have one number
@@ -37,6 +38,7 @@ number_once Log Log e = refl
 number_once OutVerilog OutVerilog e = refl
 number_once OutDef OutDef e = refl
 number_once OutStil OutStil e = refl
+number_once OutSvg OutSvg e = refl
 number_once Console Console e = refl
 number_once one other e = absurd (omega arith)
 
@@ -95,9 +97,10 @@ low_number Log input = omega arith
 low_number slot input = absurd input
 
 -- each output has its turn
-pub early_turn : (slot : Slot) → IsOutput slot → turn slot < 4
+pub early_turn : (slot : Slot) → IsOutput slot → turn slot < 5
 early_turn OutVerilog output = omega arith
 early_turn OutDef output = omega arith
 early_turn OutStil output = omega arith
+early_turn OutSvg output = omega arith
 early_turn Console output = omega arith
 early_turn slot output = absurd output

@@ -78,7 +78,7 @@ FailsToWrite desk slot = IsFailing desk ⊎ ((TakesNothing desk → ⊥) × IsFu
 
 -- what is true of every desk in memory
 pub record IsMemoryDesk (desk : MemoryState) : Type 0 where
-  pub all : length desk.parts ≡ 12
+  pub all : length desk.parts ≡ 13
   pub some : 0 < desk.portion
   pub within : (slot : Slot) → (part_at desk.parts slot).taken ≤ length (bytes_of desk.files slot)
   pub rooms : (slot : Slot) → IsOutput slot → (part_at desk.parts slot).room ≡ desk.room

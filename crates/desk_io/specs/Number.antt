@@ -1,7 +1,7 @@
 -- The numbers of the slots, in the order in which they are named.
 use Rattle.std.specs.Prelude.{ℕ}
 use Rattle.desk_io.specs.declared.slot.Slot.{Slot}
-use Rattle.desk_io.specs.declared.slot.Slot.TheVariants.{Table, Lef, Verilog, Def, Stil, NewVerilog, NewStil, Log, OutVerilog, OutDef, OutStil, Console}
+use Rattle.desk_io.specs.declared.slot.Slot.TheVariants.{Table, Lef, Verilog, Def, Stil, NewVerilog, NewStil, Log, OutVerilog, OutDef, OutStil, OutSvg, Console}
 
 -- the slot's number
 abbrev pub number : Slot → ℕ
@@ -16,4 +16,5 @@ number Log = 7
 number OutVerilog = 8
 number OutDef = 9
 number OutStil = 10
-number Console = 11
+number OutSvg = 11
+number Console = 12

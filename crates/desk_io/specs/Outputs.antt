@@ -1,7 +1,7 @@
 -- The outputs of a command, put one after another.
-use Rattle.std.specs.Prelude.{◌≡◌, ◌<◌, ℕ, List, []}
+use Rattle.std.specs.Prelude.{◌≡◌, ◌<◌, ℕ, List, [], None}
 use Rattle.desk_io.specs.declared.slot.Slot.{Slot}
-use Rattle.desk_io.specs.declared.slot.Slot.TheVariants.{OutVerilog, OutDef, OutStil, Console}
+use Rattle.desk_io.specs.declared.slot.Slot.TheVariants.{OutVerilog, OutDef, OutStil, OutSvg, Console}
 use Rattle.desk_io.specs.declared.outputs.Outputs.{Outputs}
 use Rattle.desk_io.specs.Desk.{SlotState, IsOutput, IsUnopened, SameElsewhere}
 use Rattle.desk_io.specs.Causes.{HasRisen}
@@ -14,12 +14,13 @@ abbrev pub output_at : Outputs → Slot → List ℕ
 output_at outputs OutVerilog = outputs.verilog
 output_at outputs OutDef = outputs.def
 output_at outputs OutStil = outputs.stil
+output_at outputs OutSvg = outputs.svg
 output_at outputs Console = outputs.console
 output_at outputs slot = []
 
--- the outputs of a command that says this and writes no file
+-- the outputs of a command that says this, writes no file and has no note
 abbrev pub saying : List ℕ → Outputs
-saying text = record { verilog = []; def = []; stil = []; console = text }
+saying text = record { verilog = []; def = []; stil = []; svg = []; console = text; note = None }
 
 -- the place of an output in the order in which they are put
 abbrev pub turn : Slot → ℕ

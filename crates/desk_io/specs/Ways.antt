@@ -1,7 +1,7 @@
 -- What is done with a slot: it is read, or written.
 use Rattle.std.specs.Prelude.{◌<◌, ℕ, List, length}
 use Rattle.desk_io.specs.declared.slot.Slot.{Slot}
-use Rattle.desk_io.specs.declared.slot.Slot.TheVariants.{Table, Lef, Verilog, Def, Stil, NewVerilog, NewStil, Log, OutVerilog, OutDef, OutStil, Console}
+use Rattle.desk_io.specs.declared.slot.Slot.TheVariants.{Table, Lef, Verilog, Def, Stil, NewVerilog, NewStil, Log, OutVerilog, OutDef, OutStil, OutSvg, Console}
 use Rattle.desk_io.specs.declared.slot.Way.{Way}
 use Rattle.desk_io.specs.declared.slot.Way.TheVariants.{In, Out}
 
@@ -18,7 +18,8 @@ way_of Log = In 67108864
 way_of OutVerilog = Out 1
 way_of OutDef = Out 2
 way_of OutStil = Out 0
-way_of Console = Out 3
+way_of OutSvg = Out 3
+way_of Console = Out 4
 
 -- the slot is read
 abbrev pub IsIn : Way → Type 0
@@ -37,7 +38,7 @@ limit_in (Out turn) = 67108864
 
 -- the place of an output in the order in which outputs are put, behind all of them for an input
 abbrev pub turn_in : Way → ℕ
-turn_in (In limit) = 4
+turn_in (In limit) = 5
 turn_in (Out turn) = turn
 
 -- an input whose file has more bytes than it may

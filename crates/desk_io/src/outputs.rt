@@ -1,5 +1,5 @@
 ghost use Rattle.std.specs.Prelude.{◌≡◌, ◌<◌, OnOk, OnErr};
-ghost use Rattle.desk_io.specs.Desk.{IsOutput, SameNames};
+ghost use Rattle.desk_io.specs.Desk.{IsOutput, SameNames, SameSlots};
 ghost use Rattle.desk_io.specs.Causes.{SomeRose, SameCounts};
 ghost use Rattle.desk_io.specs.Names.{AllowsNames, OnlyNamed};
 ghost use Rattle.desk_io.specs.Outputs.{output_at, saying, turn, OutputsUnopened, HasPutOutputs, HasStoppedPutting, HoldsPrefixes};
@@ -13,7 +13,7 @@ use base_types::Text;
 use std::alloc::Global;
 
 /// How many outputs there are, the console among them.
-const OUTPUTS: usize = 4;
+const OUTPUTS: usize = 5;
 
 /// The texts of a command's outputs; that of a file that isn't named is not put.
 #[derive(Debug, Drop)]
@@ -21,7 +21,10 @@ pub struct Outputs {
     pub verilog: Text,
     pub def: Text,
     pub stil: Text,
+    pub svg: Text,
     pub console: Text,
+    /// A line for the user beside the outputs, without its end. No clause speaks of what it says.
+    pub note: Option<String>,
 }
 
 impl Outputs {
@@ -33,8 +36,20 @@ impl Outputs {
             verilog: Text::of(Vec::new(alloc)),
             def: Text::of(Vec::new(alloc)),
             stil: Text::of(Vec::new(alloc)),
+            svg: Text::of(Vec::new(alloc)),
             console,
+            note: None,
         }
+    }
+}
+
+/// Tells the user what stands beside the outputs.
+fn tell_note<D: Desk>(note: &Option<String>, desk: &mut D)
+    ensures slots { SameSlots (D.state desk.old) (D.state desk.new) }
+    ensures names { SameNames (D.allows desk.old) (D.allows desk.new) }
+{
+    if let Some(line) = note {
+        desk.note(line.as_str());
     }
 }
 
@@ -46,6 +61,7 @@ fn output_text(outputs: &Outputs, slot: Slot) -> &[u8]
         Slot::OutVerilog => outputs.verilog.bytes(),
         Slot::OutDef => outputs.def.bytes(),
         Slot::OutStil => outputs.stil.bytes(),
+        Slot::OutSvg => outputs.svg.bytes(),
         Slot::Console => outputs.console.bytes(),
         _ => &[],
     }
@@ -61,11 +77,13 @@ fn output_slot(at: usize) -> Slot
         0 => Slot::OutStil,
         1 => Slot::OutVerilog,
         2 => Slot::OutDef,
+        3 => Slot::OutSvg,
         _ => Slot::Console,
     }
 }
 
-/// Puts each output that is named, in the order STIL, Verilog, DEF, console: opens it, writes it whole, closes it.
+/// Tells the user the note, and puts each output that is named, in the order STIL, Verilog, DEF, SVG, console: opens it, writes it
+/// whole, closes it.
 ///
 /// After the first call that fails no other is made. It takes no memory.
 pub fn put_outputs<D: Desk>(names: &Names, outputs: &Outputs, desk: &mut D) -> Result<(), PutFault>
@@ -85,6 +103,7 @@ pub fn put_outputs<D: Desk>(names: &Names, outputs: &Outputs, desk: &mut D) -> R
     ensures elsewhere { OnlyNamed names.now IsOutput (D.state desk.old) (D.state desk.new) }
     ensures names { SameNames (D.allows desk.old) (D.allows desk.new) }
 {
+    tell_note(&outputs.note, desk);
     for at in 0..OUTPUTS {
         let slot = output_slot(at);
         if let Some(name) = name_of(names, slot) {

@@ -12,7 +12,7 @@ const TABLE_LIMIT: u64 = 1048576;
 pub(crate) const FILE_LIMIT: u64 = 67108864;
 
 /// How many slots there are.
-pub const SLOTS: usize = 12;
+pub const SLOTS: usize = 13;
 
 /// How many of them are inputs: the first ones.
 pub const INPUTS: usize = 8;
@@ -42,6 +42,8 @@ pub enum Slot {
     OutDef,
     /// The STIL file that is written.
     OutStil,
+    /// The SVG file that is written.
+    OutSvg,
     /// Where a run says what it did, or which fault it found.
     Console,
 }
@@ -80,7 +82,8 @@ impl Slot {
             Slot::OutStil => Way::Out(0),
             Slot::OutVerilog => Way::Out(1),
             Slot::OutDef => Way::Out(2),
-            Slot::Console => Way::Out(3),
+            Slot::OutSvg => Way::Out(3),
+            Slot::Console => Way::Out(4),
         }
     }
 

@@ -69,7 +69,9 @@ fn outputs(alloc: Global) -> Result<Outputs, NoMemory> {
         verilog: Text::copy(alloc, b"module")?,
         def: Text::copy(alloc, b"DESIGN")?,
         stil: Text::copy(alloc, b"STIL")?,
+        svg: Text::copy(alloc, b"<svg>")?,
         console: Text::copy(alloc, b"moved 0")?,
+        note: None,
     })
 }
 

@@ -20,10 +20,11 @@ pub(crate) const INPUTS: [(Slot, &str); 8] = [
 ];
 
 /// The outputs of the files, and what is to stand in them.
-pub(crate) const OUTPUTS: [(Slot, &str); 3] = [
+pub(crate) const OUTPUTS: [(Slot, &str); 4] = [
     (Slot::OutVerilog, "w.v"),
     (Slot::OutDef, "w.def"),
     (Slot::OutStil, "w.stil"),
+    (Slot::OutSvg, "w.svg"),
 ];
 
 /// The texts of slots.

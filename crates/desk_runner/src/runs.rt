@@ -8,7 +8,7 @@ use scan_job::run;
 use std::alloc::Global;
 use std::fmt::Write;
 
-const SLOTS: [Slot; 12] = [
+const SLOTS: [Slot; 13] = [
     Slot::Table,
     Slot::Lef,
     Slot::Verilog,
@@ -20,6 +20,7 @@ const SLOTS: [Slot; 12] = [
     Slot::OutVerilog,
     Slot::OutDef,
     Slot::OutStil,
+    Slot::OutSvg,
     Slot::Console,
 ];
 
@@ -120,7 +121,7 @@ const FAULT: Row = Row {
     ..PATTERNS
 };
 
-const ROWS: [Row; 11] = [
+const ROWS: [Row; 12] = [
     Row {
         words: "rewire --verilog v.v --cell=SDF --in-pin SI --out-pin=Q --scan-in si --scan-out so --out-verilog w.v a c b",
         console: "moved 3\n",
@@ -182,6 +183,19 @@ const ROWS: [Row; 11] = [
             (Slot::NewVerilog, 4),
             (Slot::NewStil, 4),
             (Slot::Log, 4),
+            (Slot::Console, 3),
+        ],
+        ..CHECK
+    },
+    Row {
+        words: "draw --table t.toml --lef m.lef --verilog v.v --def d.def --out-svg w.svg",
+        console: "drawn 4\n",
+        calls: &[
+            (Slot::Table, 4),
+            (Slot::Lef, 4),
+            (Slot::Verilog, 4),
+            (Slot::Def, 4),
+            (Slot::OutSvg, 3),
             (Slot::Console, 3),
         ],
         ..CHECK
@@ -279,7 +293,13 @@ fn wanted(alloc: Global, row: &Row, number: u64) -> Result<String, NoMemory> {
             (format!(in alloc; "{} {calls}", row.status)?, calls)
         }
     };
-    for slot in [Slot::OutVerilog, Slot::OutDef, Slot::OutStil, Slot::Console] {
+    for slot in [
+        Slot::OutVerilog,
+        Slot::OutDef,
+        Slot::OutStil,
+        Slot::OutSvg,
+        Slot::Console,
+    ] {
         let all = calls_on(row.calls, slot, u64::MAX);
         let part = part_of(calls_on(row.calls, slot, done), all);
         write!(&mut text, " {part}")?;
@@ -415,7 +435,11 @@ fn try_bytes(cases: &mut Cases, flops: &Flops) -> Result<(), NoMemory> {
         ..SOUND
     };
     let came = subject.answer(cases.alloc, manner)?;
-    cases.compare("a byte a call", came.as_str(), "0 3905 all all all all")
+    cases.compare(
+        "a byte a call",
+        came.as_str(),
+        "0 3905 all all all nothing all",
+    )
 }
 
 pub(crate) fn runs(alloc: Global, flops: &Flops) -> Result<Cases, NoMemory> {

@@ -12,7 +12,7 @@ use std::fmt::Write;
 /// further words. Words of no form say nothing, and a run of them opens nothing.
 type Row = (&'static str, &'static str);
 
-const ROWS: [Row; 42] = [
+const ROWS: [Row; 45] = [
     (
         "rewire a --cell=C --verilog a=b b c --in-pin=I --out-pin O --scan-in=si --scan-out=so --out-verilog=w d",
         "Rewire a=b C I O si so w; a b c d",
@@ -35,6 +35,15 @@ const ROWS: [Row; 42] = [
         "Failmap t v s w n l;",
     ),
     ("bench --units=200", "Bench 200;"),
+    (
+        "draw --out-svg=p --def d --lef m --table t --verilog v",
+        "Draw t m v d p;",
+    ),
+    (
+        "draw --out-svg=d --def d --lef m --table t --verilog v",
+        NOTHING,
+    ),
+    ("draw --def d --lef m --table t --verilog v", NOTHING),
     (
         "balance --out-def x --out-verilog=w --def d --lef m --table t --verilog v",
         "Balance t m v d w x;",

@@ -71,7 +71,7 @@ impl FileDesk {
         FileDesk {
             rt,
             files: [
-                None, None, None, None, None, None, None, None, None, None, None, None,
+                None, None, None, None, None, None, None, None, None, None, None, None, None,
             ],
             stages: [Stage::Unopened; SLOTS],
             faults: [0; SLOTS],

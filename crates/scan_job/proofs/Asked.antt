@@ -19,6 +19,7 @@ use Rattle.scan_job.specs.declared.commands.bound.BoundRequest.{BoundRequest}
 use Rattle.scan_job.specs.declared.commands.verify.VerifyRequest.{VerifyRequest}
 use Rattle.scan_job.specs.declared.commands.failmap.FailmapRequest.{FailmapRequest}
 use Rattle.scan_job.specs.declared.commands.bench.BenchRequest.{BenchRequest}
+use Rattle.scan_job.specs.declared.commands.draw.DrawRequest.{DrawRequest}
 use Rattle.chain_reorder.specs.declared.goal.Goal.{Goal}
 use Rattle.chain_reorder.specs.declared.goal.Goal.TheVariants as goals
 use Rattle.scan_job.specs.Commands.Reorder.{goal_verb}
@@ -39,6 +40,7 @@ use Rattle.scan_job.proofs.BoundLaws.{bound_by, bound_back, made_bound, bound_fa
 use Rattle.scan_job.proofs.VerifyLaws.{verify_by, verify_back, made_verify, verify_fault_same, verify_texts_same}
 use Rattle.scan_job.proofs.FailmapLaws.{failmap_by, failmap_back, made_failmap, failmap_fault_same, failmap_texts_same}
 use Rattle.scan_job.proofs.BenchLaws.{bench_by, bench_back, made_bench, bench_fault_same, bench_texts_same}
+use Rattle.scan_job.proofs.DrawLaws.{draw_by, draw_back, made_draw, draw_fault_same, draw_texts_same}
 
 -- the request of a command, its values and the further words, and some request where they are no such values
 request_by : Verb → List Text → List Text → Request → Request
@@ -52,6 +54,7 @@ request_by verbs.Verify values further other = verify_by values other
 request_by verbs.Failmap values further other = failmap_by values other
 request_by verbs.Bench values further other = bench_by values other
 request_by verbs.Balance values further other = balance_by values other
+request_by verbs.Draw values further other = draw_by values other
 
 -- by the command of a goal
 by_goal : (goal : Goal) (values further : List Text) (other : Request) → request_by (goal_verb goal) values further other ≡ goal_request goal values other
@@ -71,6 +74,7 @@ request_back (requests.Bound r) other = bound_back r other
 request_back (requests.Verify r) other = verify_back r other
 request_back (requests.Failmap r) other = failmap_back r other
 request_back (requests.Bench r) other = bench_back r other
+request_back (requests.Draw r) other = draw_back r other
 
 -- an order is that of one request at most
 pub order_once : (one other : Request) → order_of one ≡ order_of other → one ≡ other
@@ -89,6 +93,7 @@ made verbs.Verify values given further each apart count = made_verify values giv
 made verbs.Failmap values given further each apart count = made_failmap values given further each count
 made verbs.Bench values given further each apart count = made_bench values given further each count
 made verbs.Balance values given further each apart count = made_balance values given further each count
+made verbs.Draw values given further each apart count = made_draw values given further each count
 
 -- the values of an order ask for this of a command
 abbrev pub MadeBy : Verb → Order → Type 0
@@ -102,6 +107,7 @@ MadeBy verbs.Verify order = (r : VerifyRequest) × (order_of (requests.Verify r)
 MadeBy verbs.Failmap order = (r : FailmapRequest) × (order_of (requests.Failmap r) ≡ order)
 MadeBy verbs.Bench order = (r : BenchRequest) × (order_of (requests.Bench r) ≡ order)
 MadeBy verbs.Balance order = IsDesignOrder order
+MadeBy verbs.Draw order = (r : DrawRequest) × (order_of (requests.Draw r) ≡ order)
 
 -- so of the command of a goal
 made_goal : (goal : Goal) (order : Order) → IsDesignOrder order → MadeBy (goal_verb goal) order
@@ -119,6 +125,7 @@ made_request (requests.Bound r) = (r, refl)
 made_request (requests.Verify r) = (r, refl)
 made_request (requests.Failmap r) = (r, refl)
 made_request (requests.Bench r) = (r, refl)
+made_request (requests.Draw r) = (r, refl)
 
 pub made_as : (verb : Verb) (order : Order) → order.verb ≡ verb → IsAsked order → MadeBy verb order
 made_as verb order is asked =
@@ -137,6 +144,7 @@ command_same (requests.Bound r) one other fault agree is = bound_fault_same r on
 command_same (requests.Verify r) one other fault agree is = verify_fault_same r one other fault agree is
 command_same (requests.Failmap r) one other fault agree is = failmap_fault_same r one other fault agree is
 command_same (requests.Bench r) one other fault agree is = bench_fault_same r one other fault agree is
+command_same (requests.Draw r) one other fault agree is = draw_fault_same r one other fault agree is
 
 pub texts_same : (request : Request) (one other : Files) (outputs : Outputs) → AgreeAt request one other → AreTexts request one outputs → AreTexts request other outputs
 texts_same (requests.Rewire r) one other outputs agree are = rewire_texts_same r one other outputs agree are
@@ -149,6 +157,7 @@ texts_same (requests.Bound r) one other outputs agree are = bound_texts_same r o
 texts_same (requests.Verify r) one other outputs agree are = verify_texts_same r one other outputs agree are
 texts_same (requests.Failmap r) one other outputs agree are = failmap_texts_same r one other outputs agree are
 texts_same (requests.Bench r) one other outputs agree are = bench_texts_same r one other outputs agree are
+texts_same (requests.Draw r) one other outputs agree are = draw_texts_same r one other outputs agree are
 
 abbrev further_in : Values → List Text
 further_in values = values (codes "further")

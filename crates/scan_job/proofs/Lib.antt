@@ -3,6 +3,7 @@ pub mod Options
 pub mod RewireLaws
 pub mod TraceLaws
 pub mod CheckLaws
+pub mod DrawLaws
 pub mod ReorderLaws
 pub mod PatternsLaws
 pub mod PlayLaws

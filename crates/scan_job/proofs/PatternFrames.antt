@@ -3,7 +3,7 @@ use Rattle.std.proofs.Common.{◌≡◌, ◌≢◌, ◌<◌, ◌⊎◌, ℕ, Lis
 use Rattle.base_types.specs.declared.fault.Fault.{Fault}
 use Rattle.base_types.specs.FirstFault.{IsFirstFault}
 use Rattle.desk_io.specs.declared.slot.Slot.{Slot}
-use Rattle.desk_io.specs.declared.slot.Slot.TheVariants.{Table, Lef, Verilog, Def, Stil, NewVerilog, NewStil, Log, OutVerilog, OutDef, OutStil, Console}
+use Rattle.desk_io.specs.declared.slot.Slot.TheVariants.{Table, Lef, Verilog, Def, Stil, NewVerilog, NewStil, Log, OutVerilog, OutDef, OutStil, OutSvg, Console}
 use Rattle.desk_io.specs.declared.outputs.Outputs.{Outputs}
 use Rattle.desk_io.specs.Number.{number}
 use Rattle.desk_io.specs.Desk.{SlotState, IsInput, IsOutput, IsOpen, IsClosed, AllUnopened}
@@ -40,6 +40,7 @@ named_first r Log input low named = absurd (omega (arith, low))
 named_first r OutVerilog input low named = absurd input
 named_first r OutDef input low named = absurd input
 named_first r OutStil input low named = absurd input
+named_first r OutSvg input low named = absurd input
 named_first r Console input low named = absurd input
 
 -- they are slots of the request
@@ -70,25 +71,27 @@ first_low r Log input named = absurd cc
 first_low r OutVerilog input named = absurd input
 first_low r OutDef input named = absurd input
 first_low r OutStil input named = absurd input
+first_low r OutSvg input named = absurd input
 first_low r Console input named = absurd input
 
 pub are_first : (r : PatternsRequest) → AreFirst (ReorderPatterns r) (first_names r)
 are_first r = record { named = named_first r; used = first_used r; low = first_low r; stil = refl }
 
--- an output is that of the patterns, or is put behind them
-pub stil_or_last : (r : PatternsRequest) (slot : Slot) → IsOutput slot → (slot ≡ OutStil) ⊎ IsNamed (last_names r) slot
-stil_or_last r OutStil output = inl refl
-stil_or_last r OutVerilog output = inr refl
-stil_or_last r OutDef output = inr refl
-stil_or_last r Console output = inr refl
-stil_or_last r Table output = absurd output
-stil_or_last r Lef output = absurd output
-stil_or_last r Verilog output = absurd output
-stil_or_last r Def output = absurd output
-stil_or_last r Stil output = absurd output
-stil_or_last r NewVerilog output = absurd output
-stil_or_last r NewStil output = absurd output
-stil_or_last r Log output = absurd output
+-- an output that is used is that of the patterns, or is put behind them
+pub stil_or_last : (r : PatternsRequest) (slot : Slot) → IsOutput slot → IsUsed (ReorderPatterns r) slot → (slot ≡ OutStil) ⊎ IsNamed (last_names r) slot
+stil_or_last r OutStil output used = inl refl
+stil_or_last r OutVerilog output used = inr refl
+stil_or_last r OutDef output used = inr refl
+stil_or_last r OutSvg output used = absurd cc
+stil_or_last r Console output used = inr refl
+stil_or_last r Table output used = absurd output
+stil_or_last r Lef output used = absurd output
+stil_or_last r Verilog output used = absurd output
+stil_or_last r Def output used = absurd output
+stil_or_last r Stil output used = absurd output
+stil_or_last r NewVerilog output used = absurd output
+stil_or_last r NewStil output used = absurd output
+stil_or_last r Log output used = absurd output
 
 -- the STIL file is the last input
 low_input : (r : PatternsRequest) (slot : Slot) → IsInput slot → IsUsed (ReorderPatterns r) slot → slot ≢ Stil → number slot < 4
@@ -175,7 +178,7 @@ module _ (r : PatternsRequest) (texts : List (Option (List ℕ))) (a b : Slots) 
     e_in slot input ne = elsewhere slot ne (λ is. apart slot OutStil input tt is)
 
     pub e_design : SameDesign a e
-    e_design = record { verilog = e_out OutVerilog tt (λ is. cc); def = e_out OutDef tt (λ is. cc) }
+    e_design = record { verilog = e_out OutVerilog tt (λ is. cc); def = e_out OutDef tt (λ is. cc); svg = e_out OutSvg tt (λ is. cc) }
 
     pub e_count : (e Stil).faults ≡ (b Stil).faults → (e OutStil).faults ≡ (b OutStil).faults → (slot : Slot) → (e slot).faults ≡ (a slot).faults
     e_count stil out slot = elim (slot_cases slot Stil) [

@@ -2,7 +2,7 @@
 use Rattle.std.proofs.Common.{◌≡◌, ◌≢◌, ◌<◌, ◌⊎◌, ℕ, List, [], Option, IfSome, Result, Ok, Err, refl, sym, ◌∙◌, ap, subst, arith, inl, inr}
 use Rattle.base_types.specs.declared.fault.Fault.{Fault}
 use Rattle.desk_io.specs.declared.slot.Slot.{Slot}
-use Rattle.desk_io.specs.declared.slot.Slot.TheVariants.{Table, Lef, Verilog, Def, Stil, NewVerilog, NewStil, Log, OutVerilog, OutDef, OutStil, Console}
+use Rattle.desk_io.specs.declared.slot.Slot.TheVariants.{Table, Lef, Verilog, Def, Stil, NewVerilog, NewStil, Log, OutVerilog, OutDef, OutStil, OutSvg, Console}
 use Rattle.desk_io.specs.declared.outputs.Outputs.{Outputs}
 use Rattle.desk_io.specs.Desk.{SlotState, SameElsewhere, IsInput, IsOutput, IsOpen, IsClosed, AllUnopened}
 use Rattle.desk_io.specs.Prefixes.{IsAtEnd, IsAppended, HoldsPrefix}
@@ -24,7 +24,7 @@ use Rattle.scan_job.specs.Phases.{HasPutLine, HasFailedAtLine}
 use Rattle.scan_job.specs.Retargeting.{IsRetargetingFault}
 use Rattle.scan_job.specs.PatternPhases.{design_of, IsPutClosed, HasReadPatterns, AreOutputsFound, HasBegunStil, HasWrittenOut, HasFoundBefore, HasFoundWriting, HasFailedAtPatterns, HasRunOutAtPatterns, HasFailedAtOutput, HasFinishedPatterns}
 use Rattle.desk_io.proofs.Slots.{below_cases, input_or_output, not_both, slot_cases, at_slot, apart, early_turn}
-use Rattle.scan_job.proofs.Phases.{state_same, unused_apart, nothing_held, all_held, appended_since, prefix_since, risen_since, before_of, not_open_closed}
+use Rattle.scan_job.proofs.Phases.{state_same, unused_apart, used_or_not, nothing_held, all_held, appended_since, prefix_since, risen_since, before_of, not_open_closed}
 use Rattle.scan_job.proofs.PatternFrames.{last_used, stil_or_last, b_out, b_stil, of_files, run_fault, none_is, none_before, e_unused, e_out, e_design, e_count, in_count, e_closed, e_end, e_open}
 
 -- the closed output isn't open
@@ -44,30 +44,32 @@ module _ (r : PatternsRequest) (texts : List (Option (List ℕ))) (a b : Slots) 
       absurd cc
 
   -- the outputs at a stop, where nothing but the STIL output was begun
-  prefixes_at : (c : Slots) (outputs : Outputs) → c OutVerilog ≡ a OutVerilog → c OutDef ≡ a OutDef → c Console ≡ a Console → HoldsPrefix outputs.stil (a OutStil) (c OutStil)
+  prefixes_at : (c : Slots) (outputs : Outputs) → c OutVerilog ≡ a OutVerilog → c OutDef ≡ a OutDef → c OutSvg ≡ a OutSvg → c Console ≡ a Console → HoldsPrefix outputs.stil (a OutStil) (c OutStil)
       → (slot : Slot) → IsOutput slot → IsUsed request slot → HoldsPrefix (output_at outputs slot) (a slot) (c slot)
-  prefixes_at c outputs verilog def console stil OutStil output used = stil
-  prefixes_at c outputs verilog def console stil OutVerilog output used = nothing_held _ _ _ verilog
-  prefixes_at c outputs verilog def console stil OutDef output used = nothing_held _ _ _ def
-  prefixes_at c outputs verilog def console stil Console output used = nothing_held _ _ _ console
-  prefixes_at c outputs verilog def console stil slot output used = absurd output
+  prefixes_at c outputs verilog def svg console stil OutStil output used = stil
+  prefixes_at c outputs verilog def svg console stil OutVerilog output used = nothing_held _ _ _ verilog
+  prefixes_at c outputs verilog def svg console stil OutDef output used = nothing_held _ _ _ def
+  prefixes_at c outputs verilog def svg console stil OutSvg output used = nothing_held _ _ _ svg
+  prefixes_at c outputs verilog def svg console stil Console output used = nothing_held _ _ _ console
+  prefixes_at c outputs verilog def svg console stil slot output used = absurd output
 
-  begun_since : (c : Slots) → HasBegunStil r texts b c → c OutVerilog ≡ a OutVerilog → c OutDef ≡ a OutDef → c Console ≡ a Console
+  begun_since : (c : Slots) → HasBegunStil r texts b c → c OutVerilog ≡ a OutVerilog → c OutDef ≡ a OutDef → c OutSvg ≡ a OutSvg → c Console ≡ a Console
       → (files : Slot → List ℕ) → Reads request files a → HasWritten request files a c
-  begun_since c (inl same) verilog def console files holds = inl kept
+  begun_since c (inl same) verilog def svg console files holds = inl kept
     where
       kept : (slot : Slot) → IsOutput slot → c slot ≡ a slot
       kept OutStil output = same ∙ b_out r texts a b unopened taken OutStil tt
       kept OutVerilog output = verilog
       kept OutDef output = def
+      kept OutSvg output = svg
       kept Console output = console
       kept slot output = absurd output
-  begun_since c (inr held) verilog def console files holds =
+  begun_since c (inr held) verilog def svg console files holds =
       let found = of_files r texts a b unopened taken files holds (λ t stil. (outputs : Outputs) × AreOutputsFound r t stil outputs × HoldsPrefix outputs.stil (b OutStil) (c OutStil)) held in
       inr (inl (record {
         outputs = found.0;
         are = record { no_fault = none_before r texts a b unopened taken files holds found.0 found.1.are found.1.no_fault; texts = found.1.are };
-        prefixes = prefixes_at c found.0 verilog def console (prefix_since _ (a OutStil) (b OutStil) (c OutStil) (b_out r texts a b unopened taken OutStil tt) found.2);
+        prefixes = prefixes_at c found.0 verilog def svg console (prefix_since _ (a OutStil) (b OutStil) (c OutStil) (b_out r texts a b unopened taken OutStil tt) found.2);
       }))
 
   -- a call failed, or memory ran out, while the patterns were read and written
@@ -85,7 +87,7 @@ module _ (r : PatternsRequest) (texts : List (Option (List ℕ))) (a b : Slots) 
         ];
         design = design;
         silent = console;
-        prefixes = begun_since c f.begun design.verilog design.def console;
+        prefixes = begun_since c f.begun design.verilog design.def design.svg console;
       }
 
   patterns_ran_out : (c : Slots) → HasRunOutAtPatterns r texts b c → IsOutOfMemory request a c
@@ -97,7 +99,7 @@ module _ (r : PatternsRequest) (texts : List (Option (List ℕ))) (a b : Slots) 
         counts = e_count r texts a b unopened taken c f.elsewhere f.faults f.out_faults;
         design = design;
         silent = console;
-        prefixes = begun_since c f.begun design.verilog design.def console;
+        prefixes = begun_since c f.begun design.verilog design.def design.svg console;
       }
 
   output_failed : (c : Slots) → HasFailedAtOutput r texts b c → IsOutputFailed request a c
@@ -108,7 +110,7 @@ module _ (r : PatternsRequest) (texts : List (Option (List ℕ))) (a b : Slots) 
         unused = e_unused r texts a b unopened taken c f.elsewhere;
         rose = record { slot = OutStil; is = tt; risen = risen_since _ (a OutStil) (b OutStil) (b_out r texts a b unopened taken OutStil tt) f.risen };
         inputs = in_count r texts a b unopened taken c f.elsewhere f.faults;
-        prefixes = begun_since c f.begun design.verilog design.def console;
+        prefixes = begun_since c f.begun design.verilog design.def design.svg console;
       }
 
   -- a fault was found, and both STIL slots are closed
@@ -127,7 +129,7 @@ module _ (r : PatternsRequest) (texts : List (Option (List ℕ))) (a b : Slots) 
       design_since : SameDesign a c
       design_since =
           let design = e_design r texts a b unopened taken e read.elsewhere in
-          record { verilog = second OutVerilog (λ is. cc) ∙ design.verilog; def = second OutDef (λ is. cc) ∙ design.def }
+          record { verilog = second OutVerilog (λ is. cc) ∙ design.verilog; def = second OutDef (λ is. cc) ∙ design.def; svg = second OutSvg (λ is. cc) ∙ design.svg }
 
       out_since : c OutStil ≡ e OutStil
       out_since = second OutStil (λ is. cc)
@@ -249,6 +251,7 @@ module _ (r : PatternsRequest) (texts : List (Option (List ℕ))) (a b : Slots) 
     last_apart OutStil named is = absurd cc
     last_apart OutVerilog named is = cc
     last_apart OutDef named is = cc
+    last_apart OutSvg named is = cc
     last_apart Console named is = cc
     last_apart Table named is = absurd cc
     last_apart Lef named is = absurd cc
@@ -260,16 +263,19 @@ module _ (r : PatternsRequest) (texts : List (Option (List ℕ))) (a b : Slots) 
     last_apart Log named is = absurd cc
 
     module _ (c : Slots) where
-      last_or_not : (slot : Slot) → (IsOutput slot × IsNamed (last_names r) slot) ⊎ (IsOutput slot → IsNamed (last_names r) slot → turn slot < 4 → ⊥)
+      last_or_not : (slot : Slot) → (IsOutput slot × IsNamed (last_names r) slot) ⊎ (IsOutput slot → IsNamed (last_names r) slot → turn slot < 5 → ⊥)
       last_or_not slot = elim (input_or_output slot) [
         | inl input ↦ inr (λ output named lt. not_both slot input output)
-        | inr output ↦ elim (stil_or_last r slot output) [
-          | inl is ↦ inr (λ writes named lt. last_apart slot named is)
-          | inr named ↦ inl (output, named)
+        | inr output ↦ elim (used_or_not request slot) [
+          | inl used ↦ elim (stil_or_last r slot output used) [
+            | inl is ↦ inr (λ writes named lt. last_apart slot named is)
+            | inr named ↦ inl (output, named)
+          ]
+          | inr unused ↦ inr (λ writes named lt. unused (last_used r slot named))
         ]
       ]
 
-      put_out : HasPutOutputs (last_names r) w.outputs 4 e c → IsDone request a c
+      put_out : HasPutOutputs (last_names r) w.outputs 5 e c → IsDone request a c
       put_out put =
           let stil_same : c OutStil ≡ e OutStil = put.others OutStil (λ output named lt. last_apart OutStil named refl) in
           record {
@@ -281,7 +287,7 @@ module _ (r : PatternsRequest) (texts : List (Option (List ℕ))) (a b : Slots) 
             closed = λ slot used. elim (input_or_output slot) [
               | inl input ↦ state_same IsClosed (c slot) (e slot) (put.others slot (λ output named lt. not_both slot input output))
                   (e_closed r texts a b unopened taken e w.read.elsewhere w.read.closed slot input used)
-              | inr output ↦ elim (stil_or_last r slot output) [
+              | inr output ↦ elim (stil_or_last r slot output used) [
                 | inl is ↦ at_slot (λ s. IsClosed (c s)) OutStil slot (sym is) (state_same IsClosed (c OutStil) (e OutStil) stil_same w.put.closed)
                 | inr named ↦ (put.put slot output named (early_turn slot output)).closed
               ]
@@ -295,7 +301,7 @@ module _ (r : PatternsRequest) (texts : List (Option (List ℕ))) (a b : Slots) 
             done = λ files holds. record {
               outputs = w.outputs;
               are = outputs_are files holds;
-              texts = λ slot output used. elim (stil_or_last r slot output) [
+              texts = λ slot output used. elim (stil_or_last r slot output used) [
                 | inl is ↦ at_slot (λ s. IsAppended (output_at w.outputs s) (a s) (c s)) OutStil slot (sym is)
                     (subst (λ (s : SlotState). IsAppended w.outputs.stil (a OutStil) s) (sym stil_same) stil_appended)
                 | inr named ↦ appended_since _ (a slot) (e slot) (c slot) (out_kept slot output (last_apart slot named)) (put.put slot output named (early_turn slot output)).appended
@@ -318,7 +324,7 @@ module _ (r : PatternsRequest) (texts : List (Option (List ℕ))) (a b : Slots) 
             prefixes = λ files holds. inr (inl (record {
               outputs = w.outputs;
               are = before_of request files w.outputs (outputs_are files holds);
-              prefixes = λ slot output used. elim (stil_or_last r slot output) [
+              prefixes = λ slot output used. elim (stil_or_last r slot output used) [
                 | inl is ↦ at_slot (λ t. HoldsPrefix (output_at w.outputs t) (a t) (c t)) OutStil slot (sym is)
                     (all_held _ _ _ (subst (λ (state : SlotState). IsAppended w.outputs.stil (a OutStil) state) (sym stil_same) stil_appended))
                 | inr named ↦ elim (slot_cases slot at) [

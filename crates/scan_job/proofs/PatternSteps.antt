@@ -3,7 +3,7 @@ use Rattle.std.proofs.Common.{◌≡◌, ◌≢◌, ◌<◌, ◌⊎◌, ℕ, Lis
 use Rattle.std.proofs.lemmas.Option.{same_Some}
 use Rattle.base_types.specs.declared.fault.Fault.{Fault}
 use Rattle.desk_io.specs.declared.slot.Slot.{Slot}
-use Rattle.desk_io.specs.declared.slot.Slot.TheVariants.{Stil, OutVerilog, OutDef, OutStil, Console}
+use Rattle.desk_io.specs.declared.slot.Slot.TheVariants.{Stil, OutVerilog, OutDef, OutStil, OutSvg, Console}
 use Rattle.desk_io.specs.declared.outputs.Outputs.{Outputs}
 use Rattle.desk_io.specs.Desk.{SlotState, SameElsewhere, IsOutput, opened}
 use Rattle.desk_io.specs.Causes.{HasRisen}
@@ -55,6 +55,7 @@ last_outputs r outputs bytes below a b put = record { put = at; others = put.oth
     at : (slot : Slot) → IsOutput slot → IsNamed (last_names r) slot → turn slot < below → HasPutFile (output_at (record outputs { stil = bytes }) slot) (a slot) (b slot)
     at OutVerilog output named lt = put.put OutVerilog output named lt
     at OutDef output named lt = put.put OutDef output named lt
+    at OutSvg output named lt = put.put OutSvg output named lt
     at Console output named lt = put.put Console output named lt
     at OutStil output named lt = absurd cc
     at slot output named lt = absurd output
@@ -75,6 +76,7 @@ last_stopped r outputs bytes a b s = record {
     at : (slot : Slot) → IsOutput slot → IsNamed (last_names r) slot → HoldsPrefix (output_at outputs slot) (s.between slot) (b slot) → HoldsPrefix (output_at (record outputs { stil = bytes }) slot) (s.between slot) (b slot)
     at OutVerilog output named held = held
     at OutDef output named held = held
+    at OutSvg output named held = held
     at Console output named held = held
     at OutStil output named held = absurd cc
     at slot output named held = absurd output
@@ -267,7 +269,7 @@ module _ (law : MeaningLaw) (sums : FiguresLaw) (r : PatternsRequest) (texts : L
       }
 
   pub written_finished : (f : Slots) (ended : Result (Unit {0}) Stop) → HasWrittenReady r ready d f ended → HasFinishedPatterns r texts b f ended
-  written_finished f (Ok done) (patterns, e, put, others) = written_out patterns e _ put (λ bytes. last_outputs r (outputs_of ready.made patterns) bytes 4 e f others)
+  written_finished f (Ok done) (patterns, e, put, others) = written_out patterns e _ put (λ bytes. last_outputs r (outputs_of ready.made patterns) bytes 5 e f others)
   written_finished f (Err NoForm) w = absurd w
   written_finished f (Err Refused) (fault, e, put, line) = inr (found_writing fault e _ put line)
   written_finished f (Err InputFailed) w = input_stopped f w

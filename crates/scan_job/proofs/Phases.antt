@@ -3,7 +3,7 @@ use Rattle.std.proofs.Common.{◌≡◌, ◌≢◌, ◌<◌, ◌≤◌, ◌^◌,
 use Rattle.base_types.specs.declared.fault.Fault.{Fault}
 use Rattle.base_types.specs.declared.kind.Kind.{Kind}
 use Rattle.desk_io.specs.declared.slot.Slot.{Slot}
-use Rattle.desk_io.specs.declared.slot.Slot.TheVariants.{Table, OutVerilog, OutDef, OutStil, Console}
+use Rattle.desk_io.specs.declared.slot.Slot.TheVariants.{Table, OutVerilog, OutDef, OutStil, OutSvg, Console}
 use Rattle.desk_io.specs.declared.outputs.Outputs.{Outputs}
 use Rattle.desk_io.specs.Number.{number}
 use Rattle.desk_io.specs.Desk.{SlotState, SameElsewhere, IsInput, IsOutput, IsUnopened, IsOpen, IsClosed, AllUnopened}
@@ -124,7 +124,7 @@ before_of request files outputs are = record { no_fault = λ fault is. absurd (a
 -- no output was touched, nor anything said
 
 pub design_kept : (a c : Slots) → SameOutputs a c → SameDesign a c
-design_kept a c same = record { verilog = same OutVerilog tt; def = same OutDef tt }
+design_kept a c same = record { verilog = same OutVerilog tt; def = same OutDef tt; svg = same OutSvg tt }
 
 pub failed_untouched : (request : Request) (a c : Slots) → SameUnused request a c → SomeRose IsInput a c → SameOutputs a c → IsInputFailed request a c
 failed_untouched request a c unused rose same = record {
@@ -167,6 +167,7 @@ module _ (request : Request) (fault : Fault) (a b c : Slots) (early : IsFoundWri
     design_since = record {
       verilog = second OutVerilog (λ e. cc) ∙ f.outputs OutVerilog tt;
       def = second OutDef (λ e. cc) ∙ f.outputs OutDef tt;
+      svg = second OutSvg (λ e. cc) ∙ f.outputs OutSvg tt;
     }
 
     files_since : (files : Slot → List ℕ) → AreFilesRefused request files fault a c
@@ -370,7 +371,7 @@ module _ (request : Request) (texts : List (Option (List ℕ))) (a b c : Slots) 
     };
   }
     where
-      put_or_not : (slot : Slot) → (IsOutput slot × IsUsed request slot) ⊎ (IsOutput slot → IsUsed request slot → turn slot < 4 → ⊥)
+      put_or_not : (slot : Slot) → (IsOutput slot × IsUsed request slot) ⊎ (IsOutput slot → IsUsed request slot → turn slot < 5 → ⊥)
       put_or_not slot = elim (input_or_output slot) [
         | inl input ↦ inr (λ output used lt. not_both slot input output)
         | inr output ↦ elim (used_or_not request slot) [

@@ -3,7 +3,7 @@ use Rattle.std.proofs.Common.{◌≡◌, ◌<◌, ◌≤◌, ◌^◌, ◌⊎◌,
 use Rattle.base_types.specs.declared.fault.Fault.{Fault}
 use Rattle.base_types.specs.FirstFault.{IsFirstFault}
 use Rattle.desk_io.specs.declared.slot.Slot.{Slot}
-use Rattle.desk_io.specs.declared.slot.Slot.TheVariants.{Table, Lef, Verilog, Def, Stil, NewVerilog, NewStil, Log, OutVerilog, OutDef, OutStil, Console}
+use Rattle.desk_io.specs.declared.slot.Slot.TheVariants.{Table, Lef, Verilog, Def, Stil, NewVerilog, NewStil, Log, OutVerilog, OutDef, OutStil, OutSvg, Console}
 use Rattle.desk_io.specs.Number.{number}
 use Rattle.desk_io.specs.Desk.{SlotState, SameElsewhere, IsInput, IsOutput, IsOpen, IsClosed, AllUnopened, opened, closed}
 use Rattle.desk_io.specs.Causes.{HasRisen}
@@ -42,6 +42,7 @@ named_first r Log input low named = absurd (omega (arith, low))
 named_first r OutVerilog input low named = absurd input
 named_first r OutDef input low named = absurd input
 named_first r OutStil input low named = absurd input
+named_first r OutSvg input low named = absurd input
 named_first r Console input low named = absurd input
 
 first_named : (r : PlayRequest) (slot : Slot) → IsNamed (first_names r) slot → IsNamed (names_of (Play r)) slot
@@ -56,6 +57,7 @@ first_named r Log named = absurd cc
 first_named r OutVerilog named = absurd cc
 first_named r OutDef named = absurd cc
 first_named r OutStil named = absurd cc
+first_named r OutSvg named = absurd cc
 first_named r Console named = named
 
 pub first_low : (r : PlayRequest) (slot : Slot) → IsInput slot → IsNamed (first_names r) slot → number slot < 4
@@ -70,6 +72,7 @@ first_low r Log input named = absurd cc
 first_low r OutVerilog input named = absurd input
 first_low r OutDef input named = absurd input
 first_low r OutStil input named = absurd input
+first_low r OutSvg input named = absurd input
 first_low r Console input named = absurd input
 
 pub before_stil : (r : PlayRequest) (slot : Slot) → number slot < 4 → IsWhole (Play r) slot
@@ -199,6 +202,7 @@ module _ (r : PlayRequest) (texts : List (Option (List ℕ))) (a b : Slots) (uno
     all_small head OutVerilog input used = absurd input
     all_small head OutDef input used = absurd input
     all_small head OutStil input used = absurd input
+    all_small head OutSvg input used = absurd input
     all_small head Console input used = absurd input
 
     -- a fault that was answered is that of the run
@@ -251,6 +255,7 @@ module _ (r : PlayRequest) (texts : List (Option (List ℕ))) (a b : Slots) (uno
     closed_at OutVerilog input used = absurd input
     closed_at OutDef input used = absurd input
     closed_at OutStil input used = absurd input
+    closed_at OutSvg input used = absurd input
     closed_at Console input used = absurd input
 
     end_at : IsAtEnd (e Stil) → (slot : Slot) → IsInput slot → IsUsed request slot → IsAtEnd (e slot)
@@ -265,6 +270,7 @@ module _ (r : PlayRequest) (texts : List (Option (List ℕ))) (a b : Slots) (uno
     end_at last OutVerilog input used = absurd input
     end_at last OutDef input used = absurd input
     end_at last OutStil input used = absurd input
+    end_at last OutSvg input used = absurd input
     end_at last Console input used = absurd input
 
     unused_kept : SameUnused request a e
@@ -291,6 +297,7 @@ module _ (r : PlayRequest) (texts : List (Option (List ℕ))) (a b : Slots) (uno
       only_console OutVerilog output used = absurd cc
       only_console OutDef output used = absurd cc
       only_console OutStil output used = absurd cc
+      only_console OutSvg output used = absurd cc
       only_console Table output used = absurd output
       only_console Lef output used = absurd output
       only_console Verilog output used = absurd output

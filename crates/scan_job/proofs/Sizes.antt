@@ -5,7 +5,7 @@ use Rattle.std.proofs.lemmas.Cmp.{ranked}
 use Rattle.base_types.specs.declared.fault.Fault.{Fault}
 use Rattle.base_types.specs.FirstFault.{file_number, ComesBefore, IsFirstFault}
 use Rattle.desk_io.specs.declared.slot.Slot.{Slot}
-use Rattle.desk_io.specs.declared.slot.Slot.TheVariants.{Table, Lef, Verilog, Def, Stil, NewVerilog, NewStil, Log, OutVerilog, OutDef, OutStil, Console}
+use Rattle.desk_io.specs.declared.slot.Slot.TheVariants.{Table, Lef, Verilog, Def, Stil, NewVerilog, NewStil, Log, OutVerilog, OutDef, OutStil, OutSvg, Console}
 use Rattle.desk_io.specs.Number.{number}
 use Rattle.desk_io.specs.FileKinds.{file_of}
 use Rattle.desk_io.specs.Desk.{IsInput}
@@ -65,6 +65,7 @@ over_at true Log text whole over = over
 over_at true OutVerilog text whole over = over
 over_at true OutDef text whole over = over
 over_at true OutStil text whole over = over
+over_at true OutSvg text whole over = over
 over_at true Console text whole over = over
 
 pub over_of : (request : Request) (slot : Slot) (text : List ℕ) → IsInput slot → IsWhole request slot → limit_of slot < length text → IsOver request slot text
@@ -89,6 +90,7 @@ longer_at true Log text whole over = over
 longer_at true OutVerilog text whole over = over
 longer_at true OutDef text whole over = over
 longer_at true OutStil text whole over = over
+longer_at true OutSvg text whole over = over
 longer_at true Console text whole over = over
 
 pub small_of : (request : Request) (slot : Slot) (text : List ℕ) → IsInput slot → IsWhole request slot → length text ≤ limit_of slot → IsOver request slot text → ⊥

@@ -3,7 +3,7 @@ use Rattle.std.proofs.Common.{◌≡◌, ◌<◌, ◌⊎◌, ℕ, List, [], Resu
 use Rattle.std.proofs.lemmas.Option.{same_Some}
 use Rattle.base_types.specs.declared.fault.Fault.{Fault}
 use Rattle.desk_io.specs.declared.slot.Slot.{Slot}
-use Rattle.desk_io.specs.declared.slot.Slot.TheVariants.{OutVerilog, OutDef, Console}
+use Rattle.desk_io.specs.declared.slot.Slot.TheVariants.{OutVerilog, OutDef, OutSvg, Console}
 use Rattle.desk_io.specs.Desk.{SlotState, IsOutput}
 use Rattle.desk_io.specs.Prefixes.{IsAppended, HoldsPrefix}
 use Rattle.scan_words.specs.declared.order.Order.{Order}
@@ -50,7 +50,7 @@ module _ (words : List (List ℕ)) (old new : Slots) where
   unopened (Err OutputFailed) run none = absurd (none (order_of run.0) run.1)
 
   abbrev same_design : ((slot : Slot) → IsOutput slot → new slot ≡ old slot) → SameDesign old new
-  same_design same = record { verilog = same OutVerilog tt; def = same OutDef tt }
+  same_design same = record { verilog = same OutVerilog tt; def = same OutDef tt; svg = same OutSvg tt }
 
   pub untouched : (ended : Result (Unit {0}) Stop) (status : ℕ) → status ≡ status_of ended → HasRun words old new ended
       → (status ≡ 1) ⊎ (status ≡ 2) ⊎ (status ≡ 3) ⊎ (status ≡ 5) → SameDesign old new

@@ -14,6 +14,7 @@ pub mod Patterns
 pub mod Play
 pub mod Bound
 pub mod Verify
+pub mod Draw
 pub mod Failmap
 pub mod Bench
 

@@ -55,11 +55,11 @@ HasClosedBoth old new (Err NoMemory) = ⊥
 
 -- the outputs behind the patterns, as far as the design makes them
 abbrev pub outputs_of : Made → PatternFigures → Outputs
-outputs_of made patterns = record { verilog = made.verilog; def = made.def; stil = []; console = all_figures_text made.figures patterns }
+outputs_of made patterns = record { verilog = made.verilog; def = made.def; stil = []; svg = []; console = all_figures_text made.figures patterns; note = made.note }
 
 -- they were put, or putting them failed, or memory ran out before
 abbrev pub HasPutOthers : Names → Outputs → Slots → Slots → Result (Unit {0}) Stop → Type 0
-HasPutOthers last outputs old new (Ok done) = HasPutOutputs last outputs 4 old new
+HasPutOthers last outputs old new (Ok done) = HasPutOutputs last outputs 5 old new
 HasPutOthers last outputs old new (Err NoForm) = ⊥
 HasPutOthers last outputs old new (Err Refused) = ⊥
 HasPutOthers last outputs old new (Err InputFailed) = ⊥
@@ -99,7 +99,7 @@ pub record HasPutAndFailed (ready : Ready) (stop : Stop) (old new : Slots) : Typ
 
 -- what was done from where the patterns stood ready to be written
 abbrev pub HasWrittenReady : PatternsRequest → Ready → Slots → Slots → Result (Unit {0}) Stop → Type 0
-HasWrittenReady r ready old new (Ok done) = (patterns : PatternFigures) × (between : Slots) × HasPutAndClosed ready (Ok patterns) old between × HasPutOutputs (last_names r) (outputs_of ready.made patterns) 4 between new
+HasWrittenReady r ready old new (Ok done) = (patterns : PatternFigures) × (between : Slots) × HasPutAndClosed ready (Ok patterns) old between × HasPutOutputs (last_names r) (outputs_of ready.made patterns) 5 between new
 HasWrittenReady r ready old new (Err NoForm) = ⊥
 HasWrittenReady r ready old new (Err Refused) =
     (fault : Fault) × (between : Slots) × HasPutAndClosed ready (Err (stops.Input (causes.Fault fault))) old between × HasPutLine (names_of (ReorderPatterns r)) fault between new
@@ -176,7 +176,7 @@ pub record HasFailedAtOutput (r : PatternsRequest) (texts : List (Option (List �
 
 -- what was done once the files of the design were taken
 abbrev pub HasFinishedPatterns : PatternsRequest → List (Option (List ℕ)) → Slots → Slots → Result (Unit {0}) Stop → Type 0
-HasFinishedPatterns r texts old new (Ok done) = HasWrittenOut r texts old (λ outputs between. HasPutOutputs (last_names r) outputs 4 between new)
+HasFinishedPatterns r texts old new (Ok done) = HasWrittenOut r texts old (λ outputs between. HasPutOutputs (last_names r) outputs 5 between new)
 HasFinishedPatterns r texts old new (Err NoForm) = ⊥
 HasFinishedPatterns r texts old new (Err Refused) =
     HasFoundBefore r texts old (λ fault between. HasPutLine (names_of (ReorderPatterns r)) fault between new)

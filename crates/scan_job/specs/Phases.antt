@@ -67,7 +67,7 @@ pub record AreJudged (request : Request) (texts : List (Option (List ℕ))) (out
 pub record HasPutAll (request : Request) (texts : List (Option (List ℕ))) (old new : Slots) : Type 0 where
   pub outputs : Outputs
   pub judged : AreJudged request texts outputs
-  pub put : HasPutOutputs (names_of request) outputs 4 old new
+  pub put : HasPutOutputs (names_of request) outputs 5 old new
 
 -- writing the outputs failed
 pub record HasPutSome (request : Request) (texts : List (Option (List ℕ))) (old new : Slots) : Type 0 where

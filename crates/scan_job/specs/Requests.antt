@@ -13,6 +13,7 @@ use Rattle.scan_job.specs.declared.commands.bound.BoundRequest.{BoundRequest}
 use Rattle.scan_job.specs.declared.commands.verify.VerifyRequest.{VerifyRequest}
 use Rattle.scan_job.specs.declared.commands.failmap.FailmapRequest.{FailmapRequest}
 use Rattle.scan_job.specs.declared.commands.bench.BenchRequest.{BenchRequest}
+use Rattle.scan_job.specs.declared.commands.draw.DrawRequest.{DrawRequest}
 use Rattle.scan_job.specs.Commands.{Command}
 use Rattle.scan_job.specs.Commands.Rewire.{rewire}
 use Rattle.scan_job.specs.Commands.Trace.{trace}
@@ -24,6 +25,7 @@ use Rattle.scan_job.specs.Commands.Bound.{bound}
 use Rattle.scan_job.specs.Commands.Verify.{verify}
 use Rattle.scan_job.specs.Commands.Failmap.{failmap}
 use Rattle.scan_job.specs.Commands.Bench.{bench}
+use Rattle.scan_job.specs.Commands.Draw.{draw}
 
 -- what the words ask for: a command, with its values by the names of its options
 pub data Request : Type 0 where
@@ -37,6 +39,7 @@ pub data Request : Type 0 where
   Verify : VerifyRequest → Request
   Failmap : FailmapRequest → Request
   Bench : BenchRequest → Request
+  Draw : DrawRequest → Request
 
 -- what is asked for, as a command
 abbrev pub command_of : Request → Command
@@ -50,6 +53,7 @@ command_of (Bound r) = bound r
 command_of (Verify r) = verify r
 command_of (Failmap r) = failmap r
 command_of (Bench r) = bench r
+command_of (Draw r) = draw r
 
 -- the order whose values a request gives names
 abbrev pub order_of : Request → Order

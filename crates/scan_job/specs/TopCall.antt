@@ -2,7 +2,7 @@
 use Rattle.std.specs.Prelude.{◌≡◌, ◌⊎◌, ℕ, List}
 use Rattle.base_types.specs.declared.fault.Fault.{Fault}
 use Rattle.desk_io.specs.declared.slot.Slot.{Slot}
-use Rattle.desk_io.specs.declared.slot.Slot.TheVariants.{OutVerilog, OutDef, OutStil, Console}
+use Rattle.desk_io.specs.declared.slot.Slot.TheVariants.{OutVerilog, OutDef, OutStil, OutSvg, Console}
 use Rattle.desk_io.specs.declared.outputs.Outputs.{Outputs}
 use Rattle.desk_io.specs.Desk.{SlotState, IsInput, IsOutput, IsOpen, IsClosed}
 use Rattle.desk_io.specs.Causes.{HasRisen}
@@ -60,10 +60,11 @@ AllRead request slots = (slot : Slot) → IsInput slot → IsUsed request slot �
 abbrev pub SameOutputs : Slots → Slots → Type 0
 SameOutputs old new = (slot : Slot) → IsOutput slot → new slot ≡ old slot
 
--- the Verilog and the DEF output are as they were: unopened
+-- the Verilog, the DEF and the SVG output are as they were: unopened
 pub record SameDesign (old new : Slots) : Type 0 where
   pub verilog : new OutVerilog ≡ old OutVerilog
   pub def : new OutDef ≡ old OutDef
+  pub svg : new OutSvg ≡ old OutSvg
 
 -- the written form of what stands before the statement that is refused, where that is found while the STIL output is written
 abbrev pub IsTextBefore : Request → (Slot → List ℕ) → Fault → List ℕ → Type 0

@@ -7,6 +7,7 @@ ghost use Rattle.scan_job.specs.Ended.{HasRunOrder};
 use crate::commands::bench::BenchRequest;
 use crate::commands::bound::BoundRequest;
 use crate::commands::check::CheckRequest;
+use crate::commands::draw::DrawRequest;
 use crate::commands::failmap::FailmapRequest;
 use crate::commands::reorder::ReorderRequest;
 use crate::commands::rewire::RewireRequest;
@@ -55,5 +56,6 @@ pub(crate) fn run_order<D: Desk>(alloc: Global, order: &Order, desk: &mut D) -> 
         Verb::Failmap => run_whole::<FailmapRequest, D>(alloc, order, desk),
         Verb::Bench => run_whole::<BenchRequest, D>(alloc, order, desk),
         Verb::Balance => run_design(alloc, order, desk),
+        Verb::Draw => run_whole::<DrawRequest, D>(alloc, order, desk),
     }
 }

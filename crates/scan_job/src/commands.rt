@@ -16,6 +16,7 @@ use std::alloc::Global;
 pub(crate) mod bench;
 pub(crate) mod bound;
 pub(crate) mod check;
+pub(crate) mod draw;
 pub(crate) mod failmap;
 pub(crate) mod patterns;
 pub(crate) mod play;

@@ -17,6 +17,7 @@ ghost use Rattle.scan_job.specs.Ended.{HasEnded, HasRunOrder};
 
 use crate::commands::Command;
 use crate::commands::patterns::{PatternsRequest, all_figure_lines, first_names, last_names};
+use crate::commands::reorder::note_of;
 use crate::play::close_stil;
 use crate::putting::{PutStop, put_patterns};
 use crate::say::{refuse, size_fault};
@@ -37,6 +38,8 @@ pub(crate) struct Made {
     pub(crate) verilog: Text,
     pub(crate) def: Text,
     pub(crate) figures: Figures,
+    /// What a user is told beside it.
+    pub(crate) note: Option<String>,
 }
 
 /// What stands ready when the patterns are to be written: the design's texts, what is planned for the patterns, what is to be warned of in
@@ -81,10 +84,12 @@ fn plan_taken<D: Desk>(
         request.design.goal,
     )?;
     let Some(plan) = patterns else { unreachable!() };
+    let note = note_of(alloc, &figures.measured)?;
     let made = Made {
         verilog,
         def,
         figures,
+        note,
     };
     let file = Word::copy(alloc, request.stil.as_str())?;
     let warnings = PatternWarnings::new(alloc, file, head.bytes(), &plan.head)?;
@@ -174,7 +179,9 @@ fn put_others<D: Desk>(
         verilog: made.verilog,
         def: made.def,
         stil: Text::of(Vec::new(alloc)),
+        svg: Text::of(Vec::new(alloc)),
         console,
+        note: made.note,
     };
     put_outputs(last, &outputs, desk).map_err(|_| Stop::OutputFailed)
 }

@@ -10,7 +10,7 @@ use Rattle.clap.specs.Walk.{Names, Row, Rule, Walk, idle, has_row, nothing_held,
 use Rattle.std.proofs.lemmas.List.{append-nil}
 use Rattle.scan_words.specs.declared.form.WordKind.TheVariants as kinds
 use Rattle.scan_words.specs.declared.verb.Verb.{Verb}
-use Rattle.scan_words.specs.declared.verb.Verb.TheVariants.{Rewire, Trace, Check, Reorder, Play, Bound, Verify, Failmap, Bench, Balance}
+use Rattle.scan_words.specs.declared.verb.Verb.TheVariants.{Rewire, Trace, Check, Reorder, Play, Bound, Verify, Failmap, Bench, Balance, Draw}
 use Rattle.scan_words.specs.Command.{program}
 use Rattle.scan_words.specs.Form.{Text, Part, is_name, is_value, word_kind, long_kind, kind_turn, turn, have_parts, with_part, word_parts, parts_from}
 use Rattle.scan_words.specs.Verbs.{verb_name, option_names, takes_further}
@@ -121,6 +121,10 @@ abbrev tenth_shape : List Shape → Shape
 tenth_shape [] = new_shape []
 tenth_shape (s ∷ ss) = ninth_shape ss
 
+abbrev eleventh_shape : List Shape → Shape
+eleventh_shape [] = new_shape []
+eleventh_shape (s ∷ ss) = tenth_shape ss
+
 abbrev shape : Verb → Shape
 shape Rewire = first_shape (built program).subs
 shape Trace = second_shape (built program).subs
@@ -132,6 +136,7 @@ shape Verify = seventh_shape (built program).subs
 shape Failmap = eighth_shape (built program).subs
 shape Bench = ninth_shape (built program).subs
 shape Balance = tenth_shape (built program).subs
+shape Draw = eleventh_shape (built program).subs
 
 finds_for : (verb : Verb) → Finds (option_names verb) (takes_further verb) (shape verb).rules
 finds_for Rewire = finds (option_names Rewire) true refl
@@ -144,6 +149,7 @@ finds_for Verify = finds (option_names Verify) false refl
 finds_for Failmap = finds (option_names Failmap) false refl
 finds_for Bench = finds (option_names Bench) false refl
 finds_for Balance = finds (option_names Balance) false refl
+finds_for Draw = finds (option_names Draw) false refl
 
 goes : (verb : Verb) (words : List Text) (parts : List Part) → parts_from (option_names verb) (takes_further verb) None words ≡ Some parts → Goes (shape verb) (walk_at nothing_held idle) words (add_parts [] parts)
 goes verb words parts read = follows (shape verb) (option_names verb) (takes_further verb) (finds_for verb) words None nothing_held idle [] parts (record { passes = refl; rows = refl; idle = tt }) read
@@ -177,6 +183,7 @@ at_word Verify = refl
 at_word Failmap = refl
 at_word Bench = refl
 at_word Balance = refl
+at_word Draw = refl
 
 ends_at : (verb : Verb) (words : List Text) → walk (built program).top.rules program_names nothing_held (verb_name verb ∷ words) ≡ stopped_at (verb_name verb) words
 ends_at verb words = ap (λ (w : Walk). fold (walked (built program).top.rules program_names) w words) (at_word verb) ∙ goes_down (built program).top.rules program_names (verb_name verb) [] words
@@ -193,6 +200,7 @@ top_passes Verify words = rw (at_word Verify) (passes_down (built program).top p
 top_passes Failmap words = rw (at_word Failmap) (passes_down (built program).top program_names (verb_name Failmap) [] words)
 top_passes Bench words = rw (at_word Bench) (passes_down (built program).top program_names (verb_name Bench) [] words)
 top_passes Balance words = rw (at_word Balance) (passes_down (built program).top program_names (verb_name Balance) [] words)
+top_passes Draw words = rw (at_word Draw) (passes_down (built program).top program_names (verb_name Draw) [] words)
 
 pub simple : is_simple program ≡ true
 simple = refl
@@ -209,6 +217,7 @@ passes_sub Verify words parts read = let g = goes Verify words parts read in rw 
 passes_sub Failmap words parts read = let g = goes Failmap words parts read in rw (g.turns, g.settles) refl
 passes_sub Bench words parts read = let g = goes Bench words parts read in rw (g.turns, g.settles) refl
 passes_sub Balance words parts read = let g = goes Balance words parts read in rw (g.turns, g.settles) refl
+passes_sub Draw words parts read = let g = goes Draw words parts read in rw (g.turns, g.settles) refl
 
 pub taken : (verb : Verb) (words : List Text) (parts : List Part) → parts_from (option_names verb) (takes_further verb) None words ≡ Some parts → takes program (verb_name verb ∷ words) ≡ true
 taken Rewire words parts read = rw (ends_at Rewire words, top_passes Rewire words, passes_sub Rewire words parts read) refl
@@ -221,6 +230,7 @@ taken Verify words parts read = rw (ends_at Verify words, top_passes Verify word
 taken Failmap words parts read = rw (ends_at Failmap words, top_passes Failmap words, passes_sub Failmap words parts read) refl
 taken Bench words parts read = rw (ends_at Bench words, top_passes Bench words, passes_sub Bench words parts read) refl
 taken Balance words parts read = rw (ends_at Balance words, top_passes Balance words, passes_sub Balance words parts read) refl
+taken Draw words parts read = rw (ends_at Draw words, top_passes Draw words, passes_sub Draw words parts read) refl
 
 found_sub : (verb : Verb) (words : List Text) (parts : List Part) → parts_from (option_names verb) (takes_further verb) None words ≡ Some parts → rows_after (shape verb).rules [] words ≡ add_parts [] parts
 found_sub Rewire words parts read = no_defaults (shape Rewire).rules _ (refl, (refl, (refl, (refl, (refl, (refl, (refl, (refl, tt)))))))) ∙ (goes Rewire words parts read).rows
@@ -233,6 +243,7 @@ found_sub Verify words parts read = no_defaults (shape Verify).rules _ (refl, (r
 found_sub Failmap words parts read = no_defaults (shape Failmap).rules _ (refl, (refl, (refl, (refl, (refl, (refl, tt)))))) ∙ (goes Failmap words parts read).rows
 found_sub Bench words parts read = no_defaults (shape Bench).rules _ (refl, tt) ∙ (goes Bench words parts read).rows
 found_sub Balance words parts read = no_defaults (shape Balance).rules _ (refl, (refl, (refl, (refl, (refl, (refl, (refl, (refl, tt)))))))) ∙ (goes Balance words parts read).rows
+found_sub Draw words parts read = no_defaults (shape Draw).rules _ (refl, (refl, (refl, (refl, (refl, tt))))) ∙ (goes Draw words parts read).rows
 
 named : (verb : Verb) (words : List Text) → entered (built program) (Some (verb_name verb, words)) ≡ Some (verb_name verb, rows_after (shape verb).rules [] words)
 named Rewire words = refl
@@ -245,6 +256,7 @@ named Verify words = refl
 named Failmap words = refl
 named Bench words = refl
 named Balance words = refl
+named Draw words = refl
 
 pub matched : (verb : Verb) (words : List Text) (parts : List Part) → parts_from (option_names verb) (takes_further verb) None words ≡ Some parts → subcommand_of program (verb_name verb ∷ words) ≡ Some (verb_name verb, add_parts [] parts)
 matched verb words parts read =

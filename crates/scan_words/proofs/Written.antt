@@ -12,7 +12,7 @@ use Rattle.clap.proofs.LexerLemmas.{name_and_value-at, name_and_value-without}
 use Rattle.scan_words.specs.declared.order.Order.{Order}
 use Rattle.scan_words.specs.declared.form.WordKind.TheVariants as kinds
 use Rattle.scan_words.specs.declared.verb.Verb.{Verb}
-use Rattle.scan_words.specs.declared.verb.Verb.TheVariants.{Rewire, Trace, Check, Reorder, Play, Bound, Verify, Failmap, Bench, Balance}
+use Rattle.scan_words.specs.declared.verb.Verb.TheVariants.{Rewire, Trace, Check, Reorder, Play, Bound, Verify, Failmap, Bench, Balance, Draw}
 use Rattle.scan_words.specs.Form.{◌>>=◌, Text, Part, is_name, is_value, word_kind, long_kind, with_part, word_parts, parts_from, values_of, only_if}
 use Rattle.scan_words.specs.Verbs.{options_of, verb_name, option_names, takes_further, verb_of}
 use Rattle.scan_words.specs.Orders.{values_by, is_count, order_by, verb_order, order_in}
@@ -36,6 +36,7 @@ clear_names Verify = refl
 clear_names Failmap = refl
 clear_names Bench = refl
 clear_names Balance = refl
+clear_names Draw = refl
 
 and_left : (a b : Bool) → (a && b) ≡ true → a ≡ true
 and_left true b h = refl
@@ -269,6 +270,7 @@ verb_at Verify = refl
 verb_at Failmap = refl
 verb_at Bench = refl
 verb_at Balance = refl
+verb_at Draw = refl
 
 order_at : (verb : Verb) (behind : List Text) (ps : List Part) → parts_from (option_names verb) (takes_further verb) None behind ≡ Some ps
     → order_in (verb_name verb ∷ behind) ≡ order_by verb (λ name. values_of name ps)

@@ -33,6 +33,7 @@ option_row options.Log = option (codes "log") forms.File
 option_row options.OutVerilog = option (codes "out-verilog") forms.File
 option_row options.OutDef = option (codes "out-def") forms.File
 option_row options.OutStil = option (codes "out-stil") forms.File
+option_row options.OutSvg = option (codes "out-svg") forms.File
 option_row options.Cell = option (codes "cell") forms.Name
 option_row options.InPin = option (codes "in-pin") forms.Pin
 option_row options.OutPin = option (codes "out-pin") forms.Pin

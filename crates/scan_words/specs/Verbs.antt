@@ -6,7 +6,7 @@ use Rattle.scan_words.specs.declared.table.OptionName.TheVariants as options
 use Rattle.scan_words.specs.declared.table.Need.TheVariants.{Needed, Optional, With}
 use Rattle.scan_words.specs.declared.table.OptionForm.{OptionForm}
 use Rattle.scan_words.specs.declared.verb.Verb.{Verb}
-use Rattle.scan_words.specs.declared.verb.Verb.TheVariants.{Rewire, Trace, Check, Reorder, Play, Bound, Verify, Failmap, Bench, Balance}
+use Rattle.scan_words.specs.declared.verb.Verb.TheVariants.{Rewire, Trace, Check, Reorder, Play, Bound, Verify, Failmap, Bench, Balance, Draw}
 use Rattle.scan_words.specs.Form.{Text}
 use Rattle.scan_words.specs.Table.{texts}
 
@@ -30,7 +30,7 @@ beside other name = record { name = name; need = With other }
 
 -- the commands
 abbrev pub verbs : List Verb
-verbs = Rewire ∷ Trace ∷ Check ∷ Reorder ∷ Play ∷ Bound ∷ Verify ∷ Failmap ∷ Bench ∷ Balance ∷ []
+verbs = Rewire ∷ Trace ∷ Check ∷ Reorder ∷ Play ∷ Bound ∷ Verify ∷ Failmap ∷ Bench ∷ Balance ∷ Draw ∷ []
 
 -- the row of a command
 abbrev pub verb_row : Verb → VerbRow
@@ -84,6 +84,11 @@ verb_row Balance = record {
   word = codes "balance";
   options = needed options.Table ∷ needed options.Lef ∷ needed options.Verilog ∷ needed options.Def ∷ needed options.OutVerilog ∷ needed options.OutDef
       ∷ optional options.Stil ∷ beside options.Stil options.OutStil ∷ [];
+  takes_further = false;
+}
+verb_row Draw = record {
+  word = codes "draw";
+  options = needed options.Table ∷ needed options.Lef ∷ needed options.Verilog ∷ needed options.Def ∷ needed options.OutSvg ∷ [];
   takes_further = false;
 }
 

@@ -29,6 +29,8 @@ pub enum Verb {
     /// Puts units of the scan chains of a placed design into other chains, so that the longest path is short, and retargets its patterns where
     /// it is given some.
     Balance,
+    /// Draws the scan chains of a placed design.
+    Draw,
 }
 
 /// A row of the table of commands.
@@ -42,7 +44,7 @@ pub(crate) struct VerbRow<'a> {
     pub takes_further: bool,
 }
 
-static VERBS: [Verb; 10] = [
+static VERBS: [Verb; 11] = [
     Verb::Rewire,
     Verb::Trace,
     Verb::Check,
@@ -53,6 +55,7 @@ static VERBS: [Verb; 10] = [
     Verb::Failmap,
     Verb::Bench,
     Verb::Balance,
+    Verb::Draw,
 ];
 
 static REWIRE: [OptionForm; 7] = [
@@ -291,6 +294,29 @@ static BALANCE: [OptionForm; 8] = [
     },
 ];
 
+static DRAW: [OptionForm; 5] = [
+    OptionForm {
+        name: OptionName::Table,
+        need: Need::Needed,
+    },
+    OptionForm {
+        name: OptionName::Lef,
+        need: Need::Needed,
+    },
+    OptionForm {
+        name: OptionName::Verilog,
+        need: Need::Needed,
+    },
+    OptionForm {
+        name: OptionName::Def,
+        need: Need::Needed,
+    },
+    OptionForm {
+        name: OptionName::OutSvg,
+        need: Need::Needed,
+    },
+];
+
 /// The commands.
 pub(crate) fn verbs<'a>() -> &'a [Verb]
     ensures { result.now ≡ verbs }
@@ -378,6 +404,11 @@ impl Verb {
             Verb::Balance => VerbRow {
                 word: "balance",
                 options: BALANCE.as_slice(),
+                takes_further: false,
+            },
+            Verb::Draw => VerbRow {
+                word: "draw",
+                options: DRAW.as_slice(),
                 takes_further: false,
             },
         }

@@ -4,6 +4,7 @@ pub mod NewFaults
 pub mod Taken
 pub mod Runs
 pub mod Comparing
+pub mod Ready
 pub mod Beside
 pub mod Ahead
 pub mod Worth

@@ -1,16 +1,17 @@
 -- Two texts of patterns, taken statement by statement beside each other.
-use Rattle.std.specs.Prelude.{◌≡◌, ℕ, ◌<◌, nat_eq, List, [], ◌∷◌, drop, take, length, count_by, slice_get, Option, Some, None}
+use Rattle.std.specs.Prelude.{◌≡◌, ℕ, ◌<◌, nat_eq, List, [], ◌∷◌, drop, take, length, count_by, slice_get, Option, Some, None, IfSome}
 use Rattle.stil_types.specs.declared.statement.PatternStatement.{PatternStatement}
 use Rattle.stil_reader.specs.Cursors.{Ahead, IsReadable}
 use Rattle.stil_tester.specs.declared.chains.Chains.{Chains}
 use Rattle.stil_tester.specs.Meaning.{Patterns, HaveSameMeaning}
 use Rattle.stil_written.specs.Readings.{reading}
-use Rattle.scan_verify.specs.Patterns.{IsSamePlace, IsDifference, differing, pattern_of}
+use Rattle.scan_verify.specs.Patterns.{IsReady, IsSamePlace, IsDifference, differing, pattern_of}
 use Rattle.same_files.specs.Sets.{ReadSet, meant_by}
 use Rattle.same_files.specs.Cells.{HaveSameScanCells}
 use Rattle.path_chains.specs.Ranked.{bits_of_all}
 use Rattle.verify_report.specs.declared.places.Difference.{Difference}
 use Rattle.verify_report.specs.declared.places.Place.{Place}
+use Rattle.verify_report.specs.declared.statement_notes.Unlike.{Unlike}
 
 -- names were passed, and no statement
 pub record Passes (old new : Ahead) : Type 0 where
@@ -74,3 +75,13 @@ AreAlikeSets a b = (length a.bits ≡ length b.bits) × HaveSameScanCells a.netl
 pub record AreSameSets (old : ReadSet) (stil : List ℕ) (new : ReadSet) (new_stil : List ℕ) : Type 0 where
   pub cells : AreAlikeSets old new
   pub meaning : HaveSameMeaning reading (meant_by old stil) (meant_by new new_stil)
+
+-- the patterns go on, and nothing is wrong with what is left of them
+pub record GoOn (first left : Ahead) : Type 0 where
+  pub head : left.head ≡ first.head
+  pub sound : left.fault ≡ None
+
+-- the statements that differ fit the chains
+pub record AreReady (old new : Chains) (u : Unlike) : Type 0 where
+  pub first : IfSome u.old (IsReady old)
+  pub second : IfSome u.new (IsReady new)

@@ -29,7 +29,7 @@ pub(crate) struct Place {
 }
 
 /// The number of a statement's Pattern.
-fn pattern_of(statement: &PatternStatement) -> u32
+pub(crate) fn pattern_of(statement: &PatternStatement) -> u32
     ensures value { result ≡ pattern_of statement.now }
 {
     match statement {
@@ -50,7 +50,7 @@ fn differing(a: &PatternStatement, b: &Option<PatternStatement>) -> u32
 }
 
 /// Whether the statement of the one list is the same as that of the other, where this has one.
-fn is_same_place(
+pub(crate) fn is_same_place(
     alloc: Global,
     map: &Map,
     a: &PatternStatement,

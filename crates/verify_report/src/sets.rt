@@ -27,7 +27,7 @@ pub fn are_same_sets(
     requires new_patterns { ArePatternsOf new_stil.now new.now }
     ensures value { IfOk result (λ same. IsTrue same ↔ AreSameSets old.now stil.now new.now new_stil.now) }
 {
-    if !same_head(alloc, head_text(stil, old), head_text(new_stil, new))? {
+    if !same_head(head_text(stil, old), head_text(new_stil, new)) {
         return Ok(false);
     }
     if !have_same_cells(alloc, old, new)? {

@@ -195,6 +195,17 @@ impl Command for ReorderRequest {
     }
 }
 
+/// What a user is told of what is measured, once more.
+pub(crate) fn note_of(alloc: Global, measured: &Measured) -> Result<Option<String>, NoMemory> {
+    match measured {
+        Measured::Lengths(_lengths) => Ok(None),
+        Measured::Longest(longest) => match &longest.note {
+            Some(note) => Ok(Some(String::from_str(alloc, note.as_str())?)),
+            None => Ok(None),
+        },
+    }
+}
+
 impl Whole for ReorderRequest {
     fn judge(&self, alloc: Global, inputs: &Inputs) -> Result<Outputs, ReadFault> {
         let table = inputs.text(Slot::Table);
@@ -202,11 +213,14 @@ impl Whole for ReorderRequest {
         let verilog = inputs.text(Slot::Verilog);
         let def = inputs.text(Slot::Def);
         let made = reorder_texts(alloc, table, lef, verilog, def, None, self.goal)?;
+        let console = Text::of(figure_lines(alloc, &made.figures)?);
         Ok(Outputs {
             verilog: made.verilog,
             def: made.def,
             stil: Text::of(Vec::new(alloc)),
-            console: Text::of(figure_lines(alloc, &made.figures)?),
+            svg: Text::of(Vec::new(alloc)),
+            console,
+            note: note_of(alloc, &made.figures.measured)?,
         })
     }
 

@@ -99,7 +99,9 @@ impl Whole for RewireRequest {
             verilog: done.verilog,
             def: Text::of(Vec::new(alloc)),
             stil: Text::of(Vec::new(alloc)),
+            svg: Text::of(Vec::new(alloc)),
             console: moved_line(alloc, done.moved)?,
+            note: None,
         })
     }
 

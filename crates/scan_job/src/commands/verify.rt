@@ -1,4 +1,5 @@
 ghost use Rattle.std.specs.Prelude.{refl};
+ghost use Rattle.scan_job.specs.Phases.{AreInLimits};
 ghost use Rattle.scan_job.specs.Requests as requests;
 
 use crate::commands::{Command, Whole};
@@ -7,7 +8,10 @@ use base_types::{NoMemory, ReadFault, Word};
 use desk_io::{Inputs, Names, Outputs, Slot};
 use scan_words::Order;
 use std::alloc::Global;
-use verify_report::verify_text;
+use verify_report::{SetNames, difference_note, verify_text};
+
+/// What is said of two sets that are the same.
+const SAME: &[u8] = b"same\n";
 
 /// What the words of `verify` ask for, by the names of its options.
 #[derive(Debug, Drop)]
@@ -54,6 +58,29 @@ impl Command for VerifyRequest {
     }
 }
 
+impl VerifyRequest {
+    /// What differs first between the sets; None too where memory is short for it.
+    fn note_of(&self, alloc: Global, inputs: &Inputs) -> Option<String>
+        requires limits { AreInLimits inputs.now }
+    {
+        let names = SetNames {
+            verilog: self.verilog.as_str(),
+            stil: self.stil.as_str(),
+            new_verilog: self.new_verilog.as_str(),
+            new_stil: self.new_stil.as_str(),
+        };
+        let table = inputs.text(Slot::Table);
+        let verilog = inputs.text(Slot::Verilog);
+        let stil = inputs.text(Slot::Stil);
+        let new_verilog = inputs.text(Slot::NewVerilog);
+        let new_stil = inputs.text(Slot::NewStil);
+        match difference_note(alloc, table, verilog, stil, new_verilog, new_stil, names) {
+            Ok(note) => note,
+            Err(_unread) => None,
+        }
+    }
+}
+
 impl Whole for VerifyRequest {
     fn judge(&self, alloc: Global, inputs: &Inputs) -> Result<Outputs, ReadFault> {
         let table = inputs.text(Slot::Table);
@@ -62,7 +89,14 @@ impl Whole for VerifyRequest {
         let new_verilog = inputs.text(Slot::NewVerilog);
         let new_stil = inputs.text(Slot::NewStil);
         let console = verify_text(alloc, table, verilog, stil, new_verilog, new_stil)?;
-        Ok(Outputs::saying(alloc, console))
+        let note = if console.bytes() == SAME {
+            None
+        } else {
+            self.note_of(alloc, inputs)
+        };
+        let mut outputs = Outputs::saying(alloc, console);
+        outputs.note = note;
+        Ok(outputs)
     }
 
     ghost whole = { λ made. refl };

@@ -29,5 +29,8 @@ run_whole-requires-in-Failmap-clause-made g c = made_as verbs.Failmap c.args.ord
 pub run_whole-requires-in-Bench-clause-made : goal.run_whole-requires-in-Bench-clause-made
 run_whole-requires-in-Bench-clause-made g c = made_as verbs.Bench c.args.order.now c.in-Bench.is c.requires.asked
 
+pub run_whole-requires-in-Draw-clause-made : goal.run_whole-requires-in-Draw-clause-made
+run_whole-requires-in-Draw-clause-made g c = made_as verbs.Draw c.args.order.now c.in-Draw.is c.requires.asked
+
 pub run_design-requires-in-Balance-clause-made : goal.run_design-requires-in-Balance-clause-made
 run_design-requires-in-Balance-clause-made g c = made_as verbs.Balance c.args.order.now c.in-Balance.is c.requires.asked

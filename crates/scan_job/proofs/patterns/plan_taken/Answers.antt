@@ -41,6 +41,11 @@ returns-in_err-warnings-clause-planned g c =
     let p = err_from_is_err_and c.from_residual-in_err-warnings.result c.from_residual-in_err-warnings.ensures.1 in
     rw (p.1, p.2) (c.in_ok-head.ensures.gives.1 any_head).drawn
 
+pub returns-in_err-note-clause-planned : goal.returns-in_err-note-clause-planned
+returns-in_err-note-clause-planned g c =
+    let p = err_from_is_err_and c.from_residual-in_err-note.result c.from_residual-in_err-note.ensures.1 in
+    rw (p.1, p.2) (c.in_ok-head.ensures.gives.1 any_head).drawn
+
 pub returns-clause-planned : goal.returns-clause-planned
 returns-clause-planned g c =
     let goal = c.args.request.now.design.goal in
@@ -52,4 +57,4 @@ returns-clause-planned g c =
     let reordered = subst (λ (t : Texts). IsReorderedWith goal t made.verilog made.def made.figures (Some c.in-Some.plan)) same some in
     let none = subst (λ (t : Texts). (fault : Fault) → HoldsInFiles t fault → ⊥) same c.in_ok-verilog.ensures.no_fault in
     plan_ready goal (design_of c.args.inputs.now) c.in_ok-input.input c.next_head.new.self (g.D.Desk.state c.args.desk.now Stil) (g.D.Desk.state c.next_head.new.desk Stil)
-    c.in_ok-input.ensures.value c.in_ok-head.head c.in_ok-head.ensures.gives.1 (record { verilog = made.verilog; def = made.def; figures = made.figures }) c.in-Some.plan c.in_ok-warnings.warnings reordered none
+    c.in_ok-input.ensures.value c.in_ok-head.head c.in_ok-head.ensures.gives.1 (record { verilog = made.verilog; def = made.def; figures = made.figures; note = c.in_ok-note.note }) c.in-Some.plan c.in_ok-warnings.warnings reordered none

@@ -1,4 +1,4 @@
-use Rattle.std.proofs.Common.{◌≡◌, Some, Err, length, refl, arith, ap}
+use Rattle.std.proofs.Common.{◌≡◌, Some, None, Err, length, refl, arith, ap}
 use Rattle.std.proofs.lemmas.Result.{err_from_is_err_and}
 use Rattle.design_files.specs.Files.{texts_of, texts_with, with_head}
 use Rattle.scan_job.specs.declared.patterns.Made.{Made}
@@ -17,7 +17,7 @@ pattern_figures-requires c =
     let same : u ≡ with_head t text = rw (c.bytes.ensures.value, c.bytes-2.ensures.value, c.bytes-3.ensures.value, c.bytes-4.ensures.value) refl in
     let made = c.in_ok-_verilog.field-0 in
     let reordered = planned_with t u text made c.in-Some.plan same c.in-Some.is c.in_ok-_verilog.ensures.reordered in
-    let written : Made = record { verilog = made.verilog; def = made.def; figures = made.figures } in
+    let written : Made = record { verilog = made.verilog; def = made.def; figures = made.figures; note = None } in
     record {
       size = omega (arith, few, ap length c.bytes-stil.ensures.value);
       denoted = denotes t stil bytes text c.bytes-stil.ensures.value shows written c.in-Some.plan reordered;
@@ -49,7 +49,7 @@ returns-in_err-counted-clause-fault c =
     let same : u ≡ with_head t text = rw (c.bytes.ensures.value, c.bytes-2.ensures.value, c.bytes-3.ensures.value, c.bytes-4.ensures.value) refl in
     let made = c.in_ok-_verilog.field-0 in
     let reordered = planned_with t u text made c.in-Some.plan same c.in-Some.is c.in_ok-_verilog.ensures.reordered in
-    let written : Made = record { verilog = made.verilog; def = made.def; figures = made.figures } in
+    let written : Made = record { verilog = made.verilog; def = made.def; figures = made.figures; note = None } in
     rw (p.1, p.2)
     (patterns_refused t stil bytes text c.bytes-stil.ensures.value shows written c.in-Some.plan reordered c.meaning_law.ensures.law c.figures_law.ensures.law u same c.in_ok-_verilog.ensures.no_fault
     c.in_err-counted.field-0.0 c.in_err-counted.ensures.fault)
@@ -66,7 +66,7 @@ returns c =
     let same : u ≡ with_head t text = rw (c.bytes.ensures.value, c.bytes-2.ensures.value, c.bytes-3.ensures.value, c.bytes-4.ensures.value) refl in
     let made = c.in_ok-_verilog.field-0 in
     let reordered = planned_with t u text made c.in-Some.plan same c.in-Some.is c.in_ok-_verilog.ensures.reordered in
-    let written : Made = record { verilog = made.verilog; def = made.def; figures = made.figures } in
+    let written : Made = record { verilog = made.verilog; def = made.def; figures = made.figures; note = None } in
     record {
       said = is_said t stil bytes text c.bytes-stil.ensures.value shows written c.in-Some.plan reordered c.meaning_law.ensures.law c.figures_law.ensures.law u same c.in_ok-_verilog.ensures.no_fault
           c.in_ok-counted.counted c.in_ok-all_figure_lines.field-0 c.in_ok-counted.ensures.value c.in_ok-all_figure_lines.ensures.value;

@@ -19,6 +19,6 @@ returns-clause-no_fault c = λ fault is. c.in_ok-console.ensures.no_fault fault 
 
 pub returns-clause-texts : goal.returns-clause-texts
 returns-clause-texts c = record {
-  same = rw (c.saying.ensures.value, ← c.text-table.ensures.value, ← c.text-verilog.ensures.value, ← c.text-stil.ensures.value, ← c.text-new_verilog.ensures.value, ← c.text-new_stil.ensures.value) c.in_ok-console.ensures.same;
-  says = rw (c.saying.ensures.value, ← c.text-table.ensures.value, ← c.text-verilog.ensures.value, ← c.text-stil.ensures.value, ← c.text-new_verilog.ensures.value, ← c.text-new_stil.ensures.value) c.in_ok-console.ensures.text;
+  same = rw (c.saying-outputs.ensures.value, ← c.text-table.ensures.value, ← c.text-verilog.ensures.value, ← c.text-stil.ensures.value, ← c.text-new_verilog.ensures.value, ← c.text-new_stil.ensures.value) c.in_ok-console.ensures.same;
+  says = rw (c.saying-outputs.ensures.value, ← c.text-table.ensures.value, ← c.text-verilog.ensures.value, ← c.text-stil.ensures.value, ← c.text-new_verilog.ensures.value, ← c.text-new_stil.ensures.value) c.in_ok-console.ensures.text;
 }

@@ -1,0 +1,5 @@
+pub mod Drawn
+pub mod Files
+pub mod Pictures
+pub mod Sizes
+pub mod Xml
