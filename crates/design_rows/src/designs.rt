@@ -1,157 +1,229 @@
 //! The statements of DEF texts.
 ghost use Rattle.std.specs.Prelude.{◌<◌, ◌^◌, length};
 
-use base_types::{NoMemory, ReadFault};
+use base_types::{NoMemory, ReadFault, Span};
 use def_syntax::{
     Chain, Connection, DesignText, Element, ElementList, NetParts, NetStatement, Placement,
     SectionKind, read_design_text,
 };
-use def_tokens::def_tokens;
-use row_forms::word;
+use def_tokens::{Orient, def_tokens};
+use row_forms::{Part, put};
 use std::alloc::Global;
 use token_forms::{TokenText, Tokens, read_all};
 
 /// A word, or a dash.
-fn any<'a>(text: &Option<TokenText<'a>>) -> &'a str {
+fn any<'a>(text: &Option<TokenText<'a>>) -> Part<'a> {
     match text {
-        Some(text) => word(text.text()),
-        None => "-",
+        Some(text) => Part::Word(text.text()),
+        None => Part::Text("-"),
     }
 }
 
-fn place_text(alloc: Global, place: &Option<Placement>) -> Result<String, NoMemory> {
+/// Where a statement stands, and what it is.
+fn push_located(text: &mut String, line: u64, span: Span, kind: &str) -> Result<(), NoMemory> {
+    let (start, end) = (u64::from(span.start), u64::from(span.end));
+    put(
+        text,
+        &[
+            Part::Number(line),
+            Part::Text(" "),
+            Part::Number(start),
+            Part::Text(".."),
+            Part::Number(end),
+            Part::Text(kind),
+        ],
+    )
+}
+
+fn push_placement(text: &mut String, place: &Option<Placement>) -> Result<(), NoMemory> {
     let Some(place) = place else {
-        return Ok(String::new(alloc));
+        return Ok(());
     };
-    let (x, y, orient) = (word(place.x.text()), word(place.y.text()), place.orient);
-    Ok(format!(in alloc; " at {x} {y} {orient:?}")?)
+    let orient = match place.orient {
+        Orient::N => "N",
+        Orient::W => "W",
+        Orient::S => "S",
+        Orient::E => "E",
+        Orient::FN => "FN",
+        Orient::FW => "FW",
+        Orient::FS => "FS",
+        Orient::FE => "FE",
+    };
+    let (x, y) = (Part::Word(place.x.text()), Part::Word(place.y.text()));
+    let blank = Part::Text(" ");
+    put(
+        text,
+        &[Part::Text(" at "), x, blank, y, blank, Part::Text(orient)],
+    )
 }
 
 fn push_connections(
-    alloc: Global,
     text: &mut String,
     source: &[u8],
     connections: &[Connection],
 ) -> Result<(), NoMemory> {
     for connection in connections {
-        let component = word(connection.component_in(source));
-        let (pin, start) = (word(connection.pin_in(source)), connection.start);
-        let synthesized = if connection.synthesized {
-            " synthesized"
+        let component = Part::Word(connection.component_in(source));
+        let pin = Part::Word(connection.pin_in(source));
+        let start = Part::Number(u64::from(connection.start));
+        let end = if connection.synthesized {
+            " synthesized,"
         } else {
-            ""
+            ","
         };
-        text.push_str(&format!(in alloc; " {component} {pin} {start}{synthesized},")?)?;
+        let blank = Part::Text(" ");
+        put(
+            text,
+            &[blank, component, blank, pin, blank, start, Part::Text(end)],
+        )?;
     }
     Ok(())
 }
 
-fn push_elements(
-    alloc: Global,
-    text: &mut String,
-    kind: &str,
-    elements: &[Element],
-) -> Result<(), NoMemory> {
-    text.push_str(&format!(in alloc; "\n  {kind}")?)?;
+fn push_elements(text: &mut String, kind: &str, elements: &[Element]) -> Result<(), NoMemory> {
+    put(text, &[Part::Text("\n  "), Part::Text(kind)])?;
     for element in elements {
-        let (name, input) = (word(element.name.text()), any(&element.input));
+        let (name, input) = (Part::Word(element.name.text()), any(&element.input));
         let (output, bits) = (any(&element.output), any(&element.bits));
-        text.push_str(&format!(in alloc; " {name} {input} {output} {bits},")?)?;
+        let blank = Part::Text(" ");
+        put(
+            text,
+            &[
+                blank,
+                name,
+                blank,
+                input,
+                blank,
+                output,
+                blank,
+                bits,
+                Part::Text(","),
+            ],
+        )?;
     }
     Ok(())
 }
 
-fn push_chain(alloc: Global, text: &mut String, chain: &Chain) -> Result<(), NoMemory> {
-    text.push_str(word(chain.name.text()))?;
+/// Two words of a chain behind what they are.
+fn push_pair<'t>(
+    text: &mut String,
+    kind: &'t str,
+    first: Part<'t>,
+    second: Part<'t>,
+) -> Result<(), NoMemory> {
+    put(text, &[Part::Text(kind), first, Part::Text(" "), second])
+}
+
+fn push_chain(text: &mut String, chain: &Chain) -> Result<(), NoMemory> {
+    put(text, &[Part::Word(chain.name.text())])?;
     if let Some(partition) = &chain.partition {
-        let (name, most) = (word(partition.name.text()), any(&partition.max_bits));
-        text.push_str(&format!(in alloc; " partition {name} {most}")?)?;
+        let name = Part::Word(partition.name.text());
+        push_pair(text, " partition ", name, any(&partition.max_bits))?;
     }
     if let Some(pins) = &chain.common_pins {
-        let (input, output) = (any(&pins.input), any(&pins.output));
-        text.push_str(&format!(in alloc; " common {input} {output}")?)?;
+        push_pair(text, " common ", any(&pins.input), any(&pins.output))?;
     }
     let (start, stop) = (&chain.start, &chain.stop);
-    let (first, pin) = (word(start.component.text()), any(&start.pin));
-    text.push_str(&format!(in alloc; " start {first} {pin}")?)?;
-    let (last, pin) = (word(stop.component.text()), any(&stop.pin));
-    text.push_str(&format!(in alloc; " stop {last} {pin}")?)?;
+    push_pair(
+        text,
+        " start ",
+        Part::Word(start.component.text()),
+        any(&start.pin),
+    )?;
+    push_pair(
+        text,
+        " stop ",
+        Part::Word(stop.component.text()),
+        any(&stop.pin),
+    )?;
     for list in chain.lists.as_slice() {
-        match list {
-            ElementList::Floating(elements) => {
-                push_elements(alloc, text, "floating", elements.as_slice())?
-            }
-            ElementList::Ordered(elements) => {
-                push_elements(alloc, text, "ordered", elements.as_slice())?
-            }
-        }
+        let (kind, elements) = match list {
+            ElementList::Floating(elements) => ("floating", elements),
+            ElementList::Ordered(elements) => ("ordered", elements),
+        };
+        push_elements(text, kind, elements.as_slice())?;
     }
     Ok(())
 }
 
 /// Units, components and pins, each behind its line and its place.
-fn push_placed(alloc: Global, text: &mut String, design: &DesignText) -> Result<(), NoMemory> {
-    let (line, span) = (design.units.line, design.units.span);
-    let (start, end) = (span.start, span.end);
-    let number = word(design.units.statement.number.text());
-    text.push_str(&format!(in alloc; "{line} {start}..{end} units {number}\n")?)?;
+fn push_placed(text: &mut String, design: &DesignText) -> Result<(), NoMemory> {
+    let end = Part::Text("\n");
+    let units = &design.units;
+    push_located(text, units.line, units.span, " units ")?;
+    put(text, &[Part::Word(units.statement.number.text()), end])?;
     for component in design.components.as_slice() {
-        let (line, start, end) = (component.line, component.span.start, component.span.end);
+        push_located(text, component.line, component.span, " component ")?;
         let component = &component.statement;
-        let (name, cell) = (word(component.name.text()), word(component.cell.text()));
-        let place = place_text(alloc, &component.place)?;
-        text.push_str(&format!(in alloc;
-            "{line} {start}..{end} component {name} {cell}{place}\n"
-        )?)?;
+        let (name, cell) = (
+            Part::Word(component.name.text()),
+            Part::Word(component.cell.text()),
+        );
+        put(text, &[name, Part::Text(" "), cell])?;
+        push_placement(text, &component.place)?;
+        put(text, &[end])?;
     }
     for pin in design.pins.as_slice() {
-        let (line, start, end) = (pin.line, pin.span.start, pin.span.end);
+        push_located(text, pin.line, pin.span, " pin ")?;
         let pin = &pin.statement;
-        let (name, net) = (word(pin.name.text()), word(pin.net.text()));
-        let place = place_text(alloc, &pin.place)?;
-        text.push_str(&format!(in alloc; "{line} {start}..{end} pin {name} net {net} ")?)?;
-        let (start, end) = (pin.net_span.start, pin.net_span.end);
-        text.push_str(&format!(in alloc; "{start}..{end}{place}\n")?)?;
+        let (start, stop) = (u64::from(pin.net_span.start), u64::from(pin.net_span.end));
+        put(
+            text,
+            &[
+                Part::Word(pin.name.text()),
+                Part::Text(" net "),
+                Part::Word(pin.net.text()),
+                Part::Text(" "),
+                Part::Number(start),
+                Part::Text(".."),
+                Part::Number(stop),
+            ],
+        )?;
+        push_placement(text, &pin.place)?;
+        put(text, &[end])?;
     }
     Ok(())
 }
 
-/// Nets, chains and sections, each behind its line and its place.
-fn push_joined(
-    alloc: Global,
-    text: &mut String,
-    source: &[u8],
-    design: &DesignText,
-) -> Result<(), NoMemory> {
+/// Nets, each behind its line and its place.
+fn push_nets(text: &mut String, source: &[u8], design: &DesignText) -> Result<(), NoMemory> {
     for net in design.nets.as_slice() {
-        let (line, start, end) = (net.line, net.span.start, net.span.end);
-        text.push_str(&format!(in alloc; "{line} {start}..{end} ")?)?;
+        push_located(text, net.line, net.span, " ")?;
         match &net.statement {
             NetStatement::Net(read) => {
-                text.push_str(&format!(in alloc; "net {}", word(read.name.text()))?)?;
-                push_connections(alloc, text, source, read.connections.as_slice())?;
+                put(text, &[Part::Text("net "), Part::Word(read.name.text())])?;
+                push_connections(text, source, read.connections.as_slice())?;
             }
-            NetStatement::MustJoin => text.push_str("mustjoin")?,
+            NetStatement::MustJoin => put(text, &[Part::Text("mustjoin")])?,
         }
-        text.push_str("\n")?;
-    }
-    for chain in design.chains.as_slice() {
-        let (line, start, end) = (chain.line, chain.span.start, chain.span.end);
-        text.push_str(&format!(in alloc; "{line} {start}..{end} chain ")?)?;
-        push_chain(alloc, text, &chain.statement)?;
-        text.push_str("\n")?;
-    }
-    for section in design.sections.as_slice() {
-        let (line, start, end) = (section.line, section.span.start, section.span.end);
-        let kind = match section.kind {
-            SectionKind::Components => "components",
-            SectionKind::Pins => "pins",
-            SectionKind::Nets => "nets",
-            SectionKind::ScanChains => "scan chains",
-        };
-        text.push_str(&format!(in alloc; "{line} {start}..{end} {kind}\n")?)?;
+        put(text, &[Part::Text("\n")])?;
     }
     Ok(())
+}
+
+/// Chains and sections, each behind its line and its place.
+fn push_chains(text: &mut String, design: &DesignText) -> Result<(), NoMemory> {
+    for chain in design.chains.as_slice() {
+        push_located(text, chain.line, chain.span, " chain ")?;
+        push_chain(text, &chain.statement)?;
+        put(text, &[Part::Text("\n")])?;
+    }
+    for section in design.sections.as_slice() {
+        let kind = match section.kind {
+            SectionKind::Components => " components\n",
+            SectionKind::Pins => " pins\n",
+            SectionKind::Nets => " nets\n",
+            SectionKind::ScanChains => " scan chains\n",
+        };
+        push_located(text, section.line, section.span, kind)?;
+    }
+    Ok(())
+}
+
+fn push_design(text: &mut String, source: &[u8], design: &DesignText) -> Result<(), NoMemory> {
+    push_placed(text, design)?;
+    push_nets(text, source, design)?;
+    push_chains(text, design)
 }
 
 /// That a text is read, or what it is read as, one statement a line.
@@ -159,13 +231,35 @@ pub(crate) fn design(alloc: Global, whole: bool, source: &[u8]) -> Result<String
     requires { length source.now < 2 ^ 32 }
 {
     let design = read_design_text(alloc, source)?;
-    if !whole {
-        return Ok(format!(in alloc; "read")?);
-    }
     let mut text = String::new(alloc);
-    push_placed(alloc, &mut text, &design)?;
-    push_joined(alloc, &mut text, source, &design)?;
+    if whole {
+        push_design(&mut text, source, &design)?;
+    } else {
+        put(&mut text, &[Part::Text("read")])?;
+    }
     Ok(text)
+}
+
+fn push_net(text: &mut String, source: &[u8], parts: &NetParts) -> Result<(), NoMemory> {
+    put(text, &[Part::Word(parts.name.text())])?;
+    push_connections(text, source, parts.connections.as_slice())?;
+    for option in parts.options.as_slice() {
+        let (start, end) = (u64::from(option.span.start), u64::from(option.span.end));
+        let (start, end) = (Part::Number(start), Part::Number(end));
+        let blank = Part::Text(" ");
+        put(
+            text,
+            &[
+                blank,
+                any(&option.word),
+                blank,
+                start,
+                Part::Text(".."),
+                end,
+            ],
+        )?;
+    }
+    Ok(())
 }
 
 /// The connections and the options of a statement of NETS.
@@ -173,14 +267,10 @@ pub(crate) fn net(alloc: Global, source: &[u8]) -> Result<String, NoMemory>
     requires { length source.now < 2 ^ 32 }
 {
     let spans = def_tokens(alloc, source)?;
-    let Ok(parts) = read_all::<NetParts>(alloc, Tokens::of(source, &spans)) else {
-        return Ok(format!(in alloc; "no net")?);
-    };
-    let mut text = format!(in alloc; "{}", word(parts.name.text()))?;
-    push_connections(alloc, &mut text, source, parts.connections.as_slice())?;
-    for option in parts.options.as_slice() {
-        let (name, start, end) = (any(&option.word), option.span.start, option.span.end);
-        text.push_str(&format!(in alloc; " {name} {start}..{end}")?)?;
+    let mut text = String::new(alloc);
+    match read_all::<NetParts>(alloc, Tokens::of(source, &spans)) {
+        Ok(parts) => push_net(&mut text, source, &parts)?,
+        Err(_) => put(&mut text, &[Part::Text("no net")])?,
     }
     Ok(text)
 }

@@ -2,80 +2,128 @@
 ghost use Rattle.std.specs.Prelude.{◌<◌, ◌^◌, length};
 
 use base_types::{NoMemory, ReadFault, Rows, Span};
-use row_forms::word;
+use row_forms::{Part, put};
 use std::alloc::Global;
 use token_forms::TokenText;
-use verilog_syntax::{Expression, Item, Placed, Statement, read_statements};
+use verilog_syntax::{
+    Connection, Declared, Expression, Item, Placed, Range, Statement, read_statements,
+};
 
 fn push_names(text: &mut String, names: &Rows<TokenText>) -> Result<(), NoMemory> {
-    text.push_str(": ")?;
+    put(text, &[Part::Text(": ")])?;
     for name in names.as_slice() {
-        text.push_str(word(name.text()))?;
-        text.push_str("|")?;
+        put(text, &[Part::Word(name.text()), Part::Text("|")])?;
     }
     Ok(())
 }
 
 /// What stands at a place of a text.
-fn at<'a>(source: &'a [u8], span: Span) -> &'a str {
+fn at<'a>(source: &'a [u8], span: Span) -> Part<'a> {
     match source.get(span.start as usize..span.end as usize) {
-        Some(bytes) => word(bytes),
-        None => "(no place)",
+        Some(bytes) => Part::Word(bytes),
+        None => Part::Text("(no place)"),
     }
 }
 
-/// One statement, with a bar behind each name and each expression.
-fn push_statement(
-    alloc: Global,
+fn kind_word(kind: Declared) -> &'static str {
+    match kind {
+        Declared::Input => "Input",
+        Declared::Output => "Output",
+        Declared::Inout => "Inout",
+        Declared::Wire => "Wire",
+        Declared::Tri => "Tri",
+        Declared::Supply0 => "Supply0",
+        Declared::Supply1 => "Supply1",
+    }
+}
+
+fn push_range(text: &mut String, range: &Option<Range>) -> Result<(), NoMemory> {
+    let Some(range) = range else {
+        return Ok(());
+    };
+    let (left, right) = (
+        Part::Word(range.left.text()),
+        Part::Word(range.right.text()),
+    );
+    put(
+        text,
+        &[
+            Part::Text(" ["),
+            left,
+            Part::Text(":"),
+            right,
+            Part::Text("]"),
+        ],
+    )
+}
+
+fn push_connections<'a>(
     text: &mut String,
-    source: &[u8],
-    statement: &Statement,
+    source: &'a [u8],
+    connections: &[Connection<'a>],
+) -> Result<(), NoMemory> {
+    for connection in connections {
+        let pin = Part::Word(connection.pin.text());
+        let connected = at(source, connection.expression.span);
+        put(text, &[pin, Part::Text("="), connected, Part::Text("|")])?;
+    }
+    Ok(())
+}
+
+/// One statement, with a bar behind each name and each expression.
+fn push_statement<'a>(
+    text: &mut String,
+    source: &'a [u8],
+    statement: &Statement<'a>,
 ) -> Result<(), NoMemory> {
     match statement {
         Statement::Module { name, ports } => {
-            text.push_str(&format!(in alloc; "module {}", word(name.text()))?)?;
-            push_names(text, ports)?;
+            put(text, &[Part::Text("module "), Part::Word(name.text())])?;
+            push_names(text, ports)
         }
         Statement::Declare { kind, range, names } => {
-            text.push_str(&format!(in alloc; "{kind:?}")?)?;
-            if let Some(range) = range {
-                let (left, right) = (word(range.left.text()), word(range.right.text()));
-                text.push_str(&format!(in alloc; " [{left}:{right}]")?)?;
-            }
-            push_names(text, names)?;
+            put(text, &[Part::Text(kind_word(*kind))])?;
+            push_range(text, range)?;
+            push_names(text, names)
         }
         Statement::Assign { left, right } => {
             let (left, right) = (at(source, left.get().span), at(source, right.get().span));
-            text.push_str(&format!(in alloc; "assign {left}|{right}|")?)?;
+            let bar = Part::Text("|");
+            put(text, &[Part::Text("assign "), left, bar, right, bar])
         }
         Statement::Instance {
             cell,
             name,
             connections,
         } => {
-            let (cell, name) = (word(cell.text()), word(name.text()));
-            text.push_str(&format!(in alloc; "{cell} {name}: ")?)?;
-            for connection in connections.as_slice() {
-                let pin = word(connection.pin.text());
-                let connected = at(source, connection.expression.span);
-                text.push_str(&format!(in alloc; "{pin}={connected}|")?)?;
-            }
+            let (cell, name) = (Part::Word(cell.text()), Part::Word(name.text()));
+            put(text, &[cell, Part::Text(" "), name, Part::Text(": ")])?;
+            push_connections(text, source, connections.as_slice())
         }
+    }
+}
+
+/// Statements, one a line behind its number.
+fn push_lines<'a>(
+    text: &mut String,
+    source: &'a [u8],
+    statements: &[Placed<'a>],
+) -> Result<(), NoMemory> {
+    for placed in statements {
+        put(text, &[Part::Number(placed.line), Part::Text(" ")])?;
+        push_statement(text, source, &placed.statement)?;
+        put(text, &[Part::Text("\n")])?;
     }
     Ok(())
 }
 
-/// The statements of a module, one a line behind its number.
+/// The statements of a module.
 pub(crate) fn statements(alloc: Global, source: &[u8]) -> Result<String, ReadFault>
     requires { length source.now < 2 ^ 32 }
 {
+    let statements = read_statements(alloc, source)?;
     let mut text = String::new(alloc);
-    for placed in read_statements(alloc, source)?.as_slice() {
-        let line = placed.line;
-        text.push_str(&format!(in alloc; "{line} ")?)?;
-        push_statement(alloc, &mut text, source, &placed.statement)?;
-        text.push_str("\n")?;
-    }
+    push_lines(&mut text, source, statements.as_slice())?;
     Ok(text)
 }
 
@@ -91,42 +139,67 @@ fn expression_of<'b, 'a>(placed: &'b Placed<'a>) -> Option<&'b Expression<'a>> {
     }
 }
 
-fn item_text(alloc: Global, item: &Item) -> Result<String, NoMemory> {
-    Ok(match item {
-        Item::Open => format!(in alloc; "{{")?,
-        Item::Comma => format!(in alloc; ",")?,
-        Item::Close => format!(in alloc; "}}")?,
-        Item::Name(name) => format!(in alloc; "name {}", word(name.text()))?,
+fn push_item(text: &mut String, item: &Item) -> Result<(), NoMemory> {
+    let (bar, blank) = (Part::Text("|"), Part::Text(" "));
+    match item {
+        Item::Open => put(text, &[Part::Text("{|")]),
+        Item::Comma => put(text, &[Part::Text(",|")]),
+        Item::Close => put(text, &[Part::Text("}|")]),
+        Item::Name(name) => put(text, &[Part::Text("name "), Part::Word(name.text()), bar]),
         Item::Bit { name, index } => {
-            let (name, index) = (word(name.text()), word(index.text()));
-            format!(in alloc; "bit {name} {index}")?
+            let (name, index) = (Part::Word(name.text()), Part::Word(index.text()));
+            put(text, &[Part::Text("bit "), name, blank, index, bar])
         }
         Item::Part { name, left, right } => {
-            let (left, right) = (word(left.get().text()), word(right.get().text()));
-            format!(in alloc; "part {} {left} {right}", word(name.text()))?
+            let name = Part::Word(name.text());
+            let (left, right) = (
+                Part::Word(left.get().text()),
+                Part::Word(right.get().text()),
+            );
+            put(
+                text,
+                &[Part::Text("part "), name, blank, left, blank, right, bar],
+            )
         }
-        Item::Constant(text) => format!(in alloc; "constant {}", word(text.text()))?,
-    })
+        Item::Constant(word) => {
+            put(
+                text,
+                &[Part::Text("constant "), Part::Word(word.text()), bar],
+            )
+        }
+    }
 }
 
-/// The items of the first expression behind the header, a bar behind each, and where it stands; of many items their number.
+/// The items of an expression, a bar behind each, and where it stands; of many items their number.
+fn push_items(text: &mut String, expression: &Expression) -> Result<(), NoMemory> {
+    let items = expression.items.as_slice();
+    if items.len() > 100 {
+        put(
+            text,
+            &[Part::Number(items.len() as u64), Part::Text(" items")],
+        )?;
+    } else {
+        for item in items {
+            push_item(text, item)?;
+        }
+    }
+    let (start, end) = (
+        u64::from(expression.span.start),
+        u64::from(expression.span.end),
+    );
+    let (start, end) = (Part::Number(start), Part::Number(end));
+    put(text, &[Part::Text(" at "), start, Part::Text(".."), end])
+}
+
+/// The first expression behind the header.
 pub(crate) fn items(alloc: Global, source: &[u8]) -> Result<String, ReadFault>
     requires { length source.now < 2 ^ 32 }
 {
     let statements = read_statements(alloc, source)?;
-    let Some(expression) = statements.as_slice().iter().find_map(expression_of) else {
-        return Ok(format!(in alloc; "no expression")?);
-    };
-    let (start, end) = (expression.span.start, expression.span.end);
-    let count = expression.items.as_slice().len();
-    if count > 100 {
-        return Ok(format!(in alloc; "{count} items at {start}..{end}")?);
-    }
     let mut text = String::new(alloc);
-    for item in expression.items.as_slice() {
-        text.push_str(&item_text(alloc, item)?)?;
-        text.push_str("|")?;
+    match statements.as_slice().iter().find_map(expression_of) {
+        Some(expression) => push_items(&mut text, expression)?,
+        None => put(&mut text, &[Part::Text("no expression")])?,
     }
-    text.push_str(&format!(in alloc; " at {start}..{end}")?)?;
     Ok(text)
 }

@@ -2,11 +2,11 @@
 ghost use Rattle.std.specs.Prelude.{◌<◌, ◌^◌, length};
 ghost use Rattle.netlist_core.specs.Netlists.{IsNetlist};
 
-use base_types::{Name, NoMemory, ReadFault, Rows};
+use base_types::{Name, NoMemory, ReadFault, Rows, Span};
 use chain_trace::{input_named, output_named, plain_of};
-use netlist_core::{Bit, Expr, NetId, Netlist, classes_of, net_of, plain};
+use netlist_core::{Bit, Direction, Expr, NetId, Netlist, classes_of, net_of, plain};
 use path_links::{SinkPin, Sinks, erased};
-use row_forms::word;
+use row_forms::{Part, put, word};
 use std::alloc::Global;
 use verilog_reader::read_netlist;
 
@@ -38,77 +38,124 @@ pub(crate) fn net_name(netlist: &Netlist, net: NetId) -> &str {
 fn push_bits(text: &mut String, netlist: &Netlist, expr: &Expr) -> Result<(), NoMemory> {
     let mut blank = "";
     for bit in expr.bits.as_slice() {
-        text.push_str(blank)?;
-        text.push_str(match bit {
+        let bit = match bit {
             Bit::Net(net) => net_name(netlist, *net),
             Bit::Zero => "0",
             Bit::One => "1",
             Bit::Unknown => "x",
-        })?;
+        };
+        put(text, &[Part::Text(blank), Part::Text(bit)])?;
         blank = " ";
     }
     Ok(())
 }
 
-fn push_instances(alloc: Global, text: &mut String, netlist: &Netlist) -> Result<(), NoMemory> {
+fn push_instances(text: &mut String, netlist: &Netlist) -> Result<(), NoMemory> {
     for instance in netlist.instances.as_slice() {
-        let (line, cell) = (instance.line, word(instance.cell.bytes()));
-        let name = word(instance.name.bytes());
-        text.push_str(&format!(in alloc; "{line} {cell} {name}")?)?;
+        put(
+            text,
+            &[
+                Part::Number(instance.line),
+                Part::Text(" "),
+                Part::Word(instance.cell.bytes()),
+                Part::Text(" "),
+                Part::Word(instance.name.bytes()),
+            ],
+        )?;
         for connection in instance.connections.as_slice() {
-            let pin = word(connection.pin.bytes());
-            text.push_str(&format!(in alloc; " {pin}:")?)?;
+            let pin = Part::Word(connection.pin.bytes());
+            put(text, &[Part::Text(" "), pin, Part::Text(":")])?;
             push_bits(text, netlist, &connection.expr)?;
         }
-        text.push_str("\n")?;
+        put(text, &[Part::Text("\n")])?;
+    }
+    Ok(())
+}
+
+fn push_ports_of(text: &mut String, netlist: &Netlist) -> Result<(), NoMemory> {
+    for port in netlist.ports.as_slice() {
+        let direction = match port.direction {
+            Direction::Input => " Input ",
+            Direction::Output => " Output ",
+            Direction::Inout => " Inout ",
+        };
+        let net = Part::Text(net_name(netlist, port.net));
+        put(
+            text,
+            &[
+                Part::Number(port.line),
+                Part::Text(direction),
+                net,
+                Part::Text("\n"),
+            ],
+        )?;
+    }
+    Ok(())
+}
+
+fn push_assigns(text: &mut String, netlist: &Netlist) -> Result<(), NoMemory> {
+    for assign in netlist.assigns.as_slice() {
+        put(text, &[Part::Number(assign.line), Part::Text(" assign ")])?;
+        push_bits(text, netlist, &assign.left)?;
+        put(text, &[Part::Text(" =")])?;
+        push_bits(text, netlist, &assign.right)?;
+        put(text, &[Part::Text("\n")])?;
     }
     Ok(())
 }
 
 /// All that a netlist holds but the places, a net, port, assign or instance a line.
-pub(crate) fn push_netlist(
-    alloc: Global,
-    text: &mut String,
-    netlist: &Netlist,
-) -> Result<(), NoMemory> {
-    let (line, module, declared) = (netlist.line, word(netlist.module.bytes()), netlist.declared);
-    text.push_str(&format!(in alloc; "{line} module {module}, {declared} nets declared\n")?)?;
+pub(crate) fn push_netlist(text: &mut String, netlist: &Netlist) -> Result<(), NoMemory> {
+    put(
+        text,
+        &[
+            Part::Number(netlist.line),
+            Part::Text(" module "),
+            Part::Word(netlist.module.bytes()),
+            Part::Text(", "),
+            Part::Number(u64::from(netlist.declared)),
+            Part::Text(" nets declared\n"),
+        ],
+    )?;
     for net in netlist.nets.as_slice() {
-        let (plain, spelled) = (word(net.plain.bytes()), word(net.text.bytes()));
-        text.push_str(&format!(in alloc; "net {plain}|{spelled}|\n")?)?;
+        let (plain, spelled) = (Part::Word(net.plain.bytes()), Part::Word(net.text.bytes()));
+        let bar = Part::Text("|");
+        put(
+            text,
+            &[Part::Text("net "), plain, bar, spelled, Part::Text("|\n")],
+        )?;
     }
-    for port in netlist.ports.as_slice() {
-        let (line, direction, net) = (port.line, port.direction, net_name(netlist, port.net));
-        text.push_str(&format!(in alloc; "{line} {direction:?} {net}\n")?)?;
-    }
-    for assign in netlist.assigns.as_slice() {
-        let line = assign.line;
-        text.push_str(&format!(in alloc; "{line} assign ")?)?;
-        push_bits(text, netlist, &assign.left)?;
-        text.push_str(" =")?;
-        push_bits(text, netlist, &assign.right)?;
-        text.push_str("\n")?;
-    }
-    push_instances(alloc, text, netlist)
+    push_ports_of(text, netlist)?;
+    push_assigns(text, netlist)?;
+    push_instances(text, netlist)
+}
+
+/// Where something stands.
+fn push_span(text: &mut String, span: Span) -> Result<(), NoMemory> {
+    let (start, end) = (u64::from(span.start), u64::from(span.end));
+    put(
+        text,
+        &[Part::Number(start), Part::Text(".."), Part::Number(end)],
+    )
 }
 
 /// Where the expressions of the assigns and of the connections stand.
-fn push_places(alloc: Global, text: &mut String, netlist: &Netlist) -> Result<(), NoMemory> {
+fn push_places(text: &mut String, netlist: &Netlist) -> Result<(), NoMemory> {
     for assign in netlist.assigns.as_slice() {
-        let (left, right) = (assign.left.span, assign.right.span);
-        let (start, end) = (left.start, left.end);
-        text.push_str(&format!(in alloc; "assign {start}..{end} ")?)?;
-        let (start, end) = (right.start, right.end);
-        text.push_str(&format!(in alloc; "{start}..{end}\n")?)?;
+        put(text, &[Part::Text("assign ")])?;
+        push_span(text, assign.left.span)?;
+        put(text, &[Part::Text(" ")])?;
+        push_span(text, assign.right.span)?;
+        put(text, &[Part::Text("\n")])?;
     }
     for instance in netlist.instances.as_slice() {
-        text.push_str(word(instance.name.bytes()))?;
+        put(text, &[Part::Word(instance.name.bytes())])?;
         for connection in instance.connections.as_slice() {
-            let (pin, span) = (word(connection.pin.bytes()), connection.expr.span);
-            let (start, end) = (span.start, span.end);
-            text.push_str(&format!(in alloc; " {pin} {start}..{end}")?)?;
+            let pin = Part::Word(connection.pin.bytes());
+            put(text, &[Part::Text(" "), pin, Part::Text(" ")])?;
+            push_span(text, connection.expr.span)?;
         }
-        text.push_str("\n")?;
+        put(text, &[Part::Text("\n")])?;
     }
     Ok(())
 }
@@ -128,7 +175,16 @@ pub(crate) fn push_classes(
         let (class, other) = (found.class_of(net), plainly.class_of(net));
         let mark = if class == other { "" } else { "?" };
         let (net, class) = (net_name(netlist, net), net_name(netlist, class));
-        text.push_str(&format!(in alloc; "{net}:{class}{mark} ")?)?;
+        put(
+            text,
+            &[
+                Part::Text(net),
+                Part::Text(":"),
+                Part::Text(class),
+                Part::Text(mark),
+                Part::Text(" "),
+            ],
+        )?;
     }
     Ok(())
 }
@@ -144,19 +200,22 @@ fn push_pins(alloc: Global, text: &mut String, netlist: &Netlist) -> Result<(), 
                 Some(net) => net_name(netlist, net),
                 None => "-",
             };
-            text.push_str(&format!(in alloc; "{pin}:{net} ")?)?;
+            put(
+                text,
+                &[
+                    Part::Text(pin),
+                    Part::Text(":"),
+                    Part::Text(net),
+                    Part::Text(" "),
+                ],
+            )?;
         }
-        text.push_str("\n")?;
+        put(text, &[Part::Text("\n")])?;
     }
     Ok(())
 }
 
-fn push_port(
-    alloc: Global,
-    text: &mut String,
-    netlist: &Netlist,
-    name: &[u8],
-) -> Result<(), NoMemory> {
+fn push_port<'n>(text: &mut String, netlist: &'n Netlist, name: &'n [u8]) -> Result<(), NoMemory> {
     let input = match input_named(netlist, name) {
         Some(net) => net_name(netlist, net),
         None => "-",
@@ -165,25 +224,37 @@ fn push_port(
         Some(net) => net_name(netlist, net),
         None => "-",
     };
-    let name = word(name);
-    text.push_str(&format!(in alloc; "'{name}' {input} {output}\n")?)?;
-    Ok(())
+    let (name, blank) = (Part::Word(name), Part::Text(" "));
+    let (input, output) = (Part::Text(input), Part::Text(output));
+    let quote = Part::Text("'");
+    put(
+        text,
+        &[
+            quote,
+            name,
+            quote,
+            blank,
+            input,
+            blank,
+            output,
+            Part::Text("\n"),
+        ],
+    )
 }
 
 /// The input and the output that is found by each net's name, by a name in capitals and by none; and the name of a net that
 /// isn't there.
-fn push_ports(alloc: Global, text: &mut String, netlist: &Netlist) -> Result<(), NoMemory> {
+fn push_ports(text: &mut String, netlist: &Netlist) -> Result<(), NoMemory> {
     for net in netlist.nets.as_slice() {
-        push_port(alloc, text, netlist, net.plain.bytes())?;
+        push_port(text, netlist, net.plain.bytes())?;
     }
-    push_port(alloc, text, netlist, b"SO")?;
-    push_port(alloc, text, netlist, b"")?;
-    text.push_str(net_name(netlist, NetId(4294967295)))?;
-    Ok(())
+    push_port(text, netlist, b"SO")?;
+    push_port(text, netlist, b"")?;
+    put(text, &[Part::Text(net_name(netlist, NetId(4294967295)))])
 }
 
-/// The netlist without what its pins SI and its port `so` are connected to.
-fn push_erased(alloc: Global, text: &mut String, netlist: &Netlist) -> Result<(), NoMemory> {
+/// The pins SI of all instances, and the port `so`.
+fn sinks_of(alloc: Global, netlist: &Netlist) -> Result<Sinks, NoMemory> {
     let mut pins = Rows::new(alloc);
     for instance in netlist.instances.as_slice() {
         pins.push(SinkPin {
@@ -193,8 +264,39 @@ fn push_erased(alloc: Global, text: &mut String, netlist: &Netlist) -> Result<()
     }
     let mut ports = Rows::new(alloc);
     ports.push(Name::copy(alloc, b"so")?)?;
-    let left = erased(alloc, netlist, &Sinks { pins, ports })?;
-    push_netlist(alloc, text, &left)
+    Ok(Sinks { pins, ports })
+}
+
+/// The netlist without what these sinks are connected to.
+fn push_erased(
+    alloc: Global,
+    text: &mut String,
+    netlist: &Netlist,
+    sinks: &Sinks,
+) -> Result<(), NoMemory> {
+    let left = erased(alloc, netlist, sinks)?;
+    push_netlist(text, &left)
+}
+
+/// What is asked of a netlist.
+fn push_asked(
+    alloc: Global,
+    text: &mut String,
+    asked: Asked,
+    netlist: &Netlist,
+) -> Result<(), NoMemory>
+    requires { IsNetlist netlist.now }
+{
+    match asked {
+        Asked::Read => put(text, &[Part::Text("read")]),
+        Asked::Whole => push_netlist(text, netlist),
+        Asked::Instances => push_instances(text, netlist),
+        Asked::Places => push_places(text, netlist),
+        Asked::Classes => push_classes(alloc, text, netlist),
+        Asked::Pins => push_pins(alloc, text, netlist),
+        Asked::Ports => push_ports(text, netlist),
+        Asked::Erased => push_erased(alloc, text, netlist, &sinks_of(alloc, netlist)?),
+    }
 }
 
 /// What is asked of the netlist that a text denotes.
@@ -203,15 +305,6 @@ pub(crate) fn netlist(alloc: Global, asked: Asked, source: &[u8]) -> Result<Stri
 {
     let netlist = read_netlist(alloc, source)?;
     let mut text = String::new(alloc);
-    match asked {
-        Asked::Read => text.push_str("read")?,
-        Asked::Whole => push_netlist(alloc, &mut text, &netlist)?,
-        Asked::Instances => push_instances(alloc, &mut text, &netlist)?,
-        Asked::Places => push_places(alloc, &mut text, &netlist)?,
-        Asked::Classes => push_classes(alloc, &mut text, &netlist)?,
-        Asked::Pins => push_pins(alloc, &mut text, &netlist)?,
-        Asked::Ports => push_ports(alloc, &mut text, &netlist)?,
-        Asked::Erased => push_erased(alloc, &mut text, &netlist)?,
-    }
+    push_asked(alloc, &mut text, asked, &netlist)?;
     Ok(text)
 }

@@ -7,10 +7,10 @@ use crate::netlists::{net_name, push_netlist};
 use base_types::{NoMemory, ReadFault, Rows};
 use cell_table::{CellTable, read_table};
 use chain_trace::{Path, PathBits, Step, Tracer, bits_of, output_named};
-use net_edit::{apply, edits_for};
+use net_edit::{Edits, Wire, apply, edits_for};
 use netlist_core::{NetId, Netlist, classes_of};
 use path_links::FreeOutputs;
-use row_forms::{fault_text, word};
+use row_forms::{Part, fault_text, put, word};
 use std::alloc::Global;
 use verilog_reader::read_netlist;
 
@@ -28,54 +28,87 @@ pub(crate) enum Asked {
 }
 
 /// An instance, and which of its scan paths and which out pin or bit of that.
-fn push_part(
-    alloc: Global,
-    text: &mut String,
-    netlist: &Netlist,
-    part: Step,
-) -> Result<(), NoMemory> {
+fn push_part(text: &mut String, netlist: &Netlist, part: Step) -> Result<(), NoMemory> {
     let name = match netlist.instances.as_slice().get(part.instance as usize) {
         Some(instance) => word(instance.name.bytes()),
         None => "(no instance)",
     };
-    let (path, out) = (part.path, part.out);
-    text.push_str(&format!(in alloc; " {name}/{path}/{out}")?)?;
-    Ok(())
+    let slash = Part::Text("/");
+    let (path, out) = (
+        Part::Number(u64::from(part.path)),
+        Part::Number(u64::from(part.out)),
+    );
+    put(
+        text,
+        &[Part::Text(" "), Part::Text(name), slash, path, slash, out],
+    )
+}
+
+/// Whether the output is inverted.
+fn push_parity(text: &mut String, inverted: bool) -> Result<(), NoMemory> {
+    put(
+        text,
+        &[Part::Text(if inverted { " out=1" } else { " out=0" })],
+    )
 }
 
 /// Of a long path: how many steps and bits, how many of them stand at the number of their instance, and how many are inverted.
-fn push_counts(
-    alloc: Global,
-    text: &mut String,
-    path: &Path,
-    all: &PathBits,
-) -> Result<(), NoMemory> {
+fn push_counts(text: &mut String, path: &Path, all: &PathBits) -> Result<(), NoMemory> {
+    let (mut placed, mut held, mut inverted) = (0u64, 0u64, 0u64);
     let steps = path.steps.as_slice();
-    let placed = steps
-        .iter()
-        .enumerate()
-        .filter(|(k, step)| step.instance as usize == *k)
-        .count();
+    for (k, step) in steps.iter().enumerate() {
+        placed = placed.saturating_add(u64::from(step.instance as usize == k));
+    }
     let bits = all.bits.as_slice();
-    let held = bits
-        .iter()
-        .enumerate()
-        .filter(|(k, bit)| bit.instance as usize == *k)
-        .count();
-    let inverted = all
-        .parity
-        .as_slice()
-        .iter()
-        .filter(|parity| **parity)
-        .count();
-    let (steps, bits) = (steps.len(), bits.len());
-    text.push_str(&format!(in alloc; " {placed} of {steps} steps")?)?;
-    text.push_str(&format!(in alloc; " | {held} of {bits} bits, {inverted} inverted")?)?;
-    text.push_str(if all.out_parity { " out=1" } else { " out=0" })?;
-    Ok(())
+    for (k, bit) in bits.iter().enumerate() {
+        held = held.saturating_add(u64::from(bit.instance as usize == k));
+    }
+    for parity in all.parity.as_slice() {
+        inverted = inverted.saturating_add(u64::from(*parity));
+    }
+    put(
+        text,
+        &[
+            Part::Text(" "),
+            Part::Number(placed),
+            Part::Text(" of "),
+            Part::Number(steps.len() as u64),
+            Part::Text(" steps | "),
+            Part::Number(held),
+            Part::Text(" of "),
+            Part::Number(bits.len() as u64),
+            Part::Text(" bits, "),
+            Part::Number(inverted),
+            Part::Text(" inverted"),
+        ],
+    )?;
+    push_parity(text, all.out_parity)
 }
 
 /// A path's steps, and behind a bar its bits with their parities, and that of the output.
+fn push_steps(
+    text: &mut String,
+    netlist: &Netlist,
+    path: &Path,
+    all: &PathBits,
+) -> Result<(), NoMemory> {
+    for step in path.steps.as_slice() {
+        push_part(text, netlist, *step)?;
+    }
+    put(text, &[Part::Text(" |")])?;
+    for (bit, parity) in all.bits.as_slice().iter().zip(all.parity.as_slice()) {
+        let part = Step {
+            instance: bit.instance,
+            path: bit.path,
+            out: bit.index,
+        };
+        push_part(text, netlist, part)?;
+        put(text, &[Part::Text(if *parity { "=1" } else { "=0" })])?;
+    }
+    push_parity(text, all.out_parity)
+}
+
+/// Where a path begins and ends, and its steps and bits, or of a long one their counts.
 fn push_path(
     alloc: Global,
     text: &mut String,
@@ -85,30 +118,18 @@ fn push_path(
 ) -> Result<(), NoMemory>
     requires { All (NamesEntry netlist.now table.now) path.now.steps }
 {
-    let (input, output) = (
-        net_name(netlist, path.input),
-        net_name(netlist, path.output),
-    );
-    text.push_str(&format!(in alloc; "{output} from {input} over")?)?;
+    let output = Part::Text(net_name(netlist, path.output));
+    let input = Part::Text(net_name(netlist, path.input));
+    put(
+        text,
+        &[output, Part::Text(" from "), input, Part::Text(" over")],
+    )?;
     let all = bits_of(alloc, netlist, table, path)?;
     if path.steps.as_slice().len() > 100 {
-        return push_counts(alloc, text, path, &all);
+        push_counts(text, path, &all)
+    } else {
+        push_steps(text, netlist, path, &all)
     }
-    for step in path.steps.as_slice() {
-        push_part(alloc, text, netlist, *step)?;
-    }
-    text.push_str(" |")?;
-    for (bit, parity) in all.bits.as_slice().iter().zip(all.parity.as_slice()) {
-        let part = Step {
-            instance: bit.instance,
-            path: bit.path,
-            out: bit.index,
-        };
-        push_part(alloc, text, netlist, part)?;
-        text.push_str(if *parity { "=1" } else { "=0" })?;
-    }
-    text.push_str(if all.out_parity { " out=1" } else { " out=0" })?;
-    Ok(())
 }
 
 /// The path of each output and inout port by one tracer, or its fault; twice, where the tracer answers otherwise again.
@@ -150,10 +171,17 @@ fn push_outputs(
             Err(ReadFault::NoMemory) => return Err(ReadFault::NoMemory),
             Err(ReadFault::Fault(fault)) => {
                 let (name, fault) = (net_name(netlist, net), fault_text(alloc, &fault)?);
-                text.push_str(&format!(in alloc; "{name} {fault}")?)?;
+                put(
+                    text,
+                    &[
+                        Part::Text(name),
+                        Part::Text(" "),
+                        Part::Text(fault.as_str()),
+                    ],
+                )?;
             }
         }
-        text.push_str("\n")?;
+        put(text, &[Part::Text("\n")])?;
     }
     Ok(())
 }
@@ -195,8 +223,39 @@ fn exchanged(alloc: Global, path: &Path) -> Result<Path, NoMemory> {
     over(alloc, path, &steps)
 }
 
-/// The nets that are assigned at assigns of their own; and whether each path is direct, with its last two steps exchanged,
-/// and without any step.
+/// Whether a path with these steps is direct.
+fn push_direct(
+    text: &mut String,
+    outputs: &FreeOutputs<'_>,
+    table: &CellTable,
+    path: &Path,
+) -> Result<(), NoMemory> {
+    let is_direct = outputs.is_direct(table, path);
+    put(text, &[Part::Text(if is_direct { " yes" } else { " no" })])
+}
+
+/// Whether each path is direct, with its last two steps exchanged, and without any step.
+fn push_all_direct(
+    alloc: Global,
+    text: &mut String,
+    netlist: &Netlist,
+    table: &CellTable,
+    outputs: &FreeOutputs<'_>,
+) -> Result<(), NoMemory>
+    requires { IsNetlist netlist.now }
+{
+    for path in paths_of(alloc, netlist, table)?.as_slice() {
+        let output = net_name(netlist, path.output);
+        put(text, &[Part::Text(output), Part::Text(" direct:")])?;
+        push_direct(text, outputs, table, path)?;
+        push_direct(text, outputs, table, &exchanged(alloc, path)?)?;
+        push_direct(text, outputs, table, &over(alloc, path, &[])?)?;
+        put(text, &[Part::Text("\n")])?;
+    }
+    Ok(())
+}
+
+/// The nets that are assigned at assigns of their own, and which paths are direct.
 fn push_free(
     alloc: Global,
     text: &mut String,
@@ -206,31 +265,108 @@ fn push_free(
     requires { IsNetlist netlist.now }
 {
     let outputs = FreeOutputs::of(alloc, netlist)?;
-    text.push_str("assigned:")?;
+    put(text, &[Part::Text("assigned:")])?;
     for k in 0..netlist.nets.as_slice().len() {
         let net = NetId(k as u32);
         if outputs.is_assigned(net) {
-            text.push_str(&format!(in alloc; " {}", net_name(netlist, net))?)?;
+            put(text, &[Part::Text(" "), Part::Text(net_name(netlist, net))])?;
         }
     }
-    text.push_str("\n")?;
-    for path in paths_of(alloc, netlist, table)?.as_slice() {
-        let output = net_name(netlist, path.output);
-        text.push_str(&format!(in alloc; "{output} direct:")?)?;
-        for other in [
-            over(alloc, path, path.steps.as_slice())?,
-            exchanged(alloc, path)?,
-            over(alloc, path, &[])?,
-        ] {
-            text.push_str(if outputs.is_direct(table, &other) {
-                " yes"
-            } else {
-                " no"
-            })?;
-        }
-        text.push_str("\n")?;
+    put(text, &[Part::Text("\n")])?;
+    push_all_direct(alloc, text, netlist, table, &outputs)
+}
+
+/// The edits that put the paths into another order, or leave them.
+fn edits_of(
+    alloc: Global,
+    netlist: &Netlist,
+    table: &CellTable,
+    exchange: bool,
+) -> Result<Edits, NoMemory>
+    requires { IsNetlist netlist.now }
+{
+    let old = paths_of(alloc, netlist, table)?;
+    let mut new = Vec::new(alloc);
+    for path in old.as_slice() {
+        let other = if exchange {
+            exchanged(alloc, path)
+        } else {
+            over(alloc, path, path.steps.as_slice())
+        };
+        new.push(other?)?;
+    }
+    edits_for(alloc, netlist, table, &old, &new)
+}
+
+/// The wire behind an edit, as it is printed for debugging.
+fn wire_text(alloc: Global, source: Wire) -> Result<String, NoMemory> {
+    Ok(format!(in alloc; " {source:?}\n")?)
+}
+
+fn push_edits(alloc: Global, text: &mut String, edits: &Edits) -> Result<(), NoMemory> {
+    for edit in edits.pins.as_slice() {
+        let source = wire_text(alloc, edit.source)?;
+        let (instance, path) = (u64::from(edit.instance), u64::from(edit.path));
+        let (instance, path) = (Part::Number(instance), Part::Number(path));
+        let slash = Part::Text("/");
+        put(
+            text,
+            &[
+                Part::Text("pin "),
+                instance,
+                slash,
+                path,
+                Part::Text(source.as_str()),
+            ],
+        )?;
+    }
+    for edit in edits.ports.as_slice() {
+        let source = wire_text(alloc, edit.source)?;
+        let (port, assign) = (u64::from(edit.port.0), u64::from(edit.assign));
+        let (port, assign) = (Part::Number(port), Part::Number(assign));
+        let between = Part::Text(" assign ");
+        put(
+            text,
+            &[
+                Part::Text("port "),
+                port,
+                between,
+                assign,
+                Part::Text(source.as_str()),
+            ],
+        )?;
+    }
+    for edit in edits.tails.as_slice() {
+        let source = wire_text(alloc, edit.source)?;
+        let blank = Part::Text(" ");
+        put(
+            text,
+            &[
+                Part::Text("tail "),
+                Part::Number(u64::from(edit.port.0)),
+                blank,
+                Part::Number(u64::from(edit.instance)),
+                blank,
+                Part::Word(edit.pin.bytes()),
+                blank,
+                Part::Word(edit.tail.bytes()),
+                Part::Text(source.as_str()),
+            ],
+        )?;
     }
     Ok(())
+}
+
+/// The netlist with some edits.
+fn push_applied(
+    alloc: Global,
+    text: &mut String,
+    netlist: &Netlist,
+    table: &CellTable,
+    edits: &Edits,
+) -> Result<(), NoMemory> {
+    let edited = apply(alloc, netlist, table, edits)?;
+    push_netlist(text, &edited)
 }
 
 /// The edits that put the paths into another order, or leave them, and the netlist with them.
@@ -243,30 +379,27 @@ fn push_edited(
 ) -> Result<(), NoMemory>
     requires { IsNetlist netlist.now }
 {
-    let old = paths_of(alloc, netlist, table)?;
-    let mut new = Vec::new(alloc);
-    for path in old.as_slice() {
-        new.push(if exchange {
-            exchanged(alloc, path)?
-        } else {
-            over(alloc, path, path.steps.as_slice())?
-        })?;
+    let edits = edits_of(alloc, netlist, table, exchange)?;
+    push_edits(alloc, text, &edits)?;
+    push_applied(alloc, text, netlist, table, &edits)
+}
+
+fn push_asked(
+    alloc: Global,
+    text: &mut String,
+    asked: Asked,
+    netlist: &Netlist,
+    table: &CellTable,
+) -> Result<(), ReadFault>
+    requires { IsNetlist netlist.now }
+{
+    match asked {
+        Asked::Traced => push_traced(alloc, text, netlist, table)?,
+        Asked::Free => push_free(alloc, text, netlist, table)?,
+        Asked::Exchanged => push_edited(alloc, text, netlist, table, true)?,
+        Asked::Kept => push_edited(alloc, text, netlist, table, false)?,
     }
-    let edits = edits_for(alloc, netlist, table, &old, &new)?;
-    for edit in edits.pins.as_slice() {
-        let (instance, path, source) = (edit.instance, edit.path, edit.source);
-        text.push_str(&format!(in alloc; "pin {instance}/{path} {source:?}\n")?)?;
-    }
-    for edit in edits.ports.as_slice() {
-        let (port, assign, source) = (edit.port.0, edit.assign, edit.source);
-        text.push_str(&format!(in alloc; "port {port} assign {assign} {source:?}\n")?)?;
-    }
-    for edit in edits.tails.as_slice() {
-        let (port, instance, source) = (edit.port.0, edit.instance, edit.source);
-        let (pin, tail) = (word(edit.pin.bytes()), word(edit.tail.bytes()));
-        text.push_str(&format!(in alloc; "tail {port} {instance} {pin} {tail} {source:?}\n")?)?;
-    }
-    push_netlist(alloc, text, &apply(alloc, netlist, table, &edits)?)
+    Ok(())
 }
 
 /// What is asked of the paths of a netlist.
@@ -281,11 +414,6 @@ pub(crate) fn paths(
     let table = read_table(alloc, cells)?;
     let netlist = read_netlist(alloc, source)?;
     let mut text = String::new(alloc);
-    match asked {
-        Asked::Traced => push_traced(alloc, &mut text, &netlist, &table)?,
-        Asked::Free => push_free(alloc, &mut text, &netlist, &table)?,
-        Asked::Exchanged => push_edited(alloc, &mut text, &netlist, &table, true)?,
-        Asked::Kept => push_edited(alloc, &mut text, &netlist, &table, false)?,
-    }
+    push_asked(alloc, &mut text, asked, &netlist, &table)?;
     Ok(text)
 }

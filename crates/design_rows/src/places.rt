@@ -1,13 +1,14 @@
 //! Where pins of components stand.
 ghost use Rattle.std.specs.Prelude.{◌<◌, ◌^◌, pos, ◌≤ℤ◌, length, IfSome};
+ghost use Rattle.def_reader.specs.Sound.{IsSound};
 ghost use Rattle.lef_pins.specs.Denoted.{AreMeasured};
 ghost use Rattle.lef_pins.specs.Places.{IsMeasured};
 
 use base_types::{Name, NoMemory, Point, ReadFault};
 use cell_table::read_table;
-use def_reader::read_design;
+use def_reader::{Design, read_design};
 use lef_pins::{Macro, Macros, Orient, pin_place, read_macros};
-use row_forms::word;
+use row_forms::{Part, put};
 use std::alloc::Global;
 
 /// The macro of a cell.
@@ -32,12 +33,37 @@ fn push_places(
     requires units_most { units ≤ℤ pos (10 ^ 5) }
 {
     if at.x.unsigned_abs() > 1 << 31 || at.y.unsigned_abs() > 1 << 31 {
-        text.push_str(" too far")?;
-        return Ok(());
+        return put(text, &[Part::Text(" too far")]);
     }
     for pin in ["A", "B"] {
         let place = pin_place(m, &Name::copy(alloc, pin.as_bytes())?, at, orient, units);
-        text.push_str(&format!(in alloc; " {pin} {} {}", place.x, place.y)?)?;
+        let (x, y, blank) = (
+            Part::Signed(place.x),
+            Part::Signed(place.y),
+            Part::Text(" "),
+        );
+        put(text, &[blank, Part::Text(pin), blank, x, blank, y])?;
+    }
+    Ok(())
+}
+
+fn push_components(
+    alloc: Global,
+    text: &mut String,
+    macros: &Macros,
+    design: &Design,
+) -> Result<(), NoMemory>
+    requires macros { AreMeasured macros.now }
+    requires design { IsSound design.now }
+{
+    for component in design.components.as_slice() {
+        let (Some(m), Some((at, orient))) = (macro_of(macros, &component.cell), component.place)
+        else {
+            continue;
+        };
+        put(text, &[Part::Word(component.name.bytes())])?;
+        push_places(alloc, text, m, at, orient, design.units)?;
+        put(text, &[Part::Text("\n")])?;
     }
     Ok(())
 }
@@ -56,14 +82,6 @@ pub(crate) fn places(
     let macros = read_macros(alloc, lef)?;
     let design = read_design(alloc, def, &table)?;
     let mut text = String::new(alloc);
-    for component in design.components.as_slice() {
-        let (Some(m), Some((at, orient))) = (macro_of(&macros, &component.cell), component.place)
-        else {
-            continue;
-        };
-        text.push_str(word(component.name.bytes()))?;
-        push_places(alloc, &mut text, m, at, orient, design.units)?;
-        text.push_str("\n")?;
-    }
+    push_components(alloc, &mut text, &macros, &design)?;
     Ok(text)
 }

@@ -3,7 +3,7 @@ ghost use Rattle.std.specs.Prelude.{◌<◌, ◌^◌, length};
 
 use base_types::{Lines, NoMemory, line_of};
 use def_tokens::{def_statements, is_decimal, is_integer, read_decimal, read_integer};
-use row_forms::push_size;
+use row_forms::{Part, push_size, put};
 use std::alloc::Global;
 
 /// How many tokens each statement has, and behind one without its end a question mark.
@@ -13,7 +13,7 @@ pub(crate) fn sizes(alloc: Global, text: &[u8]) -> Result<String, NoMemory>
     let mut sizes = String::new(alloc);
     for statement in def_statements(alloc, text)?.as_slice() {
         let tokens = statement.tokens.as_slice();
-        push_size(alloc, &mut sizes, tokens, statement.closed)?;
+        push_size(&mut sizes, tokens, statement.closed)?;
     }
     Ok(sizes)
 }
@@ -25,12 +25,20 @@ pub(crate) fn number(alloc: Global, text: &[u8], decimal: bool) -> Result<String
     } else {
         (is_integer(text), read_integer(text))
     };
-    Ok(match (form, value) {
-        (true, Some(value)) => format!(in alloc; "{value}")?,
-        (true, None) => format!(in alloc; "out of range")?,
-        (false, None) => format!(in alloc; "no number")?,
-        (false, Some(value)) => format!(in alloc; "no number, but {value}")?,
-    })
+    let mut told = String::new(alloc);
+    put(
+        &mut told,
+        &[Part::Text(match (form, value) {
+            (true, Some(_)) => "",
+            (true, None) => "out of range",
+            (false, None) => "no number",
+            (false, Some(_)) => "no number, but ",
+        })],
+    )?;
+    if let Some(value) = value {
+        put(&mut told, &[Part::Signed(value)])?;
+    }
+    Ok(told)
 }
 
 /// The lines of places of a text, from its beginning to its end and then from there backwards.
@@ -41,7 +49,10 @@ pub(crate) fn lines(alloc: Global, text: &[u8]) -> Result<String, NoMemory> {
         let line = lines.line_of(place);
         let alone = line_of(text, place.min(text.len()));
         let mark = if line == alone { "" } else { "?" };
-        told.push_str(&format!(in alloc; "{line}{mark} ")?)?;
+        put(
+            &mut told,
+            &[Part::Number(line), Part::Text(mark), Part::Text(" ")],
+        )?;
     }
     Ok(told)
 }

@@ -28,7 +28,7 @@ fn sizes(alloc: Global, text: &[u8]) -> Result<String, NoMemory>
     let mut sizes = String::new(alloc);
     for statement in stil_statements(alloc, text)?.as_slice() {
         let tokens = statement.tokens.as_slice();
-        push_size(alloc, &mut sizes, tokens, statement.closed)?;
+        push_size(&mut sizes, tokens, statement.closed)?;
     }
     Ok(sizes)
 }

@@ -8,6 +8,7 @@
 
 mod cases;
 mod faults;
+mod parts;
 mod report;
 mod row;
 mod texts;
@@ -16,6 +17,7 @@ mod trial;
 
 pub use cases::{Cases, print_cases};
 pub use faults::{answer_of, fault_text, place_text, word};
+pub use parts::{Part, put};
 pub use report::{compare, compare_number};
 pub use row::{Row, items_of};
 pub use texts::{Texts, WANTED, changed};

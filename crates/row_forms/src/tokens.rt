@@ -1,6 +1,7 @@
 //! How the tokens and statements of a text are printed.
 ghost use Rattle.token_forms.specs.Tokens.{AreSpansOf};
 
+use crate::parts::{Part, put};
 use base_types::{NoMemory, Span};
 use std::alloc::Global;
 use token_forms::Tokens;
@@ -29,14 +30,10 @@ pub fn barred(alloc: Global, text: &[u8], spans: &[Span]) -> Result<String, NoMe
 }
 
 /// How many tokens a statement has, and where it is without its end a question mark. Err where memory is wanted.
-pub fn push_size(
-    alloc: Global,
-    sizes: &mut String,
-    tokens: &[Span],
-    closed: bool,
-) -> Result<(), NoMemory> {
-    let size = tokens.len();
-    let mark = if closed { "" } else { "?" };
-    sizes.push_str(&format!(in alloc; "{size}{mark} ")?)?;
-    Ok(())
+pub fn push_size(sizes: &mut String, tokens: &[Span], closed: bool) -> Result<(), NoMemory> {
+    let mark = if closed { " " } else { "? " };
+    put(
+        sizes,
+        &[Part::Number(tokens.len() as u64), Part::Text(mark)],
+    )
 }
