@@ -51,6 +51,38 @@ impl Tours {
             )
     }
 
+    /// Whether two runs of two chains may change places.
+    pub fn are_exchangeable(&self, one: Run, other: Run) -> bool {
+        let i = self.first(one.chain).wrapping_add(one.from);
+        let j = self.first(other.chain).wrapping_add(other.from);
+        let bits = self.bits_from(i, one.nodes);
+        let others = self.bits_from(j, other.nodes);
+        self.may_exchange(one, bits, other, others)
+    }
+
+    /// How much longer the chains become if two runs of two chains change places.
+    pub fn longer_by_exchange(&self, one: Run, other: Run) -> i64 {
+        let i = self.first(one.chain).wrapping_add(one.from);
+        let j = self.first(other.chain).wrapping_add(other.from);
+        let before = i.wrapping_sub(1);
+        let previous = j.wrapping_sub(1);
+        let end = i.wrapping_add(one.nodes);
+        let stop = j.wrapping_add(other.nodes);
+        let last = end.wrapping_sub(1);
+        let tail = stop.wrapping_sub(1);
+        let made = self
+            .between(before, j)
+            .wrapping_add(self.between(tail, end))
+            .wrapping_add(self.between(previous, i))
+            .wrapping_add(self.between(last, stop));
+        let lost = self
+            .link_at(before)
+            .wrapping_add(self.link_at(last))
+            .wrapping_add(self.link_at(previous))
+            .wrapping_add(self.link_at(tail));
+        made.wrapping_sub(lost)
+    }
+
     // Takes the exchange of two runs, if that is better and may be.
     #[inline(always)]
     fn take_exchange(

@@ -7,3 +7,4 @@ pub mod Worked
 pub mod Refused
 pub mod Grouped
 pub mod Spared
+pub mod Narrow

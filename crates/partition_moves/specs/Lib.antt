@@ -3,4 +3,5 @@ pub mod Fits
 pub mod Together
 pub mod Within
 pub mod Links
+pub mod Straight
 pub mod Quiet

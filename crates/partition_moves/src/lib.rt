@@ -11,6 +11,7 @@ mod partitions;
 mod room;
 mod settle;
 mod spares;
+mod straight;
 mod swaps;
 mod work;
 

@@ -2,7 +2,7 @@
 //!
 //! An exchange that makes the plan shorter makes the two links of one of both places shorter; so each two units are tried
 //! from either side, and at a place whose links get no shorter nothing is tested.
-ghost use Rattle.std.specs.Prelude.{◌≡◌, ◌≢◌, ℕ, ◌+◌, ◌*◌, ◌<◌, ◌≤◌, ◌↔◌, cond, length, slice_set, IfSome, IfNone, IsTrue};
+ghost use Rattle.std.specs.Prelude.{◌≡◌, ◌≢◌, ℕ, ◌+◌, ◌*◌, ◌^◌, ◌<◌, ◌≤◌, ◌↔◌, cond, length, slice_set, IfSome, IfNone, IsTrue};
 ghost use Rattle.chain_rules.specs.Legality.{IsIn, IsLegal, chain_at, swapped_plan, with_chain};
 ghost use Rattle.wire_cost.specs.Lengths.{chain_ends, plan_length_of};
 ghost use Rattle.place_blocks.specs.Covers.{AreBlocks};
@@ -11,10 +11,12 @@ ghost use Rattle.order_search.specs.Trials.{IsGain, at};
 ghost use Rattle.partition_moves.specs.Links.{NoCloserSwapAt};
 ghost use Rattle.partition_moves.specs.Quiet.{HasNoSwap, NoCloserSwap};
 ghost use Rattle.partition_moves.specs.Roomy.{IsKept};
+ghost use Rattle.partition_moves.specs.Straight.{AreNarrow};
 ghost use Rattle.partition_moves.specs.Together.{AreTogetherBy};
 
 use crate::lift::{closer_place, unplaced};
 use crate::partitions::{Partitions, are_together};
+use crate::straight::{is_straight, widest_unit};
 use crate::work::Work;
 use chain_rules::{Position, Rules};
 use place_blocks::{Block, fill_blocks};
@@ -214,7 +216,7 @@ fn swaps_between(
 
 /// Exchanges each unit once with one of chain d, where such an exchange makes the plan shorter, and tells
 /// whether one did.
-fn swaps_into(
+fn swaps_with_all(
     rules: &Rules,
     ends: &Ends,
     parts: &Partitions,
@@ -246,6 +248,36 @@ fn swaps_into(
     again
 }
 
+/// As `swaps_with_all`, where no unit is wider than so much. A chain whose links no unit makes shorter is passed over.
+fn swaps_into(
+    rules: &Rules,
+    ends: &Ends,
+    parts: &Partitions,
+    plan: &mut Work,
+    blocks: &mut [Block],
+    widest: u64,
+    d: usize,
+) -> bool
+    requires searchable { AreSearchable rules.now ends.now }
+    requires parts { AreTogetherBy rules.now parts.now }
+    requires legal { IsLegal rules.now plan.old.plan }
+    requires kept { IsKept rules.now plan.old }
+    requires chain { d < length plan.old.plan.chains }
+    requires narrow { AreNarrow rules.now ends.now widest }
+    requires small { widest ≤ 2 ^ 43 }
+    requires room { length rules.now.units < 32 * length blocks.old }
+    ensures legal { IsLegal rules.now plan.new.plan }
+    ensures kept { IsKept rules.now plan.new }
+    ensures shorter { plan_length_of ends.now plan.new.plan + cond result 1 0 ≤ plan_length_of ends.now plan.old.plan }
+    ensures room { length blocks.new ≡ length blocks.old }
+    ensures quiet { ¬ IsTrue result → (plan.new.plan ≡ plan.old.plan) × ((c : ℕ) → c < length plan.old.plan.chains → NoCloserSwap rules.now ends.now plan.old.plan c d) }
+{
+    if is_straight(ends, d as u32, plan.chain(d), widest) {
+        return false;
+    }
+    swaps_with_all(rules, ends, parts, plan, blocks, d)
+}
+
 /// Goes once over all units and exchanges each that an exchange makes the plan shorter by; tells whether there was one.
 pub(crate) fn swap_pass(
     rules: &Rules,
@@ -265,9 +297,10 @@ pub(crate) fn swap_pass(
     ensures room { length blocks.new ≡ length blocks.old }
     ensures quiet { ¬ IsTrue result → (plan.new.plan ≡ plan.old.plan) × HasNoSwap rules.now ends.now plan.old.plan }
 {
+    let widest = widest_unit(rules, ends);
     let mut again = false;
     for d in 0..plan.len() {
-        if swaps_into(rules, ends, parts, plan, blocks, d) {
+        if swaps_into(rules, ends, parts, plan, blocks, widest, d) {
             again = true;
         }
     }

@@ -4,7 +4,7 @@ use Rattle.wire_cost.specs.Lengths.{chain_ends, plan_length_of}
 use Rattle.place_blocks.specs.Covers.{AreBlocks}
 use Rattle.partition_moves.specs.Quiet.{NoCloserSwap}
 use Rattle.partition_moves.specs.Roomy.{IsKept}
-use Rattle.partition_moves.proofs.swaps.swaps_into.Given as goal
+use Rattle.partition_moves.proofs.swaps.swaps_with_all.Given as goal
 
 abbrev pub invariant-chains : goal.invariant-chains
 invariant-chains l = record {
