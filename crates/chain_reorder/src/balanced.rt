@@ -20,7 +20,7 @@ use chain_trace::{Path, plain_of};
 use design_files::DesignFiles;
 use netlist_core::Netlist;
 use order_search::{Effort, settle_order};
-use plan_search::shorten;
+use plan_search::{Progress, shorten};
 use std::alloc::Global;
 
 /// The plain names of the outputs of the paths in a set.
@@ -65,11 +65,12 @@ fn cut_names(
 
 /// Orders the units within the chains of a plan, so that these are short, where its longest path is shorter than as read. Else the plan
 /// stays, so that a design that has nothing to gain is written as it is read.
-fn order_within(
+fn order_within<P: Progress>(
     alloc: Global,
     files: &DesignFiles,
     fixed: &[u32],
     plan: &mut Plan,
+    progress: &P,
 ) -> Result<(), NoMemory>
     requires checked { (t : Texts) × AreChecked t files.now }
     requires legal { IsLegal files.now.rules plan.old }
@@ -81,13 +82,17 @@ fn order_within(
     if longest(rules, fixed, plan) == longest(rules, fixed, &rules.read) {
         return Ok(());
     }
-    shorten(alloc, rules, &files.ends, Effort::Order, plan)?;
+    shorten(alloc, rules, &files.ends, Effort::Order, plan, progress)?;
     settle_order(alloc, rules, &files.ends, plan)
 }
 
 /// A plan of checked files in which no single unit of a longest path can go to another path so that both are then shorter than the longest
 /// one, which is no longer than as read; and what is measured of it.
-pub(crate) fn balanced_plan(alloc: Global, files: &DesignFiles) -> Result<FoundPlan, NoMemory>
+pub(crate) fn balanced_plan<P: Progress>(
+    alloc: Global,
+    files: &DesignFiles,
+    progress: &P,
+) -> Result<FoundPlan, NoMemory>
     requires checked { (t : Texts) × AreChecked t files.now }
     ensures legal { IfOk result (λ found. IsLegal files.now.rules found.plan) }
     ensures good { IfOk result (λ found. IsGoodIn goals.Balanced files.now found.plan) }
@@ -100,7 +105,7 @@ pub(crate) fn balanced_plan(alloc: Global, files: &DesignFiles) -> Result<FoundP
     let fixed = bits.as_slice();
     let mut plan = rules.read.copy(alloc)?;
     balance(alloc, rules, fixed, &mut plan)?;
-    order_within(alloc, files, fixed, &mut plan)?;
+    order_within(alloc, files, fixed, &mut plan, progress)?;
     // Each chain has its units still, so that none moves now; this tells the cut of the plan as it is.
     let cut = balance(alloc, rules, fixed, &mut plan)?;
     let note = limit_note(alloc, files, &plan, &cut)?;

@@ -22,4 +22,5 @@ mod reorder;
 pub use figures::{Figures, Lengths, Longest, Measured};
 pub use goal::Goal;
 pub use patterns::PatternPlan;
+pub use plan_search::Progress;
 pub use reorder::{Reordered, reorder_texts};

@@ -27,6 +27,7 @@ use net_edit::{edits_for, edits_law};
 use path_chains::cells_law;
 use path_laws::declared_law;
 use plan_paths::{new_paths, plan_law};
+use plan_search::Progress;
 use std::alloc::Global;
 use verilog_writer::verilog_text;
 
@@ -119,7 +120,7 @@ struct Planned {
 }
 
 /// Reads the files, searches a plan, and makes the texts of it; or the first fault of the files.
-fn planned_in(
+fn planned_in<P: Progress>(
     alloc: Global,
     table: &[u8],
     lef: &[u8],
@@ -127,6 +128,7 @@ fn planned_in(
     def: &[u8],
     head: Option<&[u8]>,
     goal: Goal,
+    progress: &P,
 ) -> Result<Planned, ReadFault>
     requires lef { length lef.now < 2 ^ 32 }
     requires verilog { length verilog.now < 2 ^ 32 }
@@ -139,7 +141,7 @@ fn planned_in(
     ensures no_fault { OnOk result ((fault : Fault) → HoldsInFiles (texts_with table.now lef.now verilog.now def.now (option_map (λ text. text.now) head.entry)) fault → ⊥) }
 {
     let files = read_design_files(alloc, table, lef, verilog, def, head)?;
-    let FoundPlan { plan, measured } = plan_for(alloc, &files, goal)?;
+    let FoundPlan { plan, measured } = plan_for(alloc, &files, goal, progress)?;
     let new = paths_after(alloc, &files, &plan)?;
     let made = texts_for(alloc, verilog, def, &files, &plan, new.as_slice(), measured)?;
     Ok(Planned {
@@ -193,7 +195,9 @@ fn patterns_of(
 ///
 /// Refused by the first fault of the files, as `check` is; where there are patterns also by those of their head: StilSyntax, StilTwice,
 /// Unsupported, ChainUndeclared, WrongPort, LengthDiffers, InversionDiffers, CellsDiffer.
-pub fn reorder_texts(
+///
+/// How far the search is, is told as it goes.
+pub fn reorder_texts<P: Progress>(
     alloc: Global,
     table: &[u8],
     lef: &[u8],
@@ -201,6 +205,7 @@ pub fn reorder_texts(
     def: &[u8],
     head: Option<&[u8]>,
     goal: Goal,
+    progress: &P,
 ) -> Result<Reordered, ReadFault>
     requires lef { length lef.now < 2 ^ 32 }
     requires verilog { length verilog.now < 2 ^ 32 }
@@ -210,7 +215,7 @@ pub fn reorder_texts(
     ensures fault { IfFault result (IsFilesFault (texts_with table.now lef.now verilog.now def.now (option_map (λ text. text.now) head.entry))) }
     ensures no_fault { OnOk result ((fault : Fault) → HoldsInFiles (texts_with table.now lef.now verilog.now def.now (option_map (λ text. text.now) head.entry)) fault → ⊥) }
 {
-    let planned = planned_in(alloc, table, lef, verilog, def, head, goal)?;
+    let planned = planned_in(alloc, table, lef, verilog, def, head, goal, progress)?;
     let Planned {
         mut files,
         plan: _plan,

@@ -64,4 +64,7 @@ pub trait Desk {
     fn note(&mut self, line: &str)
         ensures slots { SameSlots (state self.old) (state self.new) }
         ensures names { SameNames (allows self.old) (allows self.new) };
+
+    /// Is told how much of all the work of a search is done, for a user who waits. It changes nothing, and a desk may leave it out.
+    fn searching(&self, _done: u64, _all: u64) {}
 }

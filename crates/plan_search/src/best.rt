@@ -9,6 +9,7 @@ ghost use Rattle.order_search.specs.Steps.{IsSettled};
 ghost use Rattle.order_search.specs.declared.effort.Effort.TheVariants.{Order};
 ghost use Rattle.plan_search.specs.Members.{HaveSameMembers};
 
+use crate::progress::Progress;
 use crate::shortening::shorten;
 use base_types::NoMemory;
 use chain_rules::{Plan, Rules};
@@ -83,11 +84,12 @@ fn settle(
 /// A plan that no step of the effort makes shorter, no longer than the plan as read and the nearest plan; where only orders
 /// are searched, each chain keeps its units. Which of these plans it is hangs on the rules and the ends alone: work is
 /// counted, not timed.
-pub fn search_plan(
+pub fn search_plan<P: Progress>(
     alloc: Global,
     rules: &Rules,
     ends: &Ends,
     effort: Effort,
+    progress: &P,
 ) -> Result<MeasuredPlan, NoMemory>
     requires searchable { AreSearchable rules.now ends.now }
     ensures legal { IfOk result (λ found. IsLegal rules.now found.plan) }
@@ -103,7 +105,7 @@ pub fn search_plan(
     let read_length = length_of(rules, ends, &rules.read);
     let nearest_length = length_of(rules, ends, &nearest);
     let mut plan = shorter_plan(alloc, rules, ends, nearest)?;
-    shorten(alloc, rules, ends, effort, &mut plan)?;
+    shorten(alloc, rules, ends, effort, &mut plan, progress)?;
     settle(alloc, rules, ends, effort, &mut plan)?;
     let length = length_of(rules, ends, &plan);
     Ok(MeasuredPlan {

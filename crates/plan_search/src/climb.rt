@@ -3,6 +3,7 @@
 //! All of it counts down one number, the work: eight for each link that is tried and each perturbation, one for each pair of
 //! runs. So it ends, and takes the same steps on every machine.
 use crate::near::{KEPT, NONE, Side, near_units};
+use crate::progress::{Progress, Told};
 use crate::queue::Queue;
 use crate::random::Random;
 use base_types::NoMemory;
@@ -17,6 +18,11 @@ const STEPS: u32 = 1024;
 
 // The longest run that a perturbation exchanges with the next.
 const SHAKEN: u32 = 25;
+
+// How many perturbations of a hundred exchange runs of two chains, where there are two, and the longest of these runs.
+const ACROSS: u32 = 30;
+
+const CROSSED: u32 = 10;
 
 /// A search over some chains.
 #[derive(Drop)]
@@ -254,6 +260,77 @@ impl Climb {
         Some(made.wrapping_sub(lost))
     }
 
+    // A near unit of another chain, or none.
+    fn near_of_another(&mut self, unit: u32) -> u32 {
+        let chain = self.tours.chain(unit);
+        let from = self.random.below(KEPT);
+        for k in 0..KEPT {
+            let kept = from.wrapping_add(k) % KEPT;
+            let other = item(
+                self.near_out.as_slice(),
+                unit.wrapping_mul(KEPT).wrapping_add(kept),
+                NONE,
+            );
+            if self.tours.is_unit(other) && self.tours.chain(other) != chain {
+                return other;
+            }
+        }
+        NONE
+    }
+
+    // The run of so many units, as far as its chain goes, from a unit on.
+    fn run_from(&self, unit: u32, nodes: u32) -> Run {
+        let chain = self.tours.chain(unit);
+        let tour = self.tours.tour(chain);
+        let place = self.tours.place(unit);
+        Run {
+            chain,
+            from: place.wrapping_sub(tour.first),
+            nodes: nodes.min(tour.last().wrapping_sub(place)),
+        }
+    }
+
+    // Exchanges a run from a random unit on with one from a near unit of another chain on; answers how much longer the chains
+    // became, if there were two that may be exchanged. Where their bounds are tight, runs of as many units are taken.
+    fn shake_across(&mut self) -> Option<i64> {
+        let unit = self.random.below(self.tours.units);
+        let near = self.near_of_another(unit);
+        if near == NONE {
+            return None;
+        }
+        let others_most = self.run_from(near, CROSSED).nodes;
+        let most = self.run_from(unit, others_most).nodes;
+        let nodes = self.random.below(most).wrapping_add(1);
+        let one = self.run_from(unit, nodes);
+        let others = self.random.below(others_most).wrapping_add(1);
+        let mut other = self.run_from(near, others);
+        if !self.tours.are_exchangeable(one, other) {
+            other = self.run_from(near, one.nodes);
+            if !self.tours.are_exchangeable(one, other) {
+                return None;
+            }
+        }
+        let longer = self.tours.longer_by_exchange(one, other);
+        self.take(Step::Exchange(one, other));
+        self.wake_all(Step::Exchange(one, other));
+        Some(longer)
+    }
+
+    // Whether there are several chains, and three units for each.
+    fn has_long_chains(&self) -> bool {
+        let chains = count(self.tours.tours.as_slice());
+        chains > 1 && self.tours.units / chains.max(1) >= 3
+    }
+
+    // Perturbs a chain, or two where there are more.
+    fn perturb_once(&mut self) -> Option<i64> {
+        if self.has_long_chains() && self.random.below(100) < ACROSS {
+            self.shake_across()
+        } else {
+            self.shake()
+        }
+    }
+
     /// Takes steps that gain, from all nodes on.
     pub fn settle(&mut self, reach: Reach, work: u64) {
         self.work = work;
@@ -282,15 +359,20 @@ impl Climb {
 
     /// Perturbs, repairs and keeps or undoes until the work is used up. At first the chains may become longer by as much as
     /// is said.
-    pub fn perturb(&mut self, reach: Reach, most: i64, work: u64) {
+    pub fn perturb<P: Progress>(&mut self, reach: Reach, most: i64, work: u64, told: &Told<'_, P>) {
         self.work = work;
+        let mut left = work;
         for _ in 0..work {
             if self.work == 0 {
                 break;
             }
             self.spend(LINK);
+            if left.wrapping_sub(self.work) > told.part() {
+                left = self.work;
+                told.tell(work.wrapping_sub(left));
+            }
             self.logged = 0;
-            let Some(more) = self.shake() else {
+            let Some(more) = self.perturb_once() else {
                 continue;
             };
             let longer = more.wrapping_add(self.repair(reach, true));

@@ -11,10 +11,12 @@ mod group;
 mod halving;
 mod near;
 mod orders;
+mod progress;
 mod propose;
 mod queue;
 mod random;
 mod shortening;
 
 pub use best::{MeasuredPlan, search_plan};
+pub use progress::{Progress, Quiet};
 pub use shortening::shorten;

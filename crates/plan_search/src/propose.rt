@@ -3,6 +3,7 @@ use crate::climb::Climb;
 use crate::group::{Group, pin_of, units_of};
 use crate::halving::{Halving, Rule};
 use crate::orders::order_all;
+use crate::progress::{Progress, Told};
 use base_types::NoMemory;
 use chain_rules::{Plan, Rules};
 use chain_tours::{Reach, at, count, filled, item, part, put};
@@ -20,7 +21,7 @@ const MOST_WORK: u64 = 108000;
 // From so many units on: the least for all together, and the most for each.
 const SOME: u32 = 500;
 
-const SOME_WORK: u64 = 460000000;
+const SOME_WORK: u64 = 400000000;
 
 const MOST_SOME_WORK: u64 = 216000;
 
@@ -190,7 +191,7 @@ fn spacings_of(climb: &Climb, reach: Reach) -> i64 {
 }
 
 // Searches from the first plans on, and leaves the chains as they were found.
-fn search(layouts: &mut [Layout], climb: &mut Climb, work: u64) {
+fn search<P: Progress>(layouts: &mut [Layout], climb: &mut Climb, work: u64, told: &Told<'_, P>) {
     for layout in layouts.iter_mut() {
         layout.measure(climb);
     }
@@ -201,7 +202,7 @@ fn search(layouts: &mut [Layout], climb: &mut Climb, work: u64) {
         ..reach
     };
     let most = climb.spacing().wrapping_mul(spacings_of(climb, reach));
-    climb.perturb(near, most, work);
+    climb.perturb(near, most, work, told);
     climb.settle(reach, FIRST_WORK.wrapping_mul(u64::from(climb.tours.units)));
 }
 
@@ -217,12 +218,13 @@ fn work_for(units: u32) -> u64 {
 }
 
 // Searches a group of chains and writes what was found into the plan.
-fn search_group(
+fn search_group<P: Progress>(
     alloc: Global,
     rules: &Rules,
     ends: &Ends,
     chains: &[u32],
     plan: &mut Plan,
+    told: &mut Told<'_, P>,
 ) -> Result<(), NoMemory> {
     let group = Group::of(alloc, rules, plan, chains)?;
     let units = count(group.units.as_slice());
@@ -233,7 +235,8 @@ fn search_group(
     let tours = group.tours(alloc, rules, ends, plan)?;
     let mut climb = Climb::new(alloc, tours)?;
     let mut layouts = first_layouts(alloc, &group, &climb)?;
-    search(layouts.as_mut_slice(), &mut climb, work);
+    search(layouts.as_mut_slice(), &mut climb, work, told);
+    told.pass(work);
     write(alloc, rules, &group, &climb, plan)
 }
 
@@ -274,12 +277,13 @@ fn partition_of(rules: &Rules, effort: Effort, chain: u32) -> u32 {
 }
 
 /// A plan that may be shorter; nothing is promised of it.
-pub(crate) fn proposed_plan(
+pub(crate) fn proposed_plan<P: Progress>(
     alloc: Global,
     rules: &Rules,
     ends: &Ends,
     effort: Effort,
     plan: &Plan,
+    progress: &P,
 ) -> Result<Plan, NoMemory> {
     let mut proposed = plan.copy(alloc)?;
     let all = count(rules.chains.as_slice());
@@ -288,6 +292,8 @@ pub(crate) fn proposed_plan(
         put(order.as_mut_slice(), chain, chain);
     }
     order.sort_unstable_by_key(|chain| (partition_of(rules, effort, *chain), *chain));
+    let units = count(rules.units.as_slice());
+    let mut told = Told::new(progress, work_for(units).wrapping_mul(u64::from(units)));
     let mut from = 0u32;
     for k in 1..all.wrapping_add(1) {
         let one = partition_of(rules, effort, at(order.as_slice(), from));
@@ -299,6 +305,7 @@ pub(crate) fn proposed_plan(
                 ends,
                 part(order.as_slice(), from, k),
                 &mut proposed,
+                &mut told,
             )?;
             from = k;
         }

@@ -6,6 +6,7 @@ ghost use Rattle.order_search.specs.Searches.{AreSearchable};
 ghost use Rattle.order_search.specs.declared.effort.Effort.TheVariants.{Order};
 ghost use Rattle.plan_search.specs.Members.{HaveSameMembers};
 
+use crate::progress::Progress;
 use crate::propose::proposed_plan;
 use base_types::NoMemory;
 use chain_rules::plain::is_legal;
@@ -69,12 +70,13 @@ fn is_gain(
 /// are searched and a chain holds other units. After want of memory the plan is as before.
 ///
 /// The work is counted and not timed, so that the same rules give the same plan on every machine.
-pub fn shorten(
+pub fn shorten<P: Progress>(
     alloc: Global,
     rules: &Rules,
     ends: &Ends,
     effort: Effort,
     plan: &mut Plan,
+    progress: &P,
 ) -> Result<(), NoMemory>
     requires searchable { AreSearchable rules.now ends.now }
     requires legal { IsLegal rules.now plan.old }
@@ -83,7 +85,7 @@ pub fn shorten(
     ensures no_longer { OnOk result (plan_length_of ends.now plan.new ≤ plan_length_of ends.now plan.old) }
     ensures unchanged { OnErr result (plan.new ≡ plan.old) }
 {
-    let proposed = proposed_plan(alloc, rules, ends, effort, plan)?;
+    let proposed = proposed_plan(alloc, rules, ends, effort, plan, progress)?;
     if is_gain(alloc, rules, ends, effort, plan, &proposed)? {
         *plan = proposed;
     }

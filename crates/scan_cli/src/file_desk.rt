@@ -5,6 +5,7 @@ ghost use Rattle.desk_io.specs.declared.slot.Slot.{Slot};
 ghost use Rattle.desk_io.specs.declared.slot.Stage.TheVariants.{Unopened};
 ghost use Rattle.desk_io.specs.Number.{number};
 
+use crate::progress::Progress;
 use desk_io::{Desk, Failed, SLOTS, Slot, Stage, Way};
 use std::fs::File;
 use std::io::{ErrorKind, Read, Write};
@@ -53,13 +54,14 @@ fn sync_file(file: &File) -> io::Result<()> {
     }
 }
 
-/// Real files, opened by their names, and standard output as the console.
+/// Real files, opened by their names, and standard output as the console. How far it is, it tells on a terminal.
 #[derive(Drop)]
 pub struct FileDesk {
     rt: HostRuntime,
     files: [Option<File>; SLOTS],
     stages: [Stage; SLOTS],
     faults: [u64; SLOTS],
+    progress: Progress,
 }
 
 impl FileDesk {
@@ -75,7 +77,13 @@ impl FileDesk {
             ],
             stages: [Stage::Unopened; SLOTS],
             faults: [0; SLOTS],
+            progress: Progress::new(rt),
         }
+    }
+
+    /// Takes away what was told of how far it is.
+    pub fn end(&self) {
+        self.progress.erase();
     }
 }
 
@@ -98,6 +106,7 @@ impl Desk for FileDesk {
         };
         match opened {
             Ok(file) => {
+                self.progress.open(slot, name, &file);
                 self.files[at] = file;
                 self.stages[at] = Stage::Open;
                 Ok(())
@@ -113,6 +122,7 @@ impl Desk for FileDesk {
         let at = slot.number();
         if let Some(file) = &mut self.files[at] {
             if let Ok(count) = read_file(file, room) {
+                self.progress.pass(slot, count);
                 return Ok(count);
             }
         }
@@ -124,14 +134,20 @@ impl Desk for FileDesk {
         let at = slot.number();
         let written = match &mut self.files[at] {
             Some(file) => write_file(file, piece),
-            None => write_file(&mut self.rt.stdout(), piece),
+            None => {
+                self.progress.erase();
+                write_file(&mut self.rt.stdout(), piece)
+            }
         };
         match written {
             Ok(0) => {
                 self.faults[at] = self.faults[at].saturating_add(1);
                 Ok(0)
             }
-            Ok(count) => Ok(count),
+            Ok(count) => {
+                self.progress.pass(slot, count);
+                Ok(count)
+            }
             Err(_) => {
                 self.faults[at] = self.faults[at].saturating_add(1);
                 Err(Failed)
@@ -150,12 +166,18 @@ impl Desk for FileDesk {
             return Err(Failed);
         }
         self.files[at] = None;
+        self.progress.close(slot);
         self.stages[at] = Stage::Closed;
         Ok(())
     }
 
     fn note(&mut self, line: &str) {
+        self.progress.erase();
         // What standard error doesn't take is lost, and that is nobody's fault.
         let _told = self.rt.eprintln(line);
+    }
+
+    fn searching(&self, done: u64, all: u64) {
+        self.progress.search(done, all);
     }
 }

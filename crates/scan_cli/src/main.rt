@@ -4,6 +4,7 @@
 #![tactic(auto)]
 
 mod file_desk;
+mod progress;
 #[cfg(test)]
 mod tests;
 mod usage;
@@ -37,7 +38,9 @@ fn main(rt: HostRuntime) -> ExitCode {
     let status = match words_of(&rt, alloc) {
         Ok(words) => {
             let mut desk = FileDesk::new(rt);
-            run(alloc, &words, &mut desk)
+            let status = run(alloc, &words, &mut desk);
+            desk.end();
+            status
         }
         Err(error) if error.kind() == ErrorKind::OutOfMemory => NO_MEMORY,
         Err(_) => NO_FORM,

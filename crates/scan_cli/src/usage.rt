@@ -14,7 +14,7 @@ pub(crate) const USAGE: &str = "usage: wrenpewter COMMAND OPTIONS
   balance --table FILE --lef FILE --verilog FILE --def FILE --out-verilog FILE --out-def FILE [--stil FILE --out-stil FILE]
       moves units between the scan chains of a placed design, so that the longest path has few bits, and changes its scan patterns to match
   draw --table FILE --lef FILE --verilog FILE --def FILE --out-svg FILE
-      draws the scan chains of a placed design, with what they are long
+      draws the scan chains of a placed design, and says how long each is
   bench --units N
       reorders a made design of N units, from 8 to 16384, and says what reorder says
   play --table FILE --verilog FILE --stil FILE --device hold|mix

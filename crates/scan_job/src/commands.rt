@@ -9,6 +9,7 @@ ghost use Rattle.scan_job.specs.Texts.{AreTexts};
 ghost use Rattle.scan_job.specs.Phases.{AreInLimits};
 
 use base_types::{NoMemory, ReadFault};
+use chain_reorder::Progress;
 use desk_io::{Inputs, Names, Outputs};
 use scan_words::Order;
 use std::alloc::Global;
@@ -42,8 +43,13 @@ pub(crate) trait Command: Sized + Drop {
 
 /// A command that takes its files whole, and judges them before it writes.
 pub(crate) trait Whole: Command {
-    /// The texts of its outputs, or the first fault that it finds in its files.
-    fn judge(&self, alloc: Global, inputs: &Inputs) -> Result<Outputs, ReadFault>
+    /// The texts of its outputs, or the first fault that it finds in its files. A search tells how far it is.
+    fn judge<P: Progress>(
+        &self,
+        alloc: Global,
+        inputs: &Inputs,
+        progress: &P,
+    ) -> Result<Outputs, ReadFault>
         requires limits { AreInLimits inputs.now }
         requires sound { IsSound (Self.request self.now) }
         ensures no_fault { IfOk result (λ outputs. HasNoCommandFault (Self.request self.now) (input_at inputs.now)) }

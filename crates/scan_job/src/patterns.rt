@@ -21,6 +21,7 @@ use crate::commands::reorder::note_of;
 use crate::play::close_stil;
 use crate::putting::{PutStop, put_patterns};
 use crate::say::{refuse, size_fault};
+use crate::searching::Searching;
 use crate::stop::Stop;
 use base_types::{Text, Word};
 use chain_reorder::{Figures, PatternPlan, Reordered, reorder_texts};
@@ -82,6 +83,7 @@ fn plan_taken<D: Desk>(
         inputs.text(Slot::Def),
         Some(head.bytes()),
         request.design.goal,
+        &Searching { desk },
     )?;
     let Some(plan) = patterns else { unreachable!() };
     let note = note_of(alloc, &figures.measured)?;

@@ -8,6 +8,7 @@ ghost use Rattle.scan_job.specs.Ended.{HasEnded, HasRunOrder};
 
 use crate::commands::Whole;
 use crate::say::{refuse, size_fault};
+use crate::searching::Searching;
 use crate::stop::Stop;
 use base_types::ReadFault;
 use desk_io::{Desk, Inputs, InputsFault, Names, put_outputs, take_inputs};
@@ -29,7 +30,8 @@ fn finish<C: Whole, D: Desk>(
     requires allowed { AllowsNames (names_of (C.request command.now)) (D.allows desk.old) }
     ensures ended { HasFinished (C.request command.now) inputs.now (D.state desk.old) (D.state desk.new) result }
 {
-    match command.judge(alloc, inputs) {
+    let judged = command.judge(alloc, inputs, &Searching { desk });
+    match judged {
         Ok(outputs) => match put_outputs(names, &outputs, desk) {
             Ok(()) => Ok(()),
             Err(_) => Err(Stop::OutputFailed),

@@ -5,7 +5,7 @@ use chain_rules::{Plan, Rules};
 use order_search::plain::length_of;
 use order_search::{Effort, are_searchable, nearest_plan};
 use partition_moves::settle_all;
-use plan_search::{search_plan, shorten};
+use plan_search::{Quiet, search_plan, shorten};
 use std::alloc::{Alloc, Global};
 use std::io;
 use std::rt::Clock;
@@ -72,7 +72,7 @@ fn time_search(
         )?;
     }
     let start = Instant::now(rt)?;
-    if let Err(refused) = shorten(rt.alloc(), rules, ends, Effort::Full, &mut plan) {
+    if let Err(refused) = shorten(rt.alloc(), rules, ends, Effort::Full, &mut plan, &Quiet) {
         return Ok(Err(refused));
     }
     println!(rt;
@@ -119,7 +119,7 @@ pub fn run_small_search(rt: &(impl Print + Alloc<A = Global>)) -> io::Result<Res
         return Ok(Ok(()));
     }
     for effort in [Effort::Order, Effort::Full] {
-        let found = match search_plan(rt.alloc(), &rules, &ends, effort) {
+        let found = match search_plan(rt.alloc(), &rules, &ends, effort, &Quiet) {
             Ok(found) => found,
             Err(refused) => return Ok(Err(refused)),
         };

@@ -10,7 +10,7 @@ use chain_rules::{ChainRule, Plan, Rules, Unit};
 use order_search::plain::{is_settled, length_of};
 use order_search::{Effort, are_searchable, nearest_plan, settle_order};
 use partition_moves::settle_all;
-use plan_search::search_plan;
+use plan_search::{Quiet, search_plan};
 use row_forms::Cases;
 use std::alloc::Global;
 use wire_cost::Ends;
@@ -404,7 +404,7 @@ fn searches(cases: &mut Cases, rules: &Rules, ends: &Ends, name: &str) -> Result
         length_of(rules, ends, &nearest),
     ];
     for effort in [Effort::Order, Effort::Full] {
-        let made = search_plan(alloc, rules, ends, effort)?;
+        let made = search_plan(alloc, rules, ends, effort, &Quiet)?;
         let most = lengths[0].min(lengths[1]);
         cases.compare(
             name,
@@ -413,7 +413,7 @@ fn searches(cases: &mut Cases, rules: &Rules, ends: &Ends, name: &str) -> Result
         )?;
         if is_legal(rules, &made.plan) {
             let length = length_of(rules, ends, &made.plan);
-            let again = search_plan(alloc, rules, ends, effort)?;
+            let again = search_plan(alloc, rules, ends, effort, &Quiet)?;
             let said = [made.read_length, made.nearest_length, made.length];
             let came = format!(in alloc; "{:?} {said:?}", made.plan.lists())?;
             let wanted = format!(in alloc;

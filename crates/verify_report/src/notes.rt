@@ -11,12 +11,10 @@ use same_files::{CellPair, PatternSet, ScanCell, first_other_cell, have_same_cel
 use std::alloc::Global;
 use stil_alike::have_same_names;
 
-/// The names by which a user knows the files of two sets.
+/// The names by which a user knows two sets of files: those of their patterns.
 #[derive(Clone, Copy)]
 pub struct SetNames<'a> {
-    pub verilog: &'a str,
     pub stil: &'a str,
-    pub new_verilog: &'a str,
     pub new_stil: &'a str,
 }
 
@@ -37,7 +35,6 @@ fn cell_note(alloc: Global, pair: CellPair<'_>, names: SetNames<'_>) -> Result<S
     let SetNames {
         stil: first,
         new_stil: second,
-        ..
     } = names;
     match pair {
         CellPair {
@@ -88,7 +85,7 @@ fn names_note(
     b: &[Name],
     names: SetNames<'_>,
 ) -> Result<String, NoMemory> {
-    let SetNames { stil, new_stil, .. } = names;
+    let SetNames { stil, new_stil } = names;
     let at = first_other_name(a, b);
     let place = at.saturating_add(1);
     match (a.get(at), b.get(at)) {

@@ -18,7 +18,7 @@ use crate::commands::patterns::all_figure_lines;
 use crate::commands::{Command, Whole};
 use crate::copying::{number_of, word_of};
 use base_types::{NoMemory, ReadFault, Text, Word};
-use chain_reorder::{Goal, PatternPlan, Reordered, reorder_texts};
+use chain_reorder::{Goal, PatternPlan, Progress, Reordered, reorder_texts};
 use design_maker::{Files, make_design};
 use desk_io::{Inputs, Names, Outputs};
 use order_search::Effort;
@@ -66,7 +66,7 @@ fn pattern_figures(
 }
 
 /// What `reorder` with full effort says of a design and its patterns, whose texts it takes whole; or their first fault.
-fn reorder_made(alloc: Global, files: &Files) -> Result<Text, ReadFault>
+fn reorder_made<P: Progress>(alloc: Global, files: &Files, progress: &P) -> Result<Text, ReadFault>
     requires small { HasSmallTexts files.now }
     ensures said { IfOk result (IsSaid (texts_of files.now.table files.now.lef files.now.verilog files.now.def) files.now.stil) }
     ensures no_fault { OnOk result ((fault : of_fault) → IsFirstFault (HoldsInRetargeting (texts_of files.now.table files.now.lef files.now.verilog files.now.def) files.now.stil) fault → ⊥) }
@@ -90,6 +90,7 @@ fn reorder_made(alloc: Global, files: &Files) -> Result<Text, ReadFault>
         files.def.bytes(),
         Some(head),
         Goal::Shorter(Effort::Full),
+        progress,
     )?;
     let Some(plan) = patterns else { unreachable!() };
     let counted = pattern_figures(alloc, stil, plan)?;
@@ -126,9 +127,14 @@ impl Command for BenchRequest {
 }
 
 impl Whole for BenchRequest {
-    fn judge(&self, alloc: Global, _inputs: &Inputs) -> Result<Outputs, ReadFault> {
+    fn judge<P: Progress>(
+        &self,
+        alloc: Global,
+        _inputs: &Inputs,
+        progress: &P,
+    ) -> Result<Outputs, ReadFault> {
         let files = make_design(alloc, number_of(&self.units))?;
-        let said = reorder_made(alloc, &files)?;
+        let said = reorder_made(alloc, &files, progress)?;
         let console = bench_lines(alloc, &self.units, &said)?;
         Ok(Outputs::saying(alloc, console))
     }

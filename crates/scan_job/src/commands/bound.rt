@@ -6,6 +6,7 @@ use crate::commands::{Command, Whole};
 use crate::copying::{number_of, word_of};
 use base_types::{NoMemory, ReadFault, Word};
 use bound_report::bound_text;
+use chain_reorder::Progress;
 use desk_io::{Inputs, Names, Outputs, Slot};
 use scan_words::Order;
 use std::alloc::Global;
@@ -74,7 +75,12 @@ impl Command for BoundRequest {
 }
 
 impl Whole for BoundRequest {
-    fn judge(&self, alloc: Global, inputs: &Inputs) -> Result<Outputs, ReadFault> {
+    fn judge<P: Progress>(
+        &self,
+        alloc: Global,
+        inputs: &Inputs,
+        _progress: &P,
+    ) -> Result<Outputs, ReadFault> {
         let table = inputs.text(Slot::Table);
         let lef = inputs.text(Slot::Lef);
         let verilog = inputs.text(Slot::Verilog);

@@ -4,6 +4,7 @@ ghost use Rattle.scan_job.specs.Requests as requests;
 use crate::commands::{Command, Whole};
 use crate::copying::word_of;
 use base_types::{NoMemory, ReadFault, Word};
+use chain_reorder::Progress;
 use check_report::check_text;
 use desk_io::{Inputs, Names, Outputs, Slot};
 use scan_words::Order;
@@ -51,7 +52,12 @@ impl Command for CheckRequest {
 }
 
 impl Whole for CheckRequest {
-    fn judge(&self, alloc: Global, inputs: &Inputs) -> Result<Outputs, ReadFault> {
+    fn judge<P: Progress>(
+        &self,
+        alloc: Global,
+        inputs: &Inputs,
+        _progress: &P,
+    ) -> Result<Outputs, ReadFault> {
         let table = inputs.text(Slot::Table);
         let lef = inputs.text(Slot::Lef);
         let verilog = inputs.text(Slot::Verilog);

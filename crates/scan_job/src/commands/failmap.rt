@@ -4,6 +4,7 @@ ghost use Rattle.scan_job.specs.Requests as requests;
 use crate::commands::{Command, Whole};
 use crate::copying::word_of;
 use base_types::{NoMemory, ReadFault, Word};
+use chain_reorder::Progress;
 use desk_io::{Inputs, Names, Outputs, Slot};
 use fail_report::failmap_text;
 use scan_words::Order;
@@ -59,7 +60,12 @@ impl Command for FailmapRequest {
 }
 
 impl Whole for FailmapRequest {
-    fn judge(&self, alloc: Global, inputs: &Inputs) -> Result<Outputs, ReadFault> {
+    fn judge<P: Progress>(
+        &self,
+        alloc: Global,
+        inputs: &Inputs,
+        _progress: &P,
+    ) -> Result<Outputs, ReadFault> {
         let table = inputs.text(Slot::Table);
         let verilog = inputs.text(Slot::Verilog);
         let stil = inputs.text(Slot::Stil);

@@ -6,7 +6,7 @@ ghost use Rattle.scan_job.specs.Commands.Reorder.{design_request, figure_line, m
 use crate::commands::{Command, Whole};
 use crate::copying::word_of;
 use base_types::{Name, NoMemory, ReadFault, Rows, Text, Word};
-use chain_reorder::{Figures, Goal, Measured, reorder_texts};
+use chain_reorder::{Figures, Goal, Measured, Progress, reorder_texts};
 use desk_io::{Inputs, Names, Outputs, Slot};
 use order_search::Effort;
 use scan_words::Order;
@@ -207,12 +207,17 @@ pub(crate) fn note_of(alloc: Global, measured: &Measured) -> Result<Option<Strin
 }
 
 impl Whole for ReorderRequest {
-    fn judge(&self, alloc: Global, inputs: &Inputs) -> Result<Outputs, ReadFault> {
+    fn judge<P: Progress>(
+        &self,
+        alloc: Global,
+        inputs: &Inputs,
+        progress: &P,
+    ) -> Result<Outputs, ReadFault> {
         let table = inputs.text(Slot::Table);
         let lef = inputs.text(Slot::Lef);
         let verilog = inputs.text(Slot::Verilog);
         let def = inputs.text(Slot::Def);
-        let made = reorder_texts(alloc, table, lef, verilog, def, None, self.goal)?;
+        let made = reorder_texts(alloc, table, lef, verilog, def, None, self.goal, progress)?;
         let console = Text::of(figure_lines(alloc, &made.figures)?);
         Ok(Outputs {
             verilog: made.verilog,

@@ -5,6 +5,7 @@ ghost use Rattle.scan_job.specs.Commands.Rewire.{rewire_of, moved_text};
 use crate::commands::{Command, Whole};
 use crate::copying::{copies_of, copy_of, name_of, names_in, word_of};
 use base_types::{Name, NoMemory, ReadFault, Rows, Text, Word};
+use chain_reorder::Progress;
 use chain_rewire::{Rewire, rewire_text};
 use desk_io::{Inputs, Names, Outputs, Slot};
 use scan_words::Order;
@@ -92,7 +93,12 @@ impl Command for RewireRequest {
 }
 
 impl Whole for RewireRequest {
-    fn judge(&self, alloc: Global, inputs: &Inputs) -> Result<Outputs, ReadFault> {
+    fn judge<P: Progress>(
+        &self,
+        alloc: Global,
+        inputs: &Inputs,
+        _progress: &P,
+    ) -> Result<Outputs, ReadFault> {
         let rewire = rewire_of(alloc, self)?;
         let done = rewire_text(alloc, inputs.text(Slot::Verilog), &rewire)?;
         Ok(Outputs {

@@ -4,6 +4,7 @@ ghost use Rattle.scan_job.specs.Requests as requests;
 use crate::commands::{Command, Whole};
 use crate::copying::{name_of, word_of};
 use base_types::{Name, NoMemory, ReadFault, Word};
+use chain_reorder::Progress;
 use desk_io::{Inputs, Names, Outputs, Slot};
 use path_report::path_text;
 use scan_words::Order;
@@ -43,7 +44,12 @@ impl Command for TraceRequest {
 }
 
 impl Whole for TraceRequest {
-    fn judge(&self, alloc: Global, inputs: &Inputs) -> Result<Outputs, ReadFault> {
+    fn judge<P: Progress>(
+        &self,
+        alloc: Global,
+        inputs: &Inputs,
+        _progress: &P,
+    ) -> Result<Outputs, ReadFault> {
         let table = inputs.text(Slot::Table);
         let verilog = inputs.text(Slot::Verilog);
         let console = path_text(alloc, table, verilog, self.scan_out.bytes())?;

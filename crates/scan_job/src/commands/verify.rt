@@ -5,6 +5,7 @@ ghost use Rattle.scan_job.specs.Requests as requests;
 use crate::commands::{Command, Whole};
 use crate::copying::word_of;
 use base_types::{NoMemory, ReadFault, Word};
+use chain_reorder::Progress;
 use desk_io::{Inputs, Names, Outputs, Slot};
 use scan_words::Order;
 use std::alloc::Global;
@@ -64,9 +65,7 @@ impl VerifyRequest {
         requires limits { AreInLimits inputs.now }
     {
         let names = SetNames {
-            verilog: self.verilog.as_str(),
             stil: self.stil.as_str(),
-            new_verilog: self.new_verilog.as_str(),
             new_stil: self.new_stil.as_str(),
         };
         let table = inputs.text(Slot::Table);
@@ -82,7 +81,12 @@ impl VerifyRequest {
 }
 
 impl Whole for VerifyRequest {
-    fn judge(&self, alloc: Global, inputs: &Inputs) -> Result<Outputs, ReadFault> {
+    fn judge<P: Progress>(
+        &self,
+        alloc: Global,
+        inputs: &Inputs,
+        _progress: &P,
+    ) -> Result<Outputs, ReadFault> {
         let table = inputs.text(Slot::Table);
         let verilog = inputs.text(Slot::Verilog);
         let stil = inputs.text(Slot::Stil);

@@ -12,19 +12,19 @@ use Rattle.chain_reorder.proofs.LongestPaths.{longest_kept, is_balanced, cut_nam
 use Rattle.chain_reorder.proofs.balanced.balanced_plan.Goals as goal
 
 pub order_within-requires-clause-small : goal.order_within-requires-clause-small
-order_within-requires-clause-small c =
+order_within-requires-clause-small g c =
     let rules = c.args.files.now.rules in
     subst (λ (l : List ℕ). (other : Plan) → IsLegal rules other → sum l + bits_of rules (concat other.chains) < 2 ^ 32) (sym c.as_slice-fixed.ensures.value) c.in_ok-bits.ensures.small
 
 pub cut_names-requires : goal.cut_names-requires
-cut_names-requires c =
+cut_names-requires g c =
     let (t, checked) = c.requires.checked in
     let fixed : List ℕ = c.as_slice-fixed.result.now in
     let count = fixed_count t c.args.files.now checked fixed (c.as_slice-fixed.ensures.value ∙ c.in_ok-bits.ensures.value) in
     record { long = IfSome_then c.in_ok-cut.cut c.in_ok-cut.ensures.cut (λ set is. is.long ∙ count) }
 
 pub returns : goal.returns
-returns c =
+returns g c =
     let f = c.args.files.now in
     let (t, checked) = c.requires.checked in
     let rules = f.rules in

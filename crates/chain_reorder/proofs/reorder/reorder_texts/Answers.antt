@@ -4,7 +4,7 @@ use Rattle.chain_reorder.specs.PatternPlans.{ArePatternsPlanned}
 use Rattle.chain_reorder.proofs.reorder.reorder_texts.Goals as goal
 
 pub returns-clause-reordered : goal.returns-clause-reordered
-returns-clause-reordered c =
+returns-clause-reordered g c =
     let p = c.in_ok-planned.planned in
     let e = c.in_ok-planned.ensures in
     let planned : List Path → Type 0 = λ new. ArePatternsPlanned p.files.netlist p.files.table p.files.paths.items new (option_map (λ text. text.now) c.args.head) p.files.head c.in_ok-patterns.patterns in

@@ -3,7 +3,7 @@ use Rattle.std.proofs.lemmas.List.Sorted.{IsPermutation-trans}
 use Rattle.plan_search.proofs.best.search_plan.Goals as goal
 
 pub returns-clause-members : goal.returns-clause-members
-returns-clause-members c = λ o k h.
+returns-clause-members g c = λ o k h.
     let read = c.requires.searchable.read.chains in
     let a = c.in_ok-plan.ensures.members k h in
     let b = c.in_ok-shorten.ensures.members o k (omega (arith, h, read, c.in_ok-plan.ensures.legal.chains)) in

@@ -6,7 +6,7 @@ use Rattle.scan_job.proofs.Benched.{head_shows_in, planned_with, files_refused, 
 use Rattle.scan_job.proofs.commands.bench.reorder_made.Goals as goal
 
 pub pattern_figures-requires : goal.pattern_figures-requires
-pattern_figures-requires c =
+pattern_figures-requires g c =
     let t = texts_of c.args.files.now.table c.args.files.now.lef c.args.files.now.verilog c.args.files.now.def in
     let stil = c.args.files.now.stil in
     let bytes = c.bytes-stil.result.now in
@@ -25,7 +25,7 @@ pattern_figures-requires c =
     }
 
 pub returns-in_err-_verilog-clause-fault : goal.returns-in_err-_verilog-clause-fault
-returns-in_err-_verilog-clause-fault c =
+returns-in_err-_verilog-clause-fault g c =
     let p = err_from_is_err_and c.from_residual.result c.from_residual.ensures.1 in
     let t = texts_of c.args.files.now.table c.args.files.now.lef c.args.files.now.verilog c.args.files.now.def in
     let stil = c.args.files.now.stil in
@@ -37,7 +37,7 @@ returns-in_err-_verilog-clause-fault c =
     rw (p.1, p.2) (files_refused t u stil text same shows c.in_err-_verilog.field-0.0 c.in_err-_verilog.ensures.fault)
 
 pub returns-in_err-counted-clause-fault : goal.returns-in_err-counted-clause-fault
-returns-in_err-counted-clause-fault c =
+returns-in_err-counted-clause-fault g c =
     let p = err_from_is_err_and c.from_residual-in_err-counted.result c.from_residual-in_err-counted.ensures.1 in
     let t = texts_of c.args.files.now.table c.args.files.now.lef c.args.files.now.verilog c.args.files.now.def in
     let stil = c.args.files.now.stil in
@@ -55,7 +55,7 @@ returns-in_err-counted-clause-fault c =
     c.in_err-counted.field-0.0 c.in_err-counted.ensures.fault)
 
 pub returns : goal.returns
-returns c =
+returns g c =
     let t = texts_of c.args.files.now.table c.args.files.now.lef c.args.files.now.verilog c.args.files.now.def in
     let stil = c.args.files.now.stil in
     let bytes = c.bytes-stil.result.now in

@@ -3,14 +3,14 @@ use Rattle.scan_job.proofs.Phases.{countable}
 use Rattle.scan_job.proofs.commands.check.CheckRequestWhole.judge.Goals as goal
 
 pub check_text-requires-clause-lef : goal.check_text-requires-clause-lef
-check_text-requires-clause-lef c = rw c.text-lef.ensures.value (countable _ c.requires.limits Lef tt)
+check_text-requires-clause-lef g c = rw c.text-lef.ensures.value (countable _ c.requires.limits Lef tt)
 
 pub check_text-requires-clause-verilog : goal.check_text-requires-clause-verilog
-check_text-requires-clause-verilog c = rw c.text-verilog.ensures.value (countable _ c.requires.limits Verilog tt)
+check_text-requires-clause-verilog g c = rw c.text-verilog.ensures.value (countable _ c.requires.limits Verilog tt)
 
 pub check_text-requires-clause-def : goal.check_text-requires-clause-def
-check_text-requires-clause-def c = rw c.text-def.ensures.value (countable _ c.requires.limits Def tt)
+check_text-requires-clause-def g c = rw c.text-def.ensures.value (countable _ c.requires.limits Def tt)
 
 pub returns-clause-no_fault : goal.returns-clause-no_fault
-returns-clause-no_fault c = λ fault is.
+returns-clause-no_fault g c = λ fault is.
     c.in_ok-console.ensures.no_fault fault (rw (c.text-table.ensures.value, c.text-lef.ensures.value, c.text-verilog.ensures.value, c.text-def.ensures.value) is.holds)

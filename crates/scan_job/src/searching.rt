@@ -1,0 +1,14 @@
+use chain_reorder::Progress;
+use desk_io::Desk;
+
+/// A search whose desk is told how far it is.
+#[derive(Drop)]
+pub(crate) struct Searching<'a, D> {
+    pub desk: &'a D,
+}
+
+impl<D: Desk> Progress for Searching<'_, D> {
+    fn tell(&self, done: u64, all: u64) {
+        self.desk.searching(done, all)
+    }
+}
