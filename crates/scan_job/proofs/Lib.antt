@@ -27,4 +27,5 @@ pub mod PatternSteps
 pub mod PatternFrames
 pub mod PatternPhases
 pub mod TopClauses
+pub mod Benching
 pub mod OneFault

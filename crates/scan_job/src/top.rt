@@ -7,7 +7,8 @@ ghost use Rattle.desk_io.specs.Names.{AllowsNames};
 ghost use Rattle.scan_words.specs.declared.order.Order.{Order};
 ghost use Rattle.scan_words.specs.Written.{Says};
 ghost use Rattle.desk_io.specs.Causes.{SomeRose, SameCounts};
-ghost use Rattle.scan_job.specs.Requests.{Request, Asks, order_of, names_of};
+ghost use Rattle.scan_job.specs.Requests.{Request, Bench, Asks, order_of, names_of};
+ghost use Rattle.scan_job.specs.declared.commands.bench.BenchRequest.{BenchRequest};
 ghost use Rattle.scan_job.specs.Faults.{IsRunFault, HasNoFault};
 ghost use Rattle.scan_job.specs.TopCall.{SaysNothing, SameEverywhere, SameUnused, SameDesign, NoneRose, NoneOpen, AllClosed, AllRead, Reads, HasRefused, HasDone, HasWritten};
 ghost use Rattle.scan_job.specs.Ended.{HasRun, status_of};
@@ -16,6 +17,7 @@ use crate::command::run_order;
 use crate::stop::Stop;
 use base_types::{NoMemory, Word};
 use desk_io::Desk;
+use made_law::made_law;
 use scan_words::read_words;
 use std::alloc::Global;
 
@@ -92,10 +94,14 @@ pub fn run<D: Desk>(alloc: Global, words: &[Word], desk: &mut D) -> u8
     // Completeness.
     ensures complete { (request : Request) (files : Slot → List ℕ) → Asks words.now request → Reads request files (D.state desk.old) →
         HasNoFault request files → NoneRose (D.state desk.old) (D.state desk.new) → (result ≡ 0) ⊎ (result ≡ 5) }
+    ensures bench { (request : BenchRequest) → Asks words.now (Bench request) →
+        NoneRose (D.state desk.old) (D.state desk.new) → (result ≡ 0) ⊎ (result ≡ 5) }
 
     // The texts of the command.
     ensures done { result ≡ 0 → (request : Request) (files : Slot → List ℕ) → Asks words.now request → Reads request files (D.state desk.old) →
         HasDone request files (D.state desk.old) (D.state desk.new) }
 {
+    // The call does nothing; its contract is the law of made designs.
+    made_law();
     status_of(run_words(alloc, words, desk))
 }

@@ -1,5 +1,6 @@
 use Rattle.scan_job.proofs.Asked.{asked}
 use Rattle.scan_job.proofs.TopClauses as top
+use Rattle.scan_job.proofs.Benching.{bench_done}
 use Rattle.scan_job.proofs.top.run.Goals as goal
 
 pub returns-clause-no_form : goal.returns-clause-no_form
@@ -28,6 +29,9 @@ returns-clause-prefixes g c request files says holds = top.prefixes _ _ _ reques
 
 pub returns-clause-complete : goal.returns-clause-complete
 returns-clause-complete g c request files says holds = top.complete _ _ _ request says files holds _ _ c.status_of.ensures.value c.run_words.ensures.ended
+
+pub returns-clause-bench : goal.returns-clause-bench
+returns-clause-bench g c request says none = bench_done c.made_law.ensures.files c.made_law.ensures.patterns _ _ _ _ _ c.status_of.ensures.value c.run_words.ensures.ended request says none
 
 pub returns-clause-done : goal.returns-clause-done
 returns-clause-done g c zero request files says holds = top.all_done _ _ _ request says files holds _ _ c.status_of.ensures.value c.run_words.ensures.ended zero
