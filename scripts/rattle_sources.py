@@ -140,6 +140,33 @@ def reached(imports, text):
     return seen
 
 
+def deciding(kind):
+    """The definitions that say where a fault of the kind holds, of the lowest crates, each with its crate: facts where there are some, else functions."""
+    cited = re.compile(r"(?<![.\w])(?:kinds\.)?%s\b" % kind)
+    facts, others, with_facts = [], [], set()
+    for crate in sorted(crates(), key=lambda crate: (depth(crate), crate)):
+        for path in sources(crate, "specs", ".antt"):
+            if crate == "base_types" or not re.search(r"declared\.kind\.Kind\.TheVariants(?:\.\{[^}]*\b%s\b| as)" % kind, text_of(path)):
+                continue
+            for name, block in spec(crate, module_of(crate, path)).blocks.items():
+                if cited.search(block) and name[:1].isupper():
+                    facts.append((crate, name))
+                    with_facts.add(crate)
+                elif cited.search(block):
+                    others.append((crate, name))
+    return (facts + [(crate, name) for crate, name in others if crate not in with_facts])[:3]
+
+
+def module_of(crate, path):
+    return path.split("/%s/specs/" % crate)[1][: -len(".antt")].replace("/", ".")
+
+
+@functools.lru_cache(None)
+def definitions():
+    """Each file of definitions by its crate and module."""
+    return {(crate, module_of(crate, path)): spec(crate, module_of(crate, path)) for crate in crates() for path in sources(crate, "specs", ".antt")}
+
+
 def imports_of(path):
     table = {}
     for crate, module, names in IMPORT.findall(text_of(path)):
