@@ -17,7 +17,7 @@ use Rattle.path_links.specs.declared.edits.PinEdit.{PinEdit}
 use Rattle.path_links.specs.Edited.{map_from}
 use Rattle.net_edit.specs.declared.changes.Change.{Change}
 use Rattle.net_edit.specs.Tails.{freed_between, pin_edits, changed_instance, rewired}
-use Rattle.design_nets.specs.Placing.{instance_name}
+use Rattle.def_writer.specs.Placing.{instance_name}
 
 -- the name and the cell of an instance
 abbrev pub Head : Type 0

@@ -27,8 +27,8 @@ use Rattle.traced_paths.specs.Traced.{NameEntries}
 use Rattle.traced_paths.specs.Numbers.{path_specs, all_bits}
 use Rattle.design_elements.specs.Elements.{chain_specs}
 use Rattle.design_places.specs.NetPins.{HoldsInNets}
-use Rattle.design_nets.specs.Placing.{placing, PlacingLaw}
-use Rattle.design_moves.specs.Laws.{AgreementLaw}
+use Rattle.def_writer.specs.Placing.{placing, PlacingLaw}
+use Rattle.def_writer.specs.Moved.Laws.{AgreementLaw}
 use Rattle.design_files.specs.declared.read.DesignFiles.{DesignFiles}
 use Rattle.design_files.specs.Files.{Texts}
 use Rattle.design_files.specs.Stages.{AreChecked}

@@ -25,7 +25,7 @@ use Rattle.def_reader.specs.declared.design.NetPin.{NetPin}
 use Rattle.def_reader.specs.declared.design.NetPin.TheVariants.{Cell, Port}
 use Rattle.def_reader.specs.declared.design.Net.{Net}
 use Rattle.def_reader.specs.declared.design.Design.{Design}
-use Rattle.design_nets.specs.Placing.{same_pin, instance_name, placing}
+use Rattle.def_writer.specs.Placing.{same_pin, instance_name, placing}
 use Rattle.chain_reorder.proofs.Heads.{heads_kept, count_kept, name_kept}
 
 -- the net of a pin is one of the netlist's

@@ -21,11 +21,11 @@ use Rattle.def_syntax.proofs.FrameLaws.{each_front, each_behind}
 use Rattle.def_layout.specs.declared.chains.ChainLayout.{ChainLayout}
 use Rattle.def_layout.specs.Sections.{head_words, end_line, section_text}
 use Rattle.def_layout.specs.SectionForms.{is_written_well, chain_words, section_words}
-use Rattle.def_seams.specs.Seams.{begins_quote, is_firm, ends_plain}
-use Rattle.def_seams.proofs.Words.{parted_law}
-use Rattle.def_alike.specs.Changes.{Changes, inner_words, block_words}
-use Rattle.def_alike.proofs.Statements.{Strict}
-use Rattle.def_alike.proofs.Blocks.{has_kind, same_kind, IsOnce}
+use Rattle.def_edit.specs.Seams.{begins_quote, is_firm, ends_plain}
+use Rattle.def_edit.proofs.seams.Words.{parted_law}
+use Rattle.def_edit.specs.Alike.Changes.{Changes, inner_words, block_words}
+use Rattle.def_edit.proofs.alike.Statements.{Strict}
+use Rattle.def_edit.proofs.alike.Blocks.{has_kind, same_kind, IsOnce}
 use Rattle.def_edit.specs.MovedText.{section_edits}
 use Rattle.def_edit.proofs.EditsRuns.{IsEdited, unedited, edited_both, one_edited, edited_as}
 use Rattle.def_edit.proofs.EditsSections.{section_stands, section_begins}

@@ -26,9 +26,9 @@ use Rattle.def_layout.proofs.NetWritten.{true_and}
 use Rattle.def_reader.specs.declared.design.Component.{Component}
 use Rattle.def_reader.specs.declared.design.Net.{Net}
 use Rattle.def_reader.specs.Designs.{net_pins_of, net_at, net_of}
-use Rattle.def_alike.specs.Changes.{NetChange, NetWords, net_in}
-use Rattle.pin_moves.specs.declared.moves.PinMove.{PinMove}
-use Rattle.pin_moves.specs.Moved.{leaves, moving_pin, is_port, IsMoveIn}
+use Rattle.def_edit.specs.Alike.Changes.{NetChange, NetWords, net_in}
+use Rattle.def_edit.specs.declared.pin_moves.PinMove.{PinMove}
+use Rattle.def_edit.specs.Moved.{leaves, moving_pin, is_port, IsMoveIn}
 use Rattle.def_edit.specs.Words.{component_word, unless_mark, end_word}
 use Rattle.def_edit.specs.NetChanges.{is_counted, stays_by, moving_connection, added_for, added_list, added_with, moves_to, is_touched, net_changes_from, new_word}
 use Rattle.def_edit.proofs.EditsNames.{net_names}

@@ -32,9 +32,9 @@ use Rattle.def_layout.proofs.Standing.{standing_law}
 use Rattle.def_layout.proofs.Slices.{slice_law}
 use Rattle.def_layout.proofs.NetThere.{is_good, net_there}
 use Rattle.def_layout.proofs.NetWritten.{whole_connection, true_and, closing_of, closing_behind, connections_whole, free_net_name, free_words, all_both}
-use Rattle.def_seams.specs.Seams.{ends_plain}
-use Rattle.def_alike.proofs.Endings.{free_name}
-use Rattle.def_alike.proofs.SameNets.{stand_in}
+use Rattle.def_edit.specs.Seams.{ends_plain}
+use Rattle.def_edit.proofs.alike.Endings.{free_name}
+use Rattle.def_edit.proofs.alike.SameNets.{stand_in}
 use Rattle.def_reader.specs.declared.design.Component.{Component}
 use Rattle.def_reader.specs.Designs.{component_of}
 

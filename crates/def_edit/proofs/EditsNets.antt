@@ -23,10 +23,10 @@ use Rattle.def_layout.specs.Slices.{StandIn, slice}
 use Rattle.def_layout.proofs.Slices.{slice_law}
 use Rattle.def_layout.proofs.NetThere.{texts_both}
 use Rattle.def_layout.proofs.NetLaw.{net_slice_law, written_back}
-use Rattle.def_seams.specs.Seams.{is_firm}
-use Rattle.def_seams.proofs.Words.{behind_law}
-use Rattle.def_alike.specs.Changes.{NetChange, changed_connections, each_words, net_statement_words}
-use Rattle.def_alike.proofs.Endings.{BeginsDashed, nets_dashed}
+use Rattle.def_edit.specs.Seams.{is_firm}
+use Rattle.def_edit.proofs.seams.Words.{behind_law}
+use Rattle.def_edit.specs.Alike.Changes.{NetChange, changed_connections, each_words, net_statement_words}
+use Rattle.def_edit.proofs.alike.Endings.{BeginsDashed, nets_dashed}
 use Rattle.def_edit.specs.MovedText.{each_edit, new_words, statement_edit, net_edit}
 use Rattle.def_edit.proofs.EditsRuns.{IsEdited, unedited, edited_both, one_edited, edited_as}
 use Rattle.def_edit.proofs.EditsWords.{before_free}

@@ -20,12 +20,12 @@ use Rattle.def_syntax.specs.Designs.{AreLocated}
 use Rattle.def_syntax.specs.declared.design.Located.{Located}
 use Rattle.def_syntax.specs.declared.pin.DesignPin.{DesignPin}
 use Rattle.def_layout.specs.Words.{is_whole}
-use Rattle.def_alike.specs.Changes.{each_words, words_with, pin_statement_words}
-use Rattle.def_alike.proofs.Endings.{free_name}
-use Rattle.def_alike.proofs.PinOptions.{Opt, State, IsPlain, IsNet, Plain, Net, kind_of}
-use Rattle.def_alike.proofs.PinStatements.{Kept}
-use Rattle.def_alike.proofs.SamePins.{other_at, strict_alone}
-use Rattle.def_alike.proofs.Statements.{Strict}
+use Rattle.def_edit.specs.Alike.Changes.{each_words, words_with, pin_statement_words}
+use Rattle.def_edit.proofs.alike.Endings.{free_name}
+use Rattle.def_edit.proofs.alike.PinOptions.{Opt, State, IsPlain, IsNet, Plain, Net, kind_of}
+use Rattle.def_edit.proofs.alike.PinStatements.{Kept}
+use Rattle.def_edit.proofs.alike.SamePins.{other_at, strict_alone}
+use Rattle.def_edit.proofs.alike.Statements.{Strict}
 use Rattle.def_edit.specs.Words.{word_before}
 use Rattle.def_edit.specs.MovedText.{each_edit, pin_edit}
 use Rattle.def_edit.proofs.EditsRuns.{IsEdited, unedited, edited_both, one_edited, edited_as}

@@ -28,14 +28,14 @@ use Rattle.def_reader.specs.declared.design.Net.{Net}
 use Rattle.def_reader.specs.Designs.{component_of, design_of}
 use Rattle.def_reader.specs.Denoted.{DenotesDesign}
 use Rattle.def_reader.specs.Faults.{StandsAgain, section_rows, SameSection}
-use Rattle.def_alike.specs.Changes.{Changes, IsFit, block_words, changed_words}
-use Rattle.def_alike.specs.Laws.{AreOnce, HasChanges}
-use Rattle.def_alike.proofs.Statements.{Strict, each_strict}
-use Rattle.def_alike.proofs.Blocks.{IsOnce, once_of}
-use Rattle.def_alike.proofs.Contents.{each_stand, body_is}
-use Rattle.def_alike.proofs.Frames.{within_each}
-use Rattle.pin_moves.specs.declared.moves.PinMove.{PinMove}
-use Rattle.pin_moves.specs.Moved.{IsMoveIn, AreMovesIn}
+use Rattle.def_edit.specs.Alike.Changes.{Changes, IsFit, block_words, changed_words}
+use Rattle.def_edit.specs.Alike.Laws.{AreOnce, HasChanges}
+use Rattle.def_edit.proofs.alike.Statements.{Strict, each_strict}
+use Rattle.def_edit.proofs.alike.Blocks.{IsOnce, once_of}
+use Rattle.def_edit.proofs.alike.Contents.{each_stand, body_is}
+use Rattle.def_edit.proofs.alike.Frames.{within_each}
+use Rattle.def_edit.specs.declared.pin_moves.PinMove.{PinMove}
+use Rattle.def_edit.specs.Moved.{IsMoveIn, AreMovesIn}
 use Rattle.def_edit.specs.declared.chains.NewChain.{NewChain}
 use Rattle.def_edit.specs.NetChanges.{new_word, pin_changes}
 use Rattle.def_edit.specs.MovedText.{changes_of, section_edits, edits_of}

@@ -9,8 +9,8 @@ use Rattle.def_tokens.specs.DefTokens.{tokens_in}
 use Rattle.def_tokens.specs.DefSplit.{goes_on}
 use Rattle.def_layout.specs.Words.{texts}
 use Rattle.def_layout.proofs.NetThere.{texts_both}
-use Rattle.def_seams.specs.Seams.{WordEdit, HasWordsBefore, is_firm, ends_plain, AreWordEditsOf, AreWordEdits}
-use Rattle.def_seams.proofs.Words.{rising_law, seam_law}
+use Rattle.def_edit.specs.Seams.{WordEdit, HasWordsBefore, is_firm, ends_plain, AreWordEditsOf, AreWordEdits}
+use Rattle.def_edit.proofs.seams.Words.{rising_law, seam_law}
 
 -- some tokens of a text have these words with edits of runs of them, before whatever edits stand behind
 pub record IsEdited (text : List ℕ) (ts : List Token) (edits : List Edit) (ws : List (List ℕ)) : Type 0 where

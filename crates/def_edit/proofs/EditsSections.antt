@@ -14,7 +14,7 @@ use Rattle.def_layout.specs.SectionForms.{is_written_well, chain_words, section_
 use Rattle.def_layout.proofs.WordTokens.{words_behind, blank_words, blank_texts, joined_law, one_word}
 use Rattle.def_layout.proofs.NumberWords.{number_name}
 use Rattle.def_layout.proofs.SectionWords.{is_whole_line, is_part, is_part_line, lines_have, chain_front, last_line, chain_parts, section_has}
-use Rattle.def_seams.specs.Seams.{begins_end, IsParted, HasWordsBefore}
+use Rattle.def_edit.specs.Seams.{begins_end, IsParted, HasWordsBefore}
 use Rattle.def_edit.proofs.EditsWords.{ends_texts}
 
 chain_cut : (c : ChainLayout) → chain_lines c ≡ chain_front c ++ last_line ∷ []

@@ -12,7 +12,7 @@ use Rattle.def_tokens.specs.DefTokens.{is_blank, is_black, has_end, piece_at}
 use Rattle.def_tokens.specs.DefSplit.{begins_run, goes_on}
 use Rattle.def_layout.specs.Words.{texts, is_quoted, is_run, is_whole, HasWords}
 use Rattle.def_layout.proofs.WordTokens.{one_token, run_over, none_black, none_of, or_cases, whole_texts, blank_texts}
-use Rattle.def_seams.specs.Seams.{begins_end, HasWordsBefore}
+use Rattle.def_edit.specs.Seams.{begins_end, HasWordsBefore}
 use Rattle.def_edit.specs.Words.{ends_escaping, is_cut_off, goes_on_with, word_before}
 
 -- words before a blank or the end

@@ -3,12 +3,12 @@
 use Rattle.std.proofs.Common.{◌≡◌, ℕ, List, length, sym, subst}
 use Rattle.splice.specs.Spliced.{spliced, AreRising}
 use Rattle.cell_table.specs.Cells.{Cells}
-use Rattle.def_alike.specs.Changes.{Changes, IsFit}
-use Rattle.def_alike.specs.Laws.{HasChanges}
+use Rattle.def_edit.specs.Alike.Changes.{Changes, IsFit}
+use Rattle.def_edit.specs.Alike.Laws.{HasChanges}
 use Rattle.def_reader.specs.declared.design.Design.{Design}
 use Rattle.def_reader.specs.Denoted.{DenotesDesign}
-use Rattle.pin_moves.specs.declared.moves.PinMove.{PinMove}
-use Rattle.pin_moves.specs.Moved.{AreMovesIn}
+use Rattle.def_edit.specs.declared.pin_moves.PinMove.{PinMove}
+use Rattle.def_edit.specs.Moved.{AreMovesIn}
 use Rattle.def_edit.specs.declared.chains.NewChain.{NewChain}
 use Rattle.def_edit.specs.NewChains.{AreNewChains}
 use Rattle.def_edit.specs.MovedText.{changes_of, edits_of, DenotesMoved}

@@ -23,14 +23,14 @@ use Rattle.def_reader.specs.declared.design.Net.{Net}
 use Rattle.def_reader.specs.Designs.{net_of, design_of}
 use Rattle.def_reader.specs.Denoted.{DenotesDesign}
 use Rattle.def_reader.specs.Faults.{StandsAgain, section_rows, SameSection}
-use Rattle.def_alike.specs.Changes.{Changes, first_words, inner_words, block_words, changed_words}
-use Rattle.def_alike.proofs.Lists.{each_weaker}
-use Rattle.def_alike.proofs.SameNets.{stand_in}
-use Rattle.def_alike.proofs.Statements.{Strict, each_strict}
-use Rattle.def_alike.proofs.Blocks.{has_kind, same_kind, IsOnce, once_of}
-use Rattle.def_alike.proofs.Frames.{within_each}
-use Rattle.def_alike.proofs.Contents.{each_stand, body_is}
-use Rattle.pin_moves.specs.declared.moves.PinMove.{PinMove}
+use Rattle.def_edit.specs.Alike.Changes.{Changes, first_words, inner_words, block_words, changed_words}
+use Rattle.def_edit.proofs.alike.Lists.{each_weaker}
+use Rattle.def_edit.proofs.alike.SameNets.{stand_in}
+use Rattle.def_edit.proofs.alike.Statements.{Strict, each_strict}
+use Rattle.def_edit.proofs.alike.Blocks.{has_kind, same_kind, IsOnce, once_of}
+use Rattle.def_edit.proofs.alike.Frames.{within_each}
+use Rattle.def_edit.proofs.alike.Contents.{each_stand, body_is}
+use Rattle.def_edit.specs.declared.pin_moves.PinMove.{PinMove}
 use Rattle.def_edit.specs.declared.chains.NewChain.{NewChain}
 use Rattle.def_edit.specs.NetChanges.{net_rows}
 use Rattle.def_edit.specs.MovedText.{changes_of}

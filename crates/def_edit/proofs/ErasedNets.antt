@@ -17,7 +17,7 @@ use Rattle.def_layout.specs.Nets.{connection_words, connection_in, other_words}
 use Rattle.def_layout.specs.NetForms.{AreIn}
 use Rattle.def_layout.proofs.NetThere.{Pass, texts_both, net_there}
 use Rattle.def_layout.proofs.NetWritten.{others_end}
-use Rattle.def_alike.specs.Changes.{NetChange, changed_connections, net_statement_words}
+use Rattle.def_edit.specs.Alike.Changes.{NetChange, changed_connections, net_statement_words}
 use Rattle.def_edit.specs.ErasedDef.{Erasing, erased_net}
 use Rattle.def_edit.proofs.ErasedWords.{kept_words, begins_plus, erased_connections, erased_options, others_of, others_plus, others_again}
 

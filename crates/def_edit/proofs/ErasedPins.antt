@@ -17,11 +17,11 @@ use Rattle.def_syntax.specs.Grammar.{turned, placement, pin_option, design_pin}
 use Rattle.def_syntax.specs.declared.placement.Placement.{Placement}
 use Rattle.def_syntax.specs.declared.pin.DesignPin.{DesignPin}
 use Rattle.def_layout.proofs.NetThere.{texts_both}
-use Rattle.def_alike.specs.Changes.{pin_statement_words}
-use Rattle.def_alike.proofs.Statements.{Strict}
-use Rattle.def_alike.proofs.PinOptions.{Opt, State, IsPlain, IsNet}
-use Rattle.def_alike.proofs.PinStatements.{Kept}
-use Rattle.def_alike.proofs.SamePins.{other_at, strict_alone}
+use Rattle.def_edit.specs.Alike.Changes.{pin_statement_words}
+use Rattle.def_edit.proofs.alike.Statements.{Strict}
+use Rattle.def_edit.proofs.alike.PinOptions.{Opt, State, IsPlain, IsNet}
+use Rattle.def_edit.proofs.alike.PinStatements.{Kept}
+use Rattle.def_edit.proofs.alike.SamePins.{other_at, strict_alone}
 use Rattle.def_edit.specs.ErasedDef.{Erasing, Word, Plus, NetWord, Other, behind_word, unless_net, without_net, erased_pin, is_end_of}
 use Rattle.def_edit.proofs.ErasedWords.{NoMark, no_mark}
 

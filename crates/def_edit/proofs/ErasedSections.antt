@@ -28,12 +28,12 @@ use Rattle.def_layout.specs.declared.net.ConnectionLayout.{ConnectionLayout}
 use Rattle.def_layout.specs.Nets.{connection_in, kept}
 use Rattle.def_layout.specs.NetForms.{AreIn}
 use Rattle.def_layout.proofs.NetThere.{net_there}
-use Rattle.def_alike.specs.Changes.{NetChange, NetWords, net_in, each_words, pin_statement_words, net_statement_words}
-use Rattle.def_alike.specs.Fields.{pin_of_words}
-use Rattle.def_alike.proofs.Lists.{filter_of_map}
-use Rattle.def_alike.proofs.Statements.{Strict}
-use Rattle.pin_moves.specs.declared.moves.PinMove.{PinMove}
-use Rattle.pin_moves.specs.Moved.{leaves, moving_pin, is_port}
+use Rattle.def_edit.specs.Alike.Changes.{NetChange, NetWords, net_in, each_words, pin_statement_words, net_statement_words}
+use Rattle.def_edit.specs.Alike.Fields.{pin_of_words}
+use Rattle.def_edit.proofs.alike.Lists.{filter_of_map}
+use Rattle.def_edit.proofs.alike.Statements.{Strict}
+use Rattle.def_edit.specs.declared.pin_moves.PinMove.{PinMove}
+use Rattle.def_edit.specs.Moved.{leaves, moving_pin, is_port}
 use Rattle.def_edit.specs.NetChanges.{stays_by, added_with, moves_to, is_touched, net_changes_from, new_word}
 use Rattle.def_edit.specs.ErasedDef.{Erasing, erased_net, erased_pin, erased_inside, is_end_of}
 use Rattle.def_edit.proofs.ErasedWords.{kept_words}

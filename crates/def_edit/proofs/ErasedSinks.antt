@@ -12,10 +12,10 @@ use Rattle.def_reader.specs.declared.design.Net.{Net}
 use Rattle.def_reader.specs.Designs.{net_pin_of}
 use Rattle.def_layout.specs.declared.net.ConnectionLayout.{ConnectionLayout}
 use Rattle.def_layout.specs.Nets.{connection_words, kept}
-use Rattle.def_alike.specs.Changes.{NetWords}
-use Rattle.def_alike.specs.Fields.{pin_of_words}
-use Rattle.pin_moves.specs.declared.moves.PinMove.{PinMove}
-use Rattle.pin_moves.specs.Moved.{leaves, moving_pin}
+use Rattle.def_edit.specs.Alike.Changes.{NetWords}
+use Rattle.def_edit.specs.Alike.Fields.{pin_of_words}
+use Rattle.def_edit.specs.declared.pin_moves.PinMove.{PinMove}
+use Rattle.def_edit.specs.Moved.{leaves, moving_pin}
 use Rattle.def_edit.specs.Words.{end_word}
 use Rattle.def_edit.specs.NetChanges.{is_counted, stays_by, moving_connection, added_for, added_list, added_with}
 use Rattle.def_edit.specs.ErasedDef.{Erasing}

@@ -26,8 +26,8 @@ use Rattle.def_reader.specs.Designs.{element_of, list_of, end_by, end_at, max_bi
 use Rattle.def_layout.specs.SectionForms.{partition_of, max_bits_of, floating_of}
 use Rattle.def_layout.specs.SectionForms.{element_of as read_element}
 use Rattle.def_layout.proofs.NumberWords.{number_number}
-use Rattle.def_alike.specs.Fields.{chain_fields, chain_read}
-use Rattle.def_alike.proofs.Denoting.{few_bits}
+use Rattle.def_edit.specs.Alike.Fields.{chain_fields, chain_read}
+use Rattle.def_edit.proofs.alike.Denoting.{few_bits}
 use Rattle.def_edit.specs.declared.chains.NewElement.{NewElement}
 use Rattle.def_edit.specs.declared.chains.NewChain.{NewChain}
 use Rattle.def_edit.specs.Words.{word_for, end_word}

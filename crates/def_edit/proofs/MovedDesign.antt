@@ -17,14 +17,14 @@ use Rattle.def_reader.specs.declared.design.ScanChainText.{ScanChainText}
 use Rattle.def_reader.specs.Designs.{component_of, pin_of, design_of}
 use Rattle.def_reader.specs.Denoted.{DenotesDesign}
 use Rattle.def_reader.specs.Faults.{SameSection}
-use Rattle.def_alike.specs.Changes.{changed_words}
-use Rattle.def_alike.specs.Fields.{nowhere, component_fields, pin_fields, chain_fields, fields, chain_read, changed_fields}
-use Rattle.def_alike.specs.Laws.{AreOnce, HasChanges}
-use Rattle.def_alike.proofs.Cutting.{cut_law}
-use Rattle.def_alike.proofs.Alike.{alike_law}
-use Rattle.def_alike.proofs.Designs.{design_law}
-use Rattle.pin_moves.specs.declared.moves.PinMove.{PinMove}
-use Rattle.pin_moves.specs.Moved.{moved_pin, AreMovesIn}
+use Rattle.def_edit.specs.Alike.Changes.{changed_words}
+use Rattle.def_edit.specs.Alike.Fields.{nowhere, component_fields, pin_fields, chain_fields, fields, chain_read, changed_fields}
+use Rattle.def_edit.specs.Alike.Laws.{AreOnce, HasChanges}
+use Rattle.def_edit.proofs.alike.Cutting.{cut_law}
+use Rattle.def_edit.proofs.alike.Alike.{alike_law}
+use Rattle.def_edit.proofs.alike.Designs.{design_law}
+use Rattle.def_edit.specs.declared.pin_moves.PinMove.{PinMove}
+use Rattle.def_edit.specs.Moved.{moved_pin, AreMovesIn}
 use Rattle.def_edit.specs.declared.chains.NewChain.{NewChain}
 use Rattle.def_edit.specs.NetChanges.{net_rows}
 use Rattle.def_edit.specs.NewChains.{chain_layouts, new_chains_of, AreNewChains}

@@ -33,13 +33,13 @@ use Rattle.def_reader.specs.Faults.{StandsAgain, connection_rows}
 use Rattle.def_layout.specs.declared.chains.ChainLayout.{ChainLayout}
 use Rattle.def_layout.specs.SectionForms.{is_name, names_element, names_terminal, names_partition, names_list, is_written_well}
 use Rattle.def_layout.specs.Slices.{StandIn}
-use Rattle.def_alike.specs.Changes.{NetWords, net_in, names_word, if_some, IsFit}
-use Rattle.def_alike.specs.Fields.{net_fields, net_of_words, nets_of_words, nets_in, changed_nets}
-use Rattle.def_alike.specs.Laws.{HasFewBits, IsFew, HasFewMost, IsWithin, AreSound}
-use Rattle.def_alike.proofs.Contents.{each_stand, body_is}
-use Rattle.def_alike.proofs.Frames.{within_each}
-use Rattle.pin_moves.specs.declared.moves.PinMove.{PinMove}
-use Rattle.pin_moves.specs.Moved.{moving_pin, is_port, moved_nets, AreMovesIn}
+use Rattle.def_edit.specs.Alike.Changes.{NetWords, net_in, names_word, if_some, IsFit}
+use Rattle.def_edit.specs.Alike.Fields.{net_fields, net_of_words, nets_of_words, nets_in, changed_nets}
+use Rattle.def_edit.specs.Alike.Laws.{HasFewBits, IsFew, HasFewMost, IsWithin, AreSound}
+use Rattle.def_edit.proofs.alike.Contents.{each_stand, body_is}
+use Rattle.def_edit.proofs.alike.Frames.{within_each}
+use Rattle.def_edit.specs.declared.pin_moves.PinMove.{PinMove}
+use Rattle.def_edit.specs.Moved.{moving_pin, is_port, moved_nets, AreMovesIn}
 use Rattle.def_edit.specs.declared.chains.NewElement.{NewElement}
 use Rattle.def_edit.specs.declared.chains.NewChain.{NewChain}
 use Rattle.def_edit.specs.Words.{word_for, end_word}

@@ -18,10 +18,10 @@ use Rattle.def_layout.specs.SectionForms.{is_name}
 use Rattle.def_layout.specs.declared.net.ConnectionLayout.{ConnectionLayout}
 use Rattle.def_layout.specs.Slices.{StandIn}
 use Rattle.def_layout.proofs.NetThere.{net_there}
-use Rattle.def_alike.specs.Changes.{NetChange, NetWords, net_in, names_word, names_both, if_some}
-use Rattle.def_alike.proofs.SameNets.{stand_in}
-use Rattle.pin_moves.specs.declared.moves.PinMove.{PinMove}
-use Rattle.pin_moves.specs.Moved.{leaves}
+use Rattle.def_edit.specs.Alike.Changes.{NetChange, NetWords, net_in, names_word, names_both, if_some}
+use Rattle.def_edit.proofs.alike.SameNets.{stand_in}
+use Rattle.def_edit.specs.declared.pin_moves.PinMove.{PinMove}
+use Rattle.def_edit.specs.Moved.{leaves}
 use Rattle.def_edit.specs.Words.{escaped, word_for, component_word, end_word}
 use Rattle.def_edit.specs.NewChains.{is_plain}
 use Rattle.def_edit.specs.NetChanges.{is_counted, moving_connection, added_for, added_list, added_with, moves_to, net_changes_from, is_touched, stays_by}

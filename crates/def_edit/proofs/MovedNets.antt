@@ -17,11 +17,11 @@ use Rattle.def_reader.specs.declared.design.Net.{Net}
 use Rattle.def_reader.specs.Designs.{net_pin_of, net_at, net_of}
 use Rattle.def_layout.specs.declared.net.ConnectionLayout.{ConnectionLayout}
 use Rattle.def_layout.specs.Nets.{connection_in, kept}
-use Rattle.def_alike.specs.Changes.{NetWords, net_in, changed_net, changed_each}
-use Rattle.def_alike.specs.Fields.{nowhere, net_fields, pin_of_words, net_of_words, nets_of_words}
-use Rattle.def_alike.proofs.Lists.{filter_of_map}
-use Rattle.pin_moves.specs.declared.moves.PinMove.{PinMove}
-use Rattle.pin_moves.specs.Moved.{leaves, staying, moving_pin, pin_list, coming, moved_pins, moved_from}
+use Rattle.def_edit.specs.Alike.Changes.{NetWords, net_in, changed_net, changed_each}
+use Rattle.def_edit.specs.Alike.Fields.{nowhere, net_fields, pin_of_words, net_of_words, nets_of_words}
+use Rattle.def_edit.proofs.alike.Lists.{filter_of_map}
+use Rattle.def_edit.specs.declared.pin_moves.PinMove.{PinMove}
+use Rattle.def_edit.specs.Moved.{leaves, staying, moving_pin, pin_list, coming, moved_pins, moved_from}
 use Rattle.def_edit.specs.Words.{end_word}
 use Rattle.def_edit.specs.NetChanges.{is_counted, stays_by, moving_connection, added_list, added_with, moves_to, is_touched, net_changes_from}
 

@@ -10,10 +10,10 @@ use Rattle.def_reader.specs.declared.design.Design.{Design}
 use Rattle.def_reader.specs.Designs.{net_of, design_of}
 use Rattle.def_reader.specs.Denoted.{DenotesDesign}
 use Rattle.def_reader.specs.Faults.{names_in, StandsAgain, connections_of, connection_rows, SameConnection}
-use Rattle.def_alike.specs.Fields.{net_fields}
-use Rattle.def_alike.proofs.Lists.{map_of_map}
-use Rattle.pin_moves.specs.declared.moves.PinMove.{PinMove}
-use Rattle.pin_moves.specs.Moved.{leaves, staying, moving_pin, pin_list, coming, moved_pins, moved_from, moved_nets, AreMovesIn}
+use Rattle.def_edit.specs.Alike.Fields.{net_fields}
+use Rattle.def_edit.proofs.alike.Lists.{map_of_map}
+use Rattle.def_edit.specs.declared.pin_moves.PinMove.{PinMove}
+use Rattle.def_edit.specs.Moved.{leaves, staying, moving_pin, pin_list, coming, moved_pins, moved_from, moved_nets, AreMovesIn}
 use Rattle.def_edit.proofs.MovedMembers.{Has, has, contains, has_left, has_right, has_split, flat_from, flat_has, has_index, index_has, Apart, apart_place, apart_from, apart_append}
 
 -- no pin stands twice in the nets

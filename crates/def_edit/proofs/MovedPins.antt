@@ -8,10 +8,10 @@ use Rattle.def_syntax.specs.declared.pin.DesignPin.{DesignPin as PinText}
 use Rattle.def_reader.specs.declared.design.DesignPin.{DesignPin}
 use Rattle.def_reader.specs.declared.design.Net.{Net}
 use Rattle.def_reader.specs.Designs.{pin_of}
-use Rattle.def_alike.specs.Changes.{NetWords, changed_each}
-use Rattle.def_alike.specs.Fields.{pin_fields, net_fields, net_of_words, with_net}
-use Rattle.pin_moves.specs.declared.moves.PinMove.{PinMove}
-use Rattle.pin_moves.specs.Moved.{moving_pin, is_port, new_net, moved_pin}
+use Rattle.def_edit.specs.Alike.Changes.{NetWords, changed_each}
+use Rattle.def_edit.specs.Alike.Fields.{pin_fields, net_fields, net_of_words, with_net}
+use Rattle.def_edit.specs.declared.pin_moves.PinMove.{PinMove}
+use Rattle.def_edit.specs.Moved.{moving_pin, is_port, new_net, moved_pin}
 use Rattle.def_edit.specs.NetChanges.{new_word}
 use Rattle.def_edit.proofs.MovedNets.{row_at}
 

@@ -8,8 +8,8 @@ use Rattle.def_syntax.specs.declared.net.Net.{Net}
 use Rattle.def_syntax.specs.declared.net.NetStatement.{NetStatement}
 use Rattle.def_syntax.specs.declared.net.NetStatement.TheVariants as net_statements
 use Rattle.def_reader.specs.declared.design.Component.{Component}
-use Rattle.def_alike.specs.Changes.{NetChange, NetWords, net_in}
-use Rattle.pin_moves.specs.declared.moves.PinMove.{PinMove}
+use Rattle.def_edit.specs.Alike.Changes.{NetChange, NetWords, net_in}
+use Rattle.def_edit.specs.declared.pin_moves.PinMove.{PinMove}
 use Rattle.def_edit.specs.NetChanges.{net_change, net_changes_from}
 use Rattle.def_edit.specs.MovedText.{each_edit, net_edit, statement_edit, cut_count}
 use Rattle.def_edit.specs.Lookups.{maybe_edit}

@@ -15,10 +15,10 @@ use Rattle.def_layout.specs.declared.net.NetLayout.{NetLayout}
 use Rattle.def_layout.specs.Words.{texts, joined}
 use Rattle.def_layout.specs.Nets.{connection_words, connection_in, kept, other_words, closed, net_text}
 use Rattle.def_layout.specs.NetForms.{IsNetOf, IsLayout}
-use Rattle.def_alike.specs.Changes.{NetChange, NetWords}
+use Rattle.def_edit.specs.Alike.Changes.{NetChange, NetWords}
 use Rattle.def_reader.specs.declared.design.Component.{Component}
-use Rattle.pin_moves.specs.declared.moves.PinMove.{PinMove}
-use Rattle.pin_moves.specs.Moved.{leaves}
+use Rattle.def_edit.specs.declared.pin_moves.PinMove.{PinMove}
+use Rattle.def_edit.specs.Moved.{leaves}
 use Rattle.def_edit.specs.NetChanges.{is_counted, moves_from, moves_to, is_touched, stays_by, added_with, net_change}
 use Rattle.def_edit.specs.MovedText.{new_words, statement_edit}
 use Rattle.def_edit.specs.Lookups.{leaves_at, IsOwnNet, maybe_edit}

@@ -11,10 +11,10 @@ use Rattle.def_syntax.specs.declared.frame.SectionKind.{SectionKind}
 use Rattle.def_syntax.specs.declared.frame.SectionKind.TheVariants as kinds
 use Rattle.def_syntax.specs.declared.net.NetStatement.{NetStatement}
 use Rattle.def_syntax.specs.declared.pin.DesignPin.{DesignPin}
-use Rattle.def_alike.specs.Changes.{NetWords, NetChange}
+use Rattle.def_edit.specs.Alike.Changes.{NetWords, NetChange}
 use Rattle.def_reader.specs.declared.design.Net.{Net}
 use Rattle.base_types.specs.Names.{plain_name}
-use Rattle.pin_moves.specs.declared.moves.PinMove.{PinMove}
+use Rattle.def_edit.specs.declared.pin_moves.PinMove.{PinMove}
 use Rattle.def_edit.specs.NetChanges.{net_rows, pin_changes, new_word}
 use Rattle.def_edit.specs.MovedText.{each_edit, pin_edit, cut_count}
 use Rattle.def_edit.specs.Lookups.{is_nets, counted_behind}

@@ -8,9 +8,9 @@ use Rattle.std.specs.Prelude.{option_map, option_and_then, slice_get}
 use Rattle.std.specs.List.{find}
 use Rattle.std.specs.Option.{option_or}
 use Rattle.def_reader.specs.declared.design.Net.{Net}
-use Rattle.def_alike.specs.Changes.{NetWords}
-use Rattle.pin_moves.specs.declared.moves.PinMove.{PinMove}
-use Rattle.pin_moves.specs.Moved.{moving_pin, is_port}
+use Rattle.def_edit.specs.Alike.Changes.{NetWords}
+use Rattle.def_edit.specs.declared.pin_moves.PinMove.{PinMove}
+use Rattle.def_edit.specs.Moved.{moving_pin, is_port}
 use Rattle.def_syntax.specs.declared.design.Located.{Located}
 use Rattle.def_syntax.specs.declared.chain.Chain.{Chain}
 use Rattle.def_reader.specs.declared.design.Component.{Component}

@@ -24,8 +24,8 @@ use Rattle.def_layout.specs.Nets.{connection_in}
 use Rattle.def_layout.specs.NetForms.{IsNetOf}
 use Rattle.def_layout.specs.Slices.{StandIn, slice}
 use Rattle.def_layout.proofs.NetLaw.{net_slice_law}
-use Rattle.def_alike.proofs.Contents.{each_stand, body_is}
-use Rattle.def_alike.proofs.Frames.{within_each}
+use Rattle.def_edit.proofs.alike.Contents.{each_stand, body_is}
+use Rattle.def_edit.proofs.alike.Frames.{within_each}
 use Rattle.cell_table.specs.Cells.{Cells}
 use Rattle.def_reader.specs.declared.design.Design.{Design}
 use Rattle.def_reader.specs.declared.design.ScanChainText.{ScanChainText}

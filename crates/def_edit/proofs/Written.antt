@@ -6,8 +6,8 @@ use Rattle.def_syntax.specs.declared.design.DesignText.{DesignText}
 use Rattle.cell_table.specs.Cells.{Cells}
 use Rattle.def_reader.specs.declared.design.Design.{Design}
 use Rattle.def_reader.specs.Denoted.{DenotesDesign}
-use Rattle.pin_moves.specs.declared.moves.PinMove.{PinMove}
-use Rattle.pin_moves.specs.Moved.{AreMovesIn}
+use Rattle.def_edit.specs.declared.pin_moves.PinMove.{PinMove}
+use Rattle.def_edit.specs.Moved.{AreMovesIn}
 use Rattle.def_edit.specs.declared.chains.NewChain.{NewChain}
 use Rattle.def_edit.specs.declared.text.DefOut.{DefOut}
 use Rattle.def_edit.specs.NetChanges.{net_changes}

@@ -15,8 +15,8 @@ use Rattle.def_reader.specs.Designs.{net_pin_of}
 use Rattle.def_reader.specs.declared.design.NetPin.{NetPin}
 use Rattle.def_reader.specs.declared.design.NetPin.TheVariants.{Port}
 use Rattle.def_reader.specs.declared.design.Net.{Net}
-use Rattle.pin_moves.specs.declared.moves.PinMove.{PinMove}
-use Rattle.pin_moves.specs.Moved.{moving_pin}
+use Rattle.def_edit.specs.declared.pin_moves.PinMove.{PinMove}
+use Rattle.def_edit.specs.Moved.{moving_pin}
 use Rattle.def_edit.specs.NetChanges.{is_touched}
 
 -- what is erased: the scan sinks by their pins, the free ports by their names, and the nets whose connections change, by their names

@@ -7,3 +7,6 @@ pub mod Groups
 pub mod Lookups
 pub mod Layouts
 pub mod Pushed
+pub mod Moved
+pub mod Seams
+pub mod Alike

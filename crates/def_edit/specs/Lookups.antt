@@ -17,12 +17,12 @@ use Rattle.def_syntax.specs.declared.net.NetStatement.{NetStatement}
 use Rattle.def_syntax.specs.declared.net.NetStatement.TheVariants as net_statements
 use Rattle.def_layout.specs.NetForms.{IsNetOf}
 use Rattle.def_reader.specs.declared.design.Net.{Net as DesignNet}
-use Rattle.pin_moves.specs.Moved.{moving_pin, is_port}
+use Rattle.def_edit.specs.Moved.{moving_pin, is_port}
 use Rattle.def_edit.specs.Groups.{group_of}
 use Rattle.def_edit.specs.NetChanges.{moves_from, moves_to}
 use Rattle.def_layout.specs.Nets.{connection_in}
-use Rattle.def_alike.specs.Changes.{NetWords, net_in}
-use Rattle.pin_moves.specs.declared.moves.PinMove.{PinMove}
+use Rattle.def_edit.specs.Alike.Changes.{NetWords, net_in}
+use Rattle.def_edit.specs.declared.pin_moves.PinMove.{PinMove}
 use Rattle.def_edit.specs.declared.nets.NetRow.{NetRow}
 
 -- a net by its words

@@ -20,10 +20,10 @@ use Rattle.def_reader.specs.Denoted.{DenotesDesign}
 use Rattle.def_layout.specs.Words.{texts, joined}
 use Rattle.def_layout.specs.Nets.{connection_words, connection_in, other_words, has_wiring, closed}
 use Rattle.def_layout.specs.Sections.{section_text}
-use Rattle.def_alike.specs.Changes.{NetChange, changed_connections, Changes}
-use Rattle.def_alike.specs.Fields.{fields}
-use Rattle.pin_moves.specs.declared.moves.PinMove.{PinMove}
-use Rattle.pin_moves.specs.Moved.{moved_nets, moved_pin}
+use Rattle.def_edit.specs.Alike.Changes.{NetChange, changed_connections, Changes}
+use Rattle.def_edit.specs.Alike.Fields.{fields}
+use Rattle.def_edit.specs.declared.pin_moves.PinMove.{PinMove}
+use Rattle.def_edit.specs.Moved.{moved_nets, moved_pin}
 use Rattle.def_edit.specs.declared.chains.NewChain.{NewChain}
 use Rattle.def_edit.specs.declared.text.DefOut.{DefOut}
 use Rattle.def_edit.specs.Words.{word_before}

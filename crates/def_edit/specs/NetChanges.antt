@@ -6,10 +6,10 @@ use Rattle.def_syntax.specs.declared.design.DesignText.{DesignText}
 use Rattle.def_reader.specs.declared.design.Component.{Component}
 use Rattle.def_reader.specs.declared.design.Net.{Net}
 use Rattle.def_layout.specs.declared.net.ConnectionLayout.{ConnectionLayout}
-use Rattle.def_alike.specs.Changes.{NetChange, NetWords}
-use Rattle.def_alike.specs.Fields.{pin_of_words, nets_in}
-use Rattle.pin_moves.specs.declared.moves.PinMove.{PinMove}
-use Rattle.pin_moves.specs.Moved.{leaves, moving_pin, is_port}
+use Rattle.def_edit.specs.Alike.Changes.{NetChange, NetWords}
+use Rattle.def_edit.specs.Alike.Fields.{pin_of_words, nets_in}
+use Rattle.def_edit.specs.declared.pin_moves.PinMove.{PinMove}
+use Rattle.def_edit.specs.Moved.{leaves, moving_pin, is_port}
 use Rattle.def_edit.specs.Words.{end_word}
 
 -- the connection is counted: it isn't a pin of all components

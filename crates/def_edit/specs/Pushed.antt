@@ -12,8 +12,8 @@ use Rattle.def_layout.specs.Nets.{connection_in, has_wiring}
 use Rattle.def_syntax.specs.declared.net.NetStatement.{NetStatement}
 use Rattle.def_reader.specs.declared.design.Component.{Component}
 use Rattle.def_reader.specs.declared.design.Net.{Net as DesignNet}
-use Rattle.def_alike.specs.Changes.{NetWords, NetChange, net_in}
-use Rattle.pin_moves.specs.declared.moves.PinMove.{PinMove}
+use Rattle.def_edit.specs.Alike.Changes.{NetWords, NetChange, net_in}
+use Rattle.def_edit.specs.declared.pin_moves.PinMove.{PinMove}
 use Rattle.def_edit.specs.NetChanges.{new_word, net_changes_from}
 use Rattle.def_edit.specs.MovedText.{pin_edit, net_edit, each_edit, cut_count}
 use Rattle.def_edit.specs.Lookups.{maybe_edit}

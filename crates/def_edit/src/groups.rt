@@ -4,8 +4,8 @@ ghost use Rattle.std.specs.HashMap.{get};
 ghost use Rattle.def_edit.specs.Groups.{group_of};
 ghost use Rattle.def_edit.specs.NetChanges.{moves_from, moves_to};
 
+use crate::PinMove;
 use base_types::{NoMemory, Rows};
-use pin_moves::PinMove;
 use std::alloc::Global;
 use std::collections::HashMap;
 

@@ -3,13 +3,14 @@ ghost use Rattle.std.specs.Prelude.{◌≡◌, ◌<◌, ◌^◌, ◌++◌, ◌�
 ghost use Rattle.splice.specs.Spliced.{AreRising, spliced};
 ghost use Rattle.def_layout.specs.Sections.{section_text};
 ghost use Rattle.def_reader.specs.Denoted.{DenotesDesign};
-ghost use Rattle.pin_moves.specs.Moved.{AreMovesIn};
+ghost use Rattle.def_edit.specs.Moved.{AreMovesIn};
 ghost use Rattle.def_edit.specs.Lookups.{HasGroups, HasPorts, IsOwn, HasSection, rows_of, counted_behind};
 ghost use Rattle.def_edit.specs.NetChanges.{net_rows, net_changes};
 ghost use Rattle.def_edit.specs.NewChains.{AreNewChains, chain_layouts};
 ghost use Rattle.def_edit.specs.MovedText.{changes_of, section_edits, edits_of, cut_count, IsMovedText, DenotesMoved};
 ghost use Rattle.def_edit.specs.ErasedDef.{Erasing, AreErasedAlike, ErasesMoves};
 
+use crate::PinMove;
 use crate::chains::NewChain;
 use crate::components::Components;
 use crate::groups::{moves_from, moves_to};
@@ -21,7 +22,6 @@ use cell_table::CellTable;
 use def_layout::section_text;
 use def_reader::Design;
 use def_syntax::{Chain, DesignText, Located, Section, SectionKind, read_design_text};
-use pin_moves::PinMove;
 use splice::{Edit, spliced};
 use std::alloc::Global;
 

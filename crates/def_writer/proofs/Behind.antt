@@ -4,10 +4,10 @@ use Rattle.def_reader.specs.declared.design.Design.{Design}
 use Rattle.netlist_core.specs.declared.netlist.Netlist.{Netlist}
 use Rattle.cell_table.specs.Cells.{Cells}
 use Rattle.chain_trace.specs.declared.path.Path.{Path}
-use Rattle.pin_moves.specs.Moved.{moved_pin}
-use Rattle.def_alike.specs.Fields.{component_fields, pin_fields, net_fields, fields}
-use Rattle.design_moves.specs.Moves.{moves_of}
-use Rattle.design_moves.specs.Laws as laws
+use Rattle.def_edit.specs.Moved.{moved_pin}
+use Rattle.def_edit.specs.Alike.Fields.{component_fields, pin_fields, net_fields, fields}
+use Rattle.def_writer.specs.Moved.Moves.{moves_of}
+use Rattle.def_writer.specs.Moved.Laws as laws
 use Rattle.def_edit.specs.declared.chains.NewChain.{NewChain}
 use Rattle.def_edit.specs.MovedText.{moved_design}
 use Rattle.def_writer.specs.DefTexts.{name_and_cell}

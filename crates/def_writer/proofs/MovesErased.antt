@@ -38,13 +38,13 @@ use Rattle.def_reader.specs.declared.design.NetPin.TheVariants.{Cell, Port}
 use Rattle.def_reader.specs.declared.design.Net.{Net}
 use Rattle.def_reader.specs.declared.design.Design.{Design}
 use Rattle.design_elements.specs.Elements.{chain_specs}
-use Rattle.design_nets.specs.Placing.{instance_name, net_pin}
-use Rattle.pin_moves.specs.declared.moves.PinMove.{PinMove}
-use Rattle.pin_moves.specs.Moved.{moving_pin}
-use Rattle.design_moves.specs.Moves.{moves_of}
-use Rattle.design_moves.specs.Laws.{AreMovable}
-use Rattle.design_moves.proofs.LinkPins.{moves_are}
-use Rattle.design_moves.proofs.Made.{of_link}
+use Rattle.def_writer.specs.Placing.{instance_name, net_pin}
+use Rattle.def_edit.specs.declared.pin_moves.PinMove.{PinMove}
+use Rattle.def_edit.specs.Moved.{moving_pin}
+use Rattle.def_writer.specs.Moved.Moves.{moves_of}
+use Rattle.def_writer.specs.Moved.Laws.{AreMovable}
+use Rattle.def_writer.proofs.moved.LinkPins.{moves_are}
+use Rattle.def_writer.proofs.moved.Made.{of_link}
 use Rattle.def_edit.specs.NetChanges.{is_touched}
 use Rattle.def_edit.specs.ErasedDef.{ErasesMoves}
 use Rattle.def_writer.specs.DefTexts.{is_input_of, is_free_name, is_free_pin, is_touched_name, erasing}

@@ -31,7 +31,7 @@ use Rattle.def_reader.specs.declared.design.Design.{Design}
 use Rattle.def_reader.specs.Agreement.{Agree}
 use Rattle.def_reader.specs.Denoted.{DenotesDesign}
 use Rattle.design_places.specs.NetPins.{same_pin, net_with, in_pin_alone, out_pin_alone, lacks_in_net, lacks_out_net, HoldsInNets, InPin, OutPin}
-use Rattle.design_nets.specs.Placing.{instance_name}
+use Rattle.def_writer.specs.Placing.{instance_name}
 use Rattle.def_edit.specs.NewChains.{is_plain, HasComponent, IsNewElement}
 use Rattle.def_writer.specs.PlanChains.{input_name, output_name, element_of}
 use Rattle.def_writer.proofs.PlainPins.{pin_plain}

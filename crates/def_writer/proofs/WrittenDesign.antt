@@ -10,8 +10,8 @@ use Rattle.def_reader.specs.declared.design.Design.{Design}
 use Rattle.def_reader.specs.Agreement.{Agree}
 use Rattle.def_reader.specs.Denoted.{DenotesDesign}
 use Rattle.design_places.specs.NetPins.{HoldsInNets}
-use Rattle.design_moves.specs.Moves.{moves_of}
-use Rattle.design_moves.specs.Laws.{OnceLaw, AreMovable, MovedLaw, StandingLaw}
+use Rattle.def_writer.specs.Moved.Moves.{moves_of}
+use Rattle.def_writer.specs.Moved.Laws.{OnceLaw, AreMovable, MovedLaw, StandingLaw}
 use Rattle.def_edit.specs.declared.chains.NewChain.{NewChain}
 use Rattle.def_edit.specs.MovedText.{moved_design, DenotesMoved}
 use Rattle.def_writer.specs.DefTexts.{IsPlacedAfter}

@@ -21,11 +21,11 @@ use Rattle.def_reader.specs.declared.design.NetPin.TheVariants.{Cell, Port}
 use Rattle.def_reader.specs.declared.design.Design.{Design}
 use Rattle.def_reader.specs.Denoted.{DenotesDesign}
 use Rattle.design_elements.specs.Elements.{chain_specs}
-use Rattle.design_nets.specs.Placing.{instance_name, placing}
-use Rattle.design_moves.specs.Moves.{moves_of}
-use Rattle.design_moves.specs.Laws.{ArePinsOnceIn}
+use Rattle.def_writer.specs.Placing.{instance_name, placing}
+use Rattle.def_writer.specs.Moved.Moves.{moves_of}
+use Rattle.def_writer.specs.Moved.Laws.{ArePinsOnceIn}
 use Rattle.design_places.specs.NetPins.{HoldsInNets}
-use Rattle.pin_moves.specs.declared.moves.PinMove.{PinMove}
+use Rattle.def_edit.specs.declared.pin_moves.PinMove.{PinMove}
 use Rattle.def_edit.specs.declared.text.DefOut.{DefOut}
 use Rattle.def_edit.specs.MovedText.{IsMovedText}
 use Rattle.def_edit.specs.NetChanges.{is_touched}

@@ -1,3 +1,5 @@
 pub mod PlanChains
 pub mod DefTexts
 pub mod Seen
+pub mod Placing
+pub mod Moved

@@ -15,13 +15,13 @@ ghost use Rattle.design_places.specs.NetPins.{HoldsInNets};
 ghost use Rattle.def_writer.specs.DefTexts.{IsDefText, IsErasedDef, IsPlacedAfter};
 
 use crate::chains::plan_chains;
+use crate::moves_for;
 use base_types::NoMemory;
 use cell_table::CellTable;
 use chain_rules::{ChainSpec, Plan, Rules};
 use chain_trace::Path;
 use def_edit::{DefOut, moved_text};
 use def_reader::Design;
-use design_moves::moves_for;
 use netlist_core::Netlist;
 use std::alloc::Global;
 

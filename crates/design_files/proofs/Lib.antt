@@ -4,3 +4,7 @@ pub mod Heads
 pub mod Known
 pub mod LayerKinds
 pub mod Layers
+pub mod Belong
+pub mod FewUnits
+pub mod Measured
+pub mod Placed

@@ -14,9 +14,9 @@ ghost use Rattle.design_files.specs.Stages.{AreSound, DoAgree, HavePaths, AreInD
 
 use crate::files::Files;
 use crate::traced::Traced;
+use crate::{chains_law, measured_law};
 use base_types::{Fault, Kind, ReadFault};
 use chain_rules::{PathSpec, Rules, units_of};
-use check_laws::{chains_law, measured_law};
 use design_places::{check_nets, check_places, ends_of};
 use head_checks::check_heads;
 use std::alloc::Global;

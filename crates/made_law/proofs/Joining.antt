@@ -5,11 +5,11 @@ use Rattle.stil_parts.specs.declared.part.PartFault.{PartFault}
 use Rattle.stil_head.specs.Heads.{DenotesHead}
 use Rattle.play_report.specs.Files.{IsHeadText}
 use Rattle.design_maker.specs.MadeStil.{stil_text}
-use Rattle.made_checks.specs.MadeBlocks as blocks
-use Rattle.made_files.proofs.Files.{head_files_right}
-use Rattle.made_patterns.specs.MadeHead.{BlockPlace, head_bytes, made_head}
-use Rattle.made_patterns.proofs.Denoting.{head_law, text_law}
-use Rattle.made_patterns.proofs.Behind.{no_pattern_fault}
+use Rattle.made_law.specs.Checks.MadeBlocks as blocks
+use Rattle.made_law.proofs.files.Files.{head_files_right}
+use Rattle.made_law.specs.Patterns.MadeHead.{BlockPlace, head_bytes, made_head}
+use Rattle.made_law.proofs.patterns.Denoting.{head_law, text_law}
+use Rattle.made_law.proofs.patterns.Behind.{no_pattern_fault}
 use Rattle.made_law.specs.Laws.{BesideHeadLaw, PatternsLaw}
 
 -- the text of the head

@@ -6,7 +6,7 @@ use Rattle.design_files.specs.Faults.{HoldsInFiles}
 use Rattle.play_report.specs.Files.{IsHeadText}
 use Rattle.play_report.specs.Faults.{IsPatternFault}
 use Rattle.design_maker.specs.MadeStil.{stil_text}
-use Rattle.made_files.specs.Laws.{made_texts}
+use Rattle.made_law.specs.Files.Laws.{made_texts}
 
 -- with its files beside the head of its patterns, which is the text before the first Pattern
 abbrev pub BesideHeadLaw : Type 0

@@ -11,7 +11,7 @@ use Rattle.wire_cost.specs.declared.ends.Ends.{Ends}
 use Rattle.wire_cost.specs.Lengths.{ChainEnds, chain_ends, first_of, link_of}
 use Rattle.wire_cost.specs.Rows.{before_at, next_at}
 use Rattle.wire_cost.proofs.Walks.{end_of-take, entry_at, exit_at}
-use Rattle.place_blocks.specs.Covers.{link_at}
+use Rattle.partition_moves.specs.Covers.{link_at}
 use Rattle.order_search.specs.Trials.{IsGain, at}
 use Rattle.partition_moves.specs.Links.{IsCloserBy}
 use Rattle.partition_moves.specs.Quiet.{HasNoSwap, NoCloserSwap}

@@ -11,7 +11,7 @@ use Rattle.chain_rules.proofs.Steps.{with_chain_other, with_chain_same}
 use Rattle.wire_cost.specs.declared.ends.Ends.{Ends}
 use Rattle.wire_cost.specs.Lengths.{ChainEnds, chain_ends, end_of, first_of, link_of, plan_length_of}
 use Rattle.wire_cost.specs.Rows.{before_at, next_at}
-use Rattle.place_blocks.specs.Covers.{link_at}
+use Rattle.partition_moves.specs.Covers.{link_at}
 use Rattle.order_search.specs.Trials.{IsGain, NoMoveTo, at}
 use Rattle.partition_moves.specs.Links.{IsApart, IsLift, IsShorterAt, Lands, NoMoveAt}
 use Rattle.partition_moves.specs.Quiet.{NoMoveBetween}

@@ -5,3 +5,5 @@ pub mod Within
 pub mod Links
 pub mod Straight
 pub mod Quiet
+pub mod Areas
+pub mod Covers

@@ -6,7 +6,7 @@ use Rattle.chain_rules.specs.declared.unit.Rules.{Rules}
 use Rattle.wire_cost.specs.declared.ends.Ends.{Ends}
 use Rattle.wire_cost.specs.Lengths.{ChainEnds, IsNear, chain_ends, link_of}
 use Rattle.wire_cost.specs.Rows.{before_at, next_at}
-use Rattle.place_blocks.specs.Covers.{link_at}
+use Rattle.partition_moves.specs.Covers.{link_at}
 use Rattle.order_search.specs.Trials.{IsGain, at}
 use Rattle.partition_moves.specs.declared.lift.Lift.{Lift}
 

@@ -4,7 +4,7 @@ use Rattle.chain_rules.specs.declared.unit.Rules.{Rules}
 use Rattle.wire_cost.specs.declared.ends.Ends.{Ends}
 use Rattle.wire_cost.specs.Lengths.{ChainEnds, link_of}
 use Rattle.wire_cost.specs.Rows.{before_at, next_at}
-use Rattle.place_blocks.specs.Covers.{link_at}
+use Rattle.partition_moves.specs.Covers.{link_at}
 
 -- no unit is left farther from where it is entered
 abbrev pub AreNarrow : Rules → Ends → ℕ → Type 0

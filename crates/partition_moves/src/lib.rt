@@ -1,9 +1,10 @@
 //! Settles plans for all steps: reversed runs, units moved to another place, and units of two chains exchanged.
 //!
-//! Floor: planning, on chain_rules, wire_cost, place_blocks, order_search and base_types.
+//! Floor: planning, on chain_rules, wire_cost, order_search and base_types.
 //! Contract: a settled plan is what `order_search/specs/Steps.antt` says. Begin with `settle.rt`.
 #![tactic(auto)]
 
+mod blocks;
 mod held;
 mod lift;
 mod moves;
@@ -15,5 +16,6 @@ mod straight;
 mod swaps;
 mod work;
 
+pub use blocks::{Area, Block, PLACES, fill_blocks, least_links, no_block};
 pub use room::Room;
 pub use settle::{settle_all, settle_all_within};

@@ -3,11 +3,11 @@
 //! The places of a chain go by blocks: where the bounds of a block leave no gain, none of its places is tested.
 ghost use Rattle.std.specs.Prelude.{◌≡◌, ℕ, ◌+◌, ◌*◌, ◌<◌, ◌≤◌, ◌↔◌, List, length, slice_get, Some, IfSome, IfNone, IsTrue};
 ghost use Rattle.wire_cost.specs.Lengths.{ArePlaced, ChainEnds, IsChainAt, chain_ends};
-ghost use Rattle.place_blocks.specs.Covers.{AreBlocks, Covers, IsNearBlock};
+ghost use Rattle.partition_moves.specs.Covers.{AreBlocks, Covers, IsNearBlock};
 ghost use Rattle.partition_moves.specs.Links.{IsCloserAt, IsLift, IsShorterAt, IsSmallLift};
 
+use crate::{Block, PLACES, least_links};
 use base_types::Point;
-use place_blocks::{Block, PLACES, least_links};
 use wire_cost::{Ends, entry_of, exit_of, point_after, point_before, wire};
 
 /// A unit that is taken out of a chain, with lengths in half database units.

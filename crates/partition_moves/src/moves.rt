@@ -5,7 +5,7 @@ ghost use Rattle.std.specs.Prelude.{◌≡◌, ℕ, ◌+◌, ◌*◌, ◌<◌, �
 ghost use Rattle.chain_rules.specs.Legality.{IsLegal, IsOpen, chain_at, moved_plan, rule_at, taken_out};
 ghost use Rattle.wire_cost.specs.declared.ends.Ends.{Ends as ChainPlaces};
 ghost use Rattle.wire_cost.specs.Lengths.{chain_ends, plan_length_of};
-ghost use Rattle.place_blocks.specs.Covers.{AreBlocks};
+ghost use Rattle.partition_moves.specs.Covers.{AreBlocks};
 ghost use Rattle.order_search.specs.Searches.{AreSearchable};
 ghost use Rattle.order_search.specs.Trials.{IsGain, NoMoveTo, at};
 ghost use Rattle.partition_moves.specs.Links.{IsApart, Lands};
@@ -16,8 +16,8 @@ ghost use Rattle.partition_moves.specs.Together.{AreTogetherBy};
 use crate::lift::{Lift, lift_of, shorter_place};
 use crate::partitions::{Partitions, are_together};
 use crate::work::Work;
+use crate::{Block, fill_blocks};
 use chain_rules::{Position, Rules};
-use place_blocks::{Block, fill_blocks};
 use wire_cost::Ends;
 
 /// Whether a unit of chain c may be put into chain d, by their partitions and the kept numbers.

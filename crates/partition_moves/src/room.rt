@@ -4,9 +4,9 @@ ghost use Rattle.chain_rules.specs.Legality.{IsLegal};
 
 use crate::partitions::Partitions;
 use crate::work::Work;
+use crate::{Block, PLACES, no_block};
 use base_types::NoMemory;
 use chain_rules::{Plan, Rules};
-use place_blocks::{Block, PLACES, no_block};
 use std::alloc::Global;
 use wire_cost::Sums;
 

@@ -9,6 +9,7 @@ ghost use Rattle.partition_moves.specs.Roomy.{IsKept};
 ghost use Rattle.partition_moves.specs.Together.{AreTogetherBy};
 ghost use Rattle.partition_moves.specs.Within.{IsRoomFor};
 
+use crate::Block;
 use crate::moves::move_pass;
 use crate::partitions::Partitions;
 use crate::room::Room;
@@ -16,7 +17,6 @@ use crate::swaps::swap_pass;
 use crate::work::Work;
 use base_types::NoMemory;
 use chain_rules::{Plan, Rules};
-use place_blocks::Block;
 use std::alloc::Global;
 use wire_cost::{Ends, Sums};
 

@@ -5,7 +5,7 @@
 ghost use Rattle.std.specs.Prelude.{◌≡◌, ◌≢◌, ℕ, ◌+◌, ◌*◌, ◌^◌, ◌<◌, ◌≤◌, ◌↔◌, cond, length, slice_set, IfSome, IfNone, IsTrue};
 ghost use Rattle.chain_rules.specs.Legality.{IsIn, IsLegal, chain_at, swapped_plan, with_chain};
 ghost use Rattle.wire_cost.specs.Lengths.{chain_ends, plan_length_of};
-ghost use Rattle.place_blocks.specs.Covers.{AreBlocks};
+ghost use Rattle.partition_moves.specs.Covers.{AreBlocks};
 ghost use Rattle.order_search.specs.Searches.{AreSearchable};
 ghost use Rattle.order_search.specs.Trials.{IsGain, at};
 ghost use Rattle.partition_moves.specs.Links.{NoCloserSwapAt};
@@ -18,8 +18,8 @@ use crate::lift::{closer_place, unplaced};
 use crate::partitions::{Partitions, are_together};
 use crate::straight::{is_straight, widest_unit};
 use crate::work::Work;
+use crate::{Block, fill_blocks};
 use chain_rules::{Position, Rules};
-use place_blocks::{Block, fill_blocks};
 use wire_cost::{Ends, entry_of, exit_of, point_after, point_before, wire};
 
 /// Whether an exchange that is told to be shorter or not is also legal.

@@ -4,7 +4,7 @@
 //! prints only what is the same on every machine. With two numbers, of cells and of calls, it prints
 //! calls and megabytes of characters in a second, over all calls and at the fastest.
 //!
-//! Floor: benches, on stil_types, stil_tester, retarget, call_checks, base_types and `anyhow`.
+//! Floor: benches, on stil_types, stil_tester, retarget, base_types and `anyhow`.
 #![tactic(auto)]
 
 ghost use Rattle.std.specs.Prelude.{◌≡◌, IfOk, length};
@@ -15,7 +15,6 @@ mod plain;
 
 use anyhow::{Context, Result, bail, ensure};
 use base_types::Text;
-use call_checks::{are_chains, is_call_for};
 use made::{Numbers, cut, full_call, lengths, shuffled};
 use plain::agree_from_turns;
 use retarget::{Map, judge_call, map_of, retarget_call};
@@ -23,7 +22,7 @@ use std::alloc::Global;
 use std::env;
 use std::rt::Clock;
 use std::time::Instant;
-use stil_tester::Chains;
+use stil_tester::{Chains, are_chains, is_call_for};
 use stil_types::ScanCall;
 
 /// Calls that differ; the rounds go through them in turn.

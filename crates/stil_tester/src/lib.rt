@@ -9,6 +9,7 @@
 
 mod chain_call;
 mod chains;
+mod checks;
 mod device;
 mod keeper;
 mod laws;
@@ -20,6 +21,7 @@ mod shift;
 mod symbol;
 
 pub use chains::{ChainBits, Chains};
+pub use checks::{are_chains, call_by_shifts, is_call_for};
 pub use device::{Device, Hold, Mix, Told};
 pub use laws::{device_law, meaning_law};
 pub use player::Player;

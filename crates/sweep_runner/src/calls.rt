@@ -3,12 +3,11 @@ ghost use Rattle.std.specs.Prelude.{◌≡◌, IfOk, IfSome};
 ghost use Rattle.stil_tester.specs.Shifting.{AreChains};
 
 use base_types::{NoMemory, Rows, Text};
-use call_checks::{are_chains, is_call_for};
 use retarget::{judge_call, map_of, retarget_call};
 use row_forms::Cases;
 use std::alloc::Global;
 use std::fmt::Write;
-use stil_tester::{ChainBits, Chains};
+use stil_tester::{ChainBits, Chains, are_chains, is_call_for};
 use stil_types::ScanCall;
 
 /// Chains as read and as written, by the digits of their cells, with a `~` before each at which a symbol is flipped, and at

@@ -4,7 +4,7 @@
 //! The subject `wrong` holds a case for each way in which a comparison can fail; each of them must be printed.
 //!
 //! Floor: tests, on row_forms, lane_kernels, chain_rules, wire_cost, order_search, partition_moves, plan_search,
-//! stil_types, stil_tester, retarget, call_checks, design_maker and base_types.
+//! stil_types, stil_tester, retarget, design_maker and base_types.
 #![tactic(auto)]
 
 mod calls;

@@ -5,11 +5,10 @@ ghost use Rattle.stil_tester.specs.Shifting.{AreChains};
 
 use crate::calls::{call_by, chains_of};
 use base_types::{NoMemory, Rows, Text};
-use call_checks::is_call_for;
 use row_forms::Cases;
 use std::alloc::Global;
 use std::fmt::Write;
-use stil_tester::{Chains, Device, Hold, Mix, Player, Symbol, play, scan_call};
+use stil_tester::{Chains, Device, Hold, Mix, Player, Symbol, is_call_for, play, scan_call};
 use stil_types::{BodyStatement, PatternStatement};
 
 /// Chains as in `calls`, a load, a compare, whether the device mixes, and whether both are in a Loop that runs twice; what comes:

@@ -16,11 +16,10 @@ ghost use Rattle.stil_tester.specs.Shifting.{AreChains, IsCallFor};
 
 use crate::calls::call_of;
 use base_types::{Kind, NoMemory, Rows, Text};
-use call_checks::{are_chains, call_by_shifts, is_call_for};
 use retarget::{judge_call, map_of, retarget_call};
 use row_forms::Cases;
 use std::alloc::Global;
-use stil_tester::{ChainBits, Chains, Symbol, scan_call};
+use stil_tester::{ChainBits, Chains, Symbol, are_chains, call_by_shifts, is_call_for, scan_call};
 use stil_types::ScanCall;
 
 /// None given, and the strings of at most four of three characters.

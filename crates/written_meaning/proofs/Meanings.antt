@@ -26,8 +26,8 @@ use Rattle.stil_written.specs.Laws.{HasMeaning, IsFront}
 use Rattle.stil_written.proofs.Fronts.{head_front_law}
 use Rattle.stil_written.proofs.Turns.{comes-ended}
 use Rattle.pattern_laws.specs.Laws.{SamePorts}
-use Rattle.pattern_meaning.specs.Laws.{AreDeclared, retargeted_form}
-use Rattle.pattern_meaning.proofs.Meanings.{meaning_law, front_law}
+use Rattle.written_meaning.specs.Patterns.Laws.{AreDeclared, retargeted_form}
+use Rattle.written_meaning.proofs.patterns.Meanings.{meaning_law, front_law}
 use Rattle.retarget.specs.Moved.{moved_call}
 use Rattle.retarget.specs.Places.{longest}
 use Rattle.retarget.specs.Retargeting.{HaveSameCells}

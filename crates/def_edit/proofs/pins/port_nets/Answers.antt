@@ -1,4 +1,4 @@
-use Rattle.pin_moves.specs.Moved.{moving_pin, is_port}
+use Rattle.def_edit.specs.Moved.{moving_pin, is_port}
 use Rattle.def_edit.proofs.Steps.{ports_more}
 use Rattle.def_edit.proofs.pins.port_nets.Goals as goal
 

@@ -1,6 +1,6 @@
 use Rattle.std.proofs.Common.{◌∙◌, List, ap}
 use Rattle.std.specs.Prelude.{option_map, slice_get}
-use Rattle.def_alike.specs.Changes.{NetWords}
+use Rattle.def_edit.specs.Alike.Changes.{NetWords}
 use Rattle.def_edit.specs.declared.nets.NetRow.{NetRow}
 use Rattle.def_edit.specs.Lookups.{rows_of}
 use Rattle.def_edit.proofs.Steps.{word_some, word_none}

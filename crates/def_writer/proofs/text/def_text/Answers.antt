@@ -1,15 +1,15 @@
 use Rattle.std.proofs.Common.{List, sym, ap, ◌∙◌, subst}
 use Rattle.chain_rules.specs.declared.spec.ChainSpec.{ChainSpec}
-use Rattle.pin_moves.specs.declared.moves.PinMove.{PinMove}
-use Rattle.pin_moves.specs.Moved.{AreMovesIn}
+use Rattle.def_edit.specs.declared.pin_moves.PinMove.{PinMove}
+use Rattle.def_edit.specs.Moved.{AreMovesIn}
 use Rattle.design_elements.specs.Elements.{chain_specs}
 use Rattle.chain_rules.specs.Rules.{AreRulesOf}
 use Rattle.traced_paths.specs.Numbers.{path_specs}
 use Rattle.std.specs.Prelude.{Some}
 use Rattle.std.proofs.lemmas.Result.{IfOk-weaker}
-use Rattle.design_moves.proofs.Once.{once_law}
-use Rattle.design_moves.proofs.Made.{made_law, moved_law}
-use Rattle.design_moves.proofs.Standing.{standing_law}
+use Rattle.def_writer.proofs.moved.Once.{once_law}
+use Rattle.def_writer.proofs.moved.Made.{made_law, moved_law}
+use Rattle.def_writer.proofs.moved.Standing.{standing_law}
 use Rattle.def_edit.specs.NewChains.{AreNewChains}
 use Rattle.def_edit.specs.declared.text.DefOut.{DefOut}
 use Rattle.def_edit.specs.MovedText.{DenotesMoved}

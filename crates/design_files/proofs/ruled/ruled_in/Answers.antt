@@ -7,7 +7,7 @@ use Rattle.chain_rules.specs.Stretches.{AreChainSpecs}
 use Rattle.traced_paths.specs.Asked.{asked_by}
 use Rattle.traced_paths.specs.Numbers.{path_specs, step_count}
 use Rattle.design_elements.specs.Elements.{chain_specs}
-use Rattle.check_laws.specs.Laws.{AreChecked}
+use Rattle.design_files.specs.Laws.{AreChecked}
 use Rattle.design_files.proofs.ruled.ruled_in.Goals as goal
 
 pub rules_beside-requires-clause-belong : goal.rules_beside-requires-clause-belong

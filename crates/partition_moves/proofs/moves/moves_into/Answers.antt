@@ -2,7 +2,7 @@ use Rattle.std.proofs.Common.{ℕ, Bool, List, length, ap, arith, cond, refl, su
 use Rattle.chain_rules.specs.declared.plan.Plan.{Plan}
 use Rattle.partition_moves.specs.Quiet.{NoMoveBetween}
 use Rattle.wire_cost.specs.Lengths.{chain_ends}
-use Rattle.place_blocks.specs.Covers.{AreBlocks}
+use Rattle.partition_moves.specs.Covers.{AreBlocks}
 use Rattle.order_search.proofs.Legal.{chain_few}
 use Rattle.partition_moves.proofs.Landing.{no_move_across}
 use Rattle.partition_moves.proofs.Grouped.{quiet_after}

@@ -1,7 +1,7 @@
 use Rattle.std.proofs.Common.{◌≡◌, ℕ, ◌+◌, ◌<◌, ◌≤◌, cond, false, length}
 use Rattle.chain_rules.specs.Legality.{IsLegal, chain_at}
 use Rattle.wire_cost.specs.Lengths.{chain_ends, plan_length_of}
-use Rattle.place_blocks.specs.Covers.{AreBlocks}
+use Rattle.partition_moves.specs.Covers.{AreBlocks}
 use Rattle.partition_moves.specs.Links.{NoCloserSwapAt}
 use Rattle.partition_moves.specs.Roomy.{IsKept}
 use Rattle.partition_moves.proofs.swaps.swaps_between.Given as goal

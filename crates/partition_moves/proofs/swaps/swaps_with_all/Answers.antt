@@ -1,7 +1,7 @@
 use Rattle.std.proofs.Common.{ℕ, Bool, List, length, ap, arith, cond, refl, subst, sym, ◌∙◌}
 use Rattle.chain_rules.specs.declared.plan.Plan.{Plan}
 use Rattle.wire_cost.specs.Lengths.{chain_ends}
-use Rattle.place_blocks.specs.Covers.{AreBlocks}
+use Rattle.partition_moves.specs.Covers.{AreBlocks}
 use Rattle.order_search.proofs.Legal.{chain_few}
 use Rattle.partition_moves.specs.Quiet.{NoCloserSwap}
 use Rattle.partition_moves.proofs.Exchanged.{no_swap_across}

@@ -1,7 +1,0 @@
-use Rattle.std.proofs.Common.{take}
-use Rattle.std.specs.Prelude.{All}
-use Rattle.stil_types.specs.Calls.{IsStringOf, is_compare_character}
-use Rattle.call_checks.proofs.calls.are_compares.Given as goal
-
-abbrev pub invariant-loop-string : goal.invariant-loop-string
-invariant-loop-string l = All (IsStringOf is_compare_character) (take l.string-index l.strings)

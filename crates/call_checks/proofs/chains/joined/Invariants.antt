@@ -1,6 +1,0 @@
-use Rattle.std.proofs.Common.{◌≡◌, take}
-use Rattle.stil_tester.specs.Shifting.{numbers_of}
-use Rattle.call_checks.proofs.chains.joined.Given as goal
-
-abbrev pub invariant-loop-chain : goal.invariant-loop-chain
-invariant-loop-chain l = l.numbers.items ≡ numbers_of (take l.chain-index l.chains)

@@ -1,4 +1,0 @@
-pub mod Belong
-pub mod FewUnits
-pub mod Measured
-pub mod Placed

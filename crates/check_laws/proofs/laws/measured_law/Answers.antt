@@ -1,5 +1,0 @@
-use Rattle.check_laws.proofs.Belong.{measured}
-use Rattle.check_laws.proofs.laws.measured_law.Goals as goal
-
-pub returns : goal.returns
-returns c = record { law = measured c.elements_law.ensures.few c.elements_law.ensures.few_chains }

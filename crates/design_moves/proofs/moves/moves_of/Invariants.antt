@@ -1,7 +1,0 @@
-use Rattle.std.proofs.Common.{◌≡◌, take}
-use Rattle.std.specs.List.{filter_map}
-use Rattle.design_moves.specs.Sites.{move_by}
-use Rattle.design_moves.proofs.moves.moves_of.Given as goal
-
-abbrev pub invariant-loop-pair : goal.invariant-loop-pair
-invariant-loop-pair l = l.moves.items ≡ filter_map (move_by l.sites) (take l.pair-index l.pairs)

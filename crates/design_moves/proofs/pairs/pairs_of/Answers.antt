@@ -1,8 +1,0 @@
-use Rattle.std.proofs.Common.{arith}
-use Rattle.std.proofs.lemmas.Grind.{common_steps}
-use Rattle.std.proofs.lemmas.List.{map-append}
-use Rattle.std.proofs.lemmas.List.Elements.{filter_map-append}
-use Rattle.design_moves.proofs.pairs.pairs_of.Goals as goal
-
-pub loop-link-preserved : goal.loop-link-preserved
-loop-link-preserved c = grind (arith, common_steps, map-append, filter_map-append)

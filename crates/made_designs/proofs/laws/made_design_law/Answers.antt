@@ -1,5 +1,0 @@
-use Rattle.made_designs.proofs.Denoting.{design_denotes, design_faultless}
-use Rattle.made_designs.proofs.laws.made_design_law.Goals as goal
-
-pub returns : goal.returns
-returns c = record { design = design_denotes; no_fault = design_faultless }

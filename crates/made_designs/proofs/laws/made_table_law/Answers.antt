@@ -1,5 +1,0 @@
-use Rattle.made_designs.proofs.Table.{table_is, table_faultless}
-use Rattle.made_designs.proofs.laws.made_table_law.Goals as goal
-
-pub returns : goal.returns
-returns c = record { cells = table_is; no_fault = table_faultless }

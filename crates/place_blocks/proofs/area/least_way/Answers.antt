@@ -1,5 +1,0 @@
-use Rattle.place_blocks.proofs.Ways.{least_link}
-use Rattle.place_blocks.proofs.area.least_way.Goals as goal
-
-pub returns-clause-value : goal.returns-clause-value
-returns-clause-value c = least_link c.args.area.now c.args.point c.way_across.result c.way_upward.result c.if-area.false c.way_across.ensures.least c.way_upward.ensures.least c.way_across.ensures.one c.way_upward.ensures.one

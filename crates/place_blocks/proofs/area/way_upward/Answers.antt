@@ -1,6 +1,0 @@
-use Rattle.std.proofs.Common.{arith}
-use Rattle.std.proofs.lemmas.Int.{ints}
-use Rattle.place_blocks.proofs.area.way_upward.Goals as goal
-
-pub returns-clause-one : goal.returns-clause-one
-returns-clause-one c = λ h. (c.args.point.y, grind (arith, ints, c.if-point-area.false), grind (arith, ints, c.if-area-point.false), omega (arith, ints))
