@@ -4,7 +4,7 @@ ghost use Rattle.std.specs.Prelude.{◌≡◌, IfOk};
 use anyhow::{Context, Result, bail, ensure};
 use base_types::{Fault, Name, ReadFault, Rows};
 use cell_table::read_table;
-use chain_rewire::{Rewire, rewire_text};
+use rewire_command::{Rewire, rewire_text};
 use row_forms::place_text;
 use std::alloc::Global;
 

@@ -1,7 +1,7 @@
 //! Tries rows of tests whose call is a command over a desk in memory, and those of how a row can fail: prints each row that
 //! answers otherwise than it says, and how many rows each file has.
 //!
-//! Floor: tests, on row_forms, desk_io, cell_table, chain_rewire, scan_job, base_types, `anyhow` and `toml`.
+//! Floor: tests, on row_forms, desk_io, cell_table, rewire_command, scan_job, base_types, `anyhow` and `toml`.
 //! The words are the names of the files of rows, of which `row_forms` says the form.
 #![tactic(auto)]
 

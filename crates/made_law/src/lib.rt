@@ -1,6 +1,6 @@
 //! That nothing is wrong with made designs and their patterns, for every number of units.
 //!
-//! Floor: top, on netlist_core, cell_table, stil_types, stil_parts, stil_head, stil_reader, play_report, design_files,
+//! Floor: top, on netlist_core, cell_table, stil_types, stil_parts, stil_head, stil_reader, play_command, design_files,
 //! design_maker, base_types, def_tokens, def_syntax, def_layout, def_reader, lef_pins, token_forms, chain_trace,
 //! chain_rules, design_elements, traced_paths, design_places, head_checks, verilog_syntax, verilog_names,
 //! verilog_checks, verilog_reader, stil_tokens, stil_syntax, stil_blocks and stil_calls.

@@ -21,7 +21,7 @@ use Rattle.stil_reader.specs.Patterns.{names_in, statements_in, patterns_told}
 use Rattle.stil_tester.specs.declared.chains.Chains.{Chains}
 use Rattle.stil_tester.specs.Meaning.{PatternText}
 use Rattle.head_alike.specs.Erased.{head_tokens}
-use Rattle.play_report.specs.Progress.{Fits}
+use Rattle.play_command.specs.Progress.{Fits}
 use Rattle.same_files.specs.Meaning.{patterns_in, Means}
 use Rattle.same_files.specs.Cells.{StandApart}
 

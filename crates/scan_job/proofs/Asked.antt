@@ -20,8 +20,8 @@ use Rattle.scan_job.specs.declared.commands.verify.VerifyRequest.{VerifyRequest}
 use Rattle.scan_job.specs.declared.commands.failmap.FailmapRequest.{FailmapRequest}
 use Rattle.scan_job.specs.declared.commands.bench.BenchRequest.{BenchRequest}
 use Rattle.scan_job.specs.declared.commands.draw.DrawRequest.{DrawRequest}
-use Rattle.chain_reorder.specs.declared.goal.Goal.{Goal}
-use Rattle.chain_reorder.specs.declared.goal.Goal.TheVariants as goals
+use Rattle.reorder_command.specs.declared.goal.Goal.{Goal}
+use Rattle.reorder_command.specs.declared.goal.Goal.TheVariants as goals
 use Rattle.scan_job.specs.Commands.Reorder.{goal_verb}
 use Rattle.scan_job.specs.Commands.{Files}
 use Rattle.scan_job.specs.Requests as requests

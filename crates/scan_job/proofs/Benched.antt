@@ -20,16 +20,16 @@ use Rattle.stil_parts.specs.declared.gap.Comment.TheVariants.{Outside}
 use Rattle.stil_parts.specs.Heads.{head_end}
 use Rattle.same_files.proofs.Sets.{shown}
 use Rattle.same_files.proofs.OwnHeads.{IsOwnHead, own_head}
-use Rattle.play_report.specs.Files.{IsHeadText}
+use Rattle.play_command.specs.Files.{IsHeadText}
 use Rattle.design_files.specs.Files.{Texts, with_head}
 use Rattle.design_files.specs.Faults.{HoldsInFiles, IsFilesFault}
 use Rattle.written_meaning.specs.Laws.{MeaningLaw}
 use Rattle.retargeted_patterns.specs.declared.figures.PatternFigures.{PatternFigures}
 use Rattle.retargeted_patterns.specs.Figures.{figures_of}
 use Rattle.retargeted_patterns.specs.Progress.{Progress, after_all, at_first, FiguresLaw}
-use Rattle.chain_reorder.specs.declared.reorder.Reordered.{Reordered}
-use Rattle.chain_reorder.specs.declared.patterns.PatternPlan.{PatternPlan}
-use Rattle.chain_reorder.specs.PatternPlans.{IsReorderedWith}
+use Rattle.reorder_command.specs.declared.reorder.Reordered.{Reordered}
+use Rattle.reorder_command.specs.declared.patterns.PatternPlan.{PatternPlan}
+use Rattle.reorder_command.specs.PatternPlans.{IsReorderedWith}
 use Rattle.scan_job.specs.declared.patterns.Made.{Made}
 use Rattle.scan_job.specs.Commands.Patterns.{HoldsInRetargeting, all_figures_text}
 use Rattle.scan_job.specs.Commands.Bench.{IsSaid, full_reorder}

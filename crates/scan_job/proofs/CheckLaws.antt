@@ -3,7 +3,7 @@ use Rattle.std.proofs.Common.{◌≡◌, true, false, List, [], ◌∷◌, lengt
 use Rattle.desk_io.specs.declared.slot.Slot.TheVariants.{Table, Lef, Verilog, Def}
 use Rattle.design_files.specs.Files.{Texts}
 use Rattle.design_files.specs.Faults.{IsFilesFault}
-use Rattle.check_report.specs.Checks.{IsCheckText}
+use Rattle.check_command.specs.Checks.{IsCheckText}
 use Rattle.scan_words.specs.declared.verb.Verb.TheVariants as verbs
 use Rattle.scan_words.specs.declared.table.OptionName.TheVariants as options
 use Rattle.scan_words.specs.Form.{Text}

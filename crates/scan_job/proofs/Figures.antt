@@ -1,6 +1,6 @@
 -- Lines of figures appended one by one to a text.
 use Rattle.std.proofs.Common.{◌≡◌, ℕ, List, [], ◌++◌, codes, ap, ◌∙◌, append_assoc}
-use Rattle.chain_reorder.specs.declared.figures.Figures.{Figures}
+use Rattle.reorder_command.specs.declared.figures.Figures.{Figures}
 use Rattle.retargeted_patterns.specs.declared.figures.PatternFigures.{PatternFigures}
 use Rattle.scan_job.specs.Commands.Reorder.{figure_line, measured_text, cut_text, figures_text}
 use Rattle.scan_job.specs.Commands.Patterns.{pattern_lines, all_figures_text}

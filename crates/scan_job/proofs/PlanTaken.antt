@@ -23,16 +23,16 @@ use Rattle.stil_stream.specs.Streams.{Streaming, fault_of, fresh}
 use Rattle.stil_input.specs.declared.input.StilStop.{StilStop}
 use Rattle.stil_input.specs.declared.input.StilStop.TheVariants.{Fault as OfText, Read, NoMemory}
 use Rattle.stil_input.specs.Inputs.{coming, HasDrawn, HasDrawnAndFailed, Says, GivesHead, stop_of}
-use Rattle.chain_reorder.specs.declared.goal.Goal.{Goal}
+use Rattle.reorder_command.specs.declared.goal.Goal.{Goal}
 use Rattle.design_files.specs.Files.{Texts, with_head, IsHeadIn}
 use Rattle.design_files.specs.Faults.{HoldsInFiles, IsFilesFault}
 use Rattle.design_files.proofs.Layers.{layered, least_number, rises}
 use Rattle.design_files.proofs.LayerKinds.{among}
-use Rattle.chain_reorder.specs.declared.reorder.Reordered.{Reordered}
-use Rattle.chain_reorder.specs.declared.patterns.PatternPlan.{PatternPlan}
-use Rattle.chain_reorder.specs.PatternPlans.{ArePatternsPlanned, IsReorderedWith}
+use Rattle.reorder_command.specs.declared.reorder.Reordered.{Reordered}
+use Rattle.reorder_command.specs.declared.patterns.PatternPlan.{PatternPlan}
+use Rattle.reorder_command.specs.PatternPlans.{ArePatternsPlanned, IsReorderedWith}
 use Rattle.pattern_warnings.specs.declared.warnings.PatternWarnings.{PatternWarnings}
-use Rattle.play_report.specs.Files.{IsHeadText}
+use Rattle.play_command.specs.Files.{IsHeadText}
 use Rattle.scan_job.specs.declared.commands.patterns.PatternsRequest.{PatternsRequest}
 use Rattle.scan_job.specs.declared.patterns.Made.{Made}
 use Rattle.scan_job.specs.declared.stop.Stop.{Stop}
@@ -44,7 +44,7 @@ use Rattle.scan_job.specs.Phases.{HasSaid}
 use Rattle.scan_job.specs.Retargeting.{IsFaultBefore, IsRetargetingFault, HasPlanned}
 use Rattle.scan_job.specs.PatternPhases.{design_of, HasReadPatterns, HasFailedAtPatterns, HasRunOutAtPatterns, HasFinishedPatterns}
 use Rattle.scan_job.proofs.Played.{any_head, told_if, comes_whole, no_head, head_text_is, head_shows, one_text}
-use Rattle.play_report.proofs.PatternKinds.{pattern_late}
+use Rattle.play_command.proofs.PatternKinds.{pattern_late}
 
 -- the kinds of the design's faults come before those of patterns
 

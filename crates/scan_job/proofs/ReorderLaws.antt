@@ -4,8 +4,8 @@ use Rattle.std.specs.Str.{bytes_eq}
 use Rattle.std.proofs.lemmas.Slice.Eq.{bytes_eq-Decides}
 use Rattle.order_search.specs.declared.effort.Effort.{Effort}
 use Rattle.order_search.specs.declared.effort.Effort.TheVariants as efforts
-use Rattle.chain_reorder.specs.declared.goal.Goal.{Goal}
-use Rattle.chain_reorder.specs.declared.goal.Goal.TheVariants as goals
+use Rattle.reorder_command.specs.declared.goal.Goal.{Goal}
+use Rattle.reorder_command.specs.declared.goal.Goal.TheVariants as goals
 use Rattle.desk_io.specs.declared.slot.Slot.TheVariants.{Table, Lef, Verilog, Def}
 use Rattle.design_files.specs.Files.{Texts}
 use Rattle.design_files.specs.Faults.{IsFilesFault}

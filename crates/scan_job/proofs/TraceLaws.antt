@@ -1,7 +1,7 @@
 -- The laws of `trace`: its values make one request, which looks at its inputs alone.
 use Rattle.std.proofs.Common.{◌≡◌, ℕ, true, false, List, [], ◌∷◌, length, Some, refl, sym, ap, ◌∙◌, subst, arith}
 use Rattle.desk_io.specs.declared.slot.Slot.TheVariants.{Table, Verilog}
-use Rattle.path_report.specs.Reports.{IsPathText, IsPathFault}
+use Rattle.trace_command.specs.Reports.{IsPathText, IsPathFault}
 use Rattle.scan_words.specs.declared.verb.Verb.TheVariants as verbs
 use Rattle.scan_words.specs.declared.table.OptionName.TheVariants as options
 use Rattle.scan_words.specs.Form.{Text}

@@ -11,7 +11,7 @@ use Rattle.desk_io.specs.Inputs.{input_at}
 use Rattle.desk_io.specs.Outputs.{HasPutOutputs, HasStoppedPutting}
 use Rattle.stil_input.specs.declared.input.StilStop.TheVariants as causes
 use Rattle.design_files.specs.Files.{Texts}
-use Rattle.chain_reorder.specs.declared.patterns.PatternPlan.{PatternPlan}
+use Rattle.reorder_command.specs.declared.patterns.PatternPlan.{PatternPlan}
 use Rattle.retargeted_patterns.specs.declared.figures.PatternFigures.{PatternFigures}
 use Rattle.retargeted_patterns.specs.Progress.{Progress, at_first}
 use Rattle.scan_job.specs.declared.stop.Stop.{Stop}

@@ -12,10 +12,10 @@ use Rattle.stil_stream.specs.Streams.{Streaming, fault_of}
 use Rattle.stil_input.specs.declared.input.StilStop.{StilStop}
 use Rattle.stil_input.specs.declared.input.StilStop.TheVariants.{Fault as OfText, Read, NoMemory}
 use Rattle.stil_input.specs.Inputs.{coming, HasDrawn, HasDrawnAndFailed}
-use Rattle.play_report.specs.declared.device.DeviceKind.{DeviceKind}
-use Rattle.play_report.specs.Faults.{HoldsInPlay}
-use Rattle.play_report.specs.Files.{IsPlayText}
-use Rattle.play_report.specs.Progress.{Progress, after_sayings, finished}
+use Rattle.play_command.specs.declared.device.DeviceKind.{DeviceKind}
+use Rattle.play_command.specs.Faults.{HoldsInPlay}
+use Rattle.play_command.specs.Files.{IsPlayText}
+use Rattle.play_command.specs.Progress.{Progress, after_sayings, finished}
 use Rattle.scan_job.specs.Faults.{size_fault}
 
 -- no head of the STIL text shows within the limit, or this is the first fault of the files

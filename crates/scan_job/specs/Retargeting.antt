@@ -18,11 +18,11 @@ use Rattle.stil_calls.specs.Scans.{bits_of}
 use Rattle.stil_tester.specs.Shifting.{bit_counts}
 use Rattle.stil_input.specs.Inputs.{Draws, coming, HasDrawn, HasDrawnAndFailed}
 use Rattle.stil_written.specs.Written.{Form, written_says}
-use Rattle.chain_reorder.specs.declared.patterns.PatternPlan.{PatternPlan}
-use Rattle.chain_reorder.specs.PatternPlans.{IsReorderedWith}
+use Rattle.reorder_command.specs.declared.patterns.PatternPlan.{PatternPlan}
+use Rattle.reorder_command.specs.PatternPlans.{IsReorderedWith}
 use Rattle.design_files.specs.Faults.{HoldsInFiles}
-use Rattle.play_report.specs.Files.{IsHeadText}
-use Rattle.chain_reorder.specs.declared.goal.Goal.{Goal}
+use Rattle.play_command.specs.Files.{IsHeadText}
+use Rattle.reorder_command.specs.declared.goal.Goal.{Goal}
 use Rattle.retarget.specs.Moved.{moved_call}
 use Rattle.stil_writer.specs.Loops.{written_with}
 use Rattle.retargeted_patterns.specs.declared.figures.PatternFigures.{PatternFigures}

@@ -9,8 +9,8 @@ ghost use Rattle.scan_job.specs.Texts.{AreTexts};
 ghost use Rattle.scan_job.specs.Phases.{AreInLimits};
 
 use base_types::{NoMemory, ReadFault};
-use chain_reorder::Progress;
 use desk_io::{Inputs, Names, Outputs};
+use reorder_command::Progress;
 use scan_words::Order;
 use std::alloc::Global;
 

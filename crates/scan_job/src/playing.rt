@@ -5,12 +5,12 @@ ghost use Rattle.stil_types.specs.Statements.{IsPlaced};
 ghost use Rattle.stil_calls.specs.Statements.{AreAccepted};
 ghost use Rattle.stil_reader.specs.Sayings.{Stated, named};
 ghost use Rattle.stil_input.specs.Inputs.{Draws};
-ghost use Rattle.play_report.specs.Progress.{after_saying, after_sayings};
+ghost use Rattle.play_command.specs.Progress.{after_saying, after_sayings};
 ghost use Rattle.scan_job.specs.Playing.{HasPlayed, HasPlayedOn};
 
 use base_types::{Name, NoMemory, Text};
 use desk_io::Desk;
-use play_report::{DeviceKind, Playing, progress_law};
+use play_command::{DeviceKind, Playing, progress_law};
 use std::alloc::Global;
 use stil_input::{Said, StilInput, StilStop};
 use stil_reader::PatternStatement;

@@ -1,5 +1,5 @@
-use chain_reorder::Progress;
 use desk_io::Desk;
+use reorder_command::Progress;
 
 /// A search whose desk is told how far it is.
 #[derive(Drop)]

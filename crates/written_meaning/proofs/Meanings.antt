@@ -45,8 +45,8 @@ use Rattle.head_text.proofs.Written.{head_law}
 use Rattle.head_fits.specs.Fits.{chains_for, FitLaw}
 use Rattle.head_fits.specs.Anew.{KeepsNames, AnewLaw}
 use Rattle.head_fits.proofs.PathNames.{count_all}
-use Rattle.chain_reorder.specs.Reordered.{AreSamePaths}
-use Rattle.chain_reorder.specs.PatternPlans.{AreMovable}
+use Rattle.reorder_command.specs.Reordered.{AreSamePaths}
+use Rattle.reorder_command.specs.PatternPlans.{AreMovable}
 use Rattle.written_meaning.specs.Meaning.{patterns_in, Means, KeepsMeaning}
 use Rattle.same_files.proofs.OwnHeads.{IsOwnHead}
 use Rattle.written_meaning.proofs.SameCells.{cells_are}

@@ -38,9 +38,9 @@ use Rattle.stil_types.specs.declared.head.StilHead.{StilHead}
 use Rattle.design_elements.specs.Elements.{chain_specs}
 use Rattle.design_files.specs.Files.{Texts, with_head}
 use Rattle.design_files.specs.Faults.{HoldsInFiles, OfTraced, OfHeads, OfBits}
-use Rattle.chain_reorder.specs.Reordered.{IsChecked}
-use Rattle.chain_reorder.specs.PatternPlans.{AreMovable}
-use Rattle.chain_reorder.proofs.Numbered.{numbers, free_outputs, outputs_apart}
+use Rattle.reorder_command.specs.Reordered.{IsChecked}
+use Rattle.reorder_command.specs.PatternPlans.{AreMovable}
+use Rattle.reorder_command.proofs.Numbered.{numbers, free_outputs, outputs_apart}
 
 all_from : {X : Type 0} (P : X → Type 0) (xs : List X) → ((x : X) → Has xs x → P x) → All P xs
 all_from P [] each = All-nil P

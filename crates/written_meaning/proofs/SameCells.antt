@@ -19,7 +19,7 @@ use Rattle.path_chains.specs.Numbered.{bits_along, bits_of_paths}
 use Rattle.path_chains.specs.Ranked.{name_of, key_of, key_cmp, comes_before, rank_of}
 use Rattle.path_chains.specs.Along.{HaveSameInstances}
 use Rattle.path_chains.proofs.Cells.{all_of_steps, bits_once, in_map, to_bits}
-use Rattle.chain_reorder.proofs.Heads.{Head, head, heads, head_at, scan_path_kept, out_pin_kept}
+use Rattle.reorder_command.proofs.Heads.{Head, head, heads, head_at, scan_path_kept, out_pin_kept}
 use Rattle.written_meaning.specs.Meaning.{NameSameCells}
 use Rattle.same_files.proofs.SameCounts.{same_count}
 

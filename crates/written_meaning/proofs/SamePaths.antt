@@ -18,7 +18,7 @@ use Rattle.stil_types.specs.declared.head.ScanChainDecl.{ScanChainDecl}
 use Rattle.traced_paths.specs.Asked.{Asked, asked_by_block, once_behind}
 use Rattle.traced_paths.specs.Traced.{ArePathsOf}
 use Rattle.pattern_laws.specs.Laws.{SamePorts}
-use Rattle.chain_reorder.specs.Reordered.{AreSamePaths}
+use Rattle.reorder_command.specs.Reordered.{AreSamePaths}
 use Rattle.head_fits.specs.Anew.{AreSameByNames}
 
 -- a path ends at a port that is driven

@@ -26,10 +26,10 @@ use Rattle.head_fits.specs.Anew.{KeepsNames, AnewLaw}
 use Rattle.design_files.specs.Files.{Texts, with_head}
 use Rattle.design_files.specs.Faults.{HoldsInFiles}
 use Rattle.net_edit.specs.declared.edits.Edits.{Edits}
-use Rattle.play_report.specs.Files.{IsHeadText}
-use Rattle.chain_reorder.specs.declared.patterns.PatternPlan.{PatternPlan}
-use Rattle.chain_reorder.specs.Reordered.{IsChecked, IsVerilogOf, AreSamePaths}
-use Rattle.chain_reorder.specs.PatternPlans.{IsPatternPlan, ArePatternsPlanned}
+use Rattle.play_command.specs.Files.{IsHeadText}
+use Rattle.reorder_command.specs.declared.patterns.PatternPlan.{PatternPlan}
+use Rattle.reorder_command.specs.Reordered.{IsChecked, IsVerilogOf, AreSamePaths}
+use Rattle.reorder_command.specs.PatternPlans.{IsPatternPlan, ArePatternsPlanned}
 use Rattle.written_meaning.specs.Meaning.{KeepsMeaning, form_of, patterns_in}
 use Rattle.written_meaning.specs.Laws.{MeaningLaw}
 use Rattle.same_files.proofs.OwnHeads.{own_head, told_is}

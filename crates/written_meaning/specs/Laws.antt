@@ -3,10 +3,10 @@ use Rattle.std.specs.Prelude.{◌≡◌, ℕ, List, Some, None}
 use Rattle.base_types.specs.declared.fault.Fault.{Fault}
 use Rattle.design_files.specs.Files.{Texts, with_head}
 use Rattle.design_files.specs.Faults.{HoldsInFiles}
-use Rattle.chain_reorder.specs.declared.patterns.PatternPlan.{PatternPlan}
-use Rattle.chain_reorder.specs.Reordered.{IsWrittenDesign}
-use Rattle.chain_reorder.specs.PatternPlans.{ArePlannedBeside}
-use Rattle.play_report.specs.Files.{IsHeadText}
+use Rattle.reorder_command.specs.declared.patterns.PatternPlan.{PatternPlan}
+use Rattle.reorder_command.specs.Reordered.{IsWrittenDesign}
+use Rattle.reorder_command.specs.PatternPlans.{ArePlannedBeside}
+use Rattle.play_command.specs.Files.{IsHeadText}
 use Rattle.stil_reader.specs.Sayings.{told_whole}
 use Rattle.stil_written.specs.Written.{written_says}
 use Rattle.written_meaning.specs.Meaning.{KeepsMeaning, form_of}

@@ -9,7 +9,7 @@ use Rattle.stil_written.specs.Readings.{reading}
 use Rattle.stil_written.specs.Written.{Form}
 use Rattle.stil_writer.specs.Loops.{written_with}
 use Rattle.retarget.specs.Moved.{moved_call}
-use Rattle.chain_reorder.specs.declared.patterns.PatternPlan.{PatternPlan}
+use Rattle.reorder_command.specs.declared.patterns.PatternPlan.{PatternPlan}
 -- what a text says behind its head, what it means on paths of a netlist, and bits that are the same by name
 pub use Rattle.same_files.specs.Meaning.{patterns_in, Means, NameSameCells}
 

@@ -2,7 +2,7 @@
 use Rattle.std.specs.Prelude.{◌≡◌, ℕ, ◌≤◌, false, List, [], ◌∷◌, ◌++◌, codes, decimal}
 use Rattle.base_types.specs.declared.fault.Fault.{Fault}
 use Rattle.order_search.specs.declared.effort.Effort.TheVariants as efforts
-use Rattle.chain_reorder.specs.declared.goal.Goal.TheVariants as goals
+use Rattle.reorder_command.specs.declared.goal.Goal.TheVariants as goals
 use Rattle.desk_io.specs.declared.outputs.Outputs.{Outputs}
 use Rattle.design_files.specs.Files.{Texts, texts_of}
 use Rattle.design_maker.specs.Made.{made_files}

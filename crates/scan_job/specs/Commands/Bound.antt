@@ -5,7 +5,7 @@ use Rattle.scan_words.specs.declared.verb.Verb.TheVariants as verbs
 use Rattle.scan_words.specs.Table.{value_list}
 use Rattle.design_files.specs.Files.{Texts}
 use Rattle.design_files.specs.Faults.{HoldsInFiles}
-use Rattle.bound_report.specs.Bounds.{IsBoundText}
+use Rattle.bound_command.specs.Bounds.{IsBoundText}
 use Rattle.scan_job.specs.declared.commands.bound.BoundRequest.{BoundRequest}
 use Rattle.scan_job.specs.Commands.{Command}
 use Rattle.scan_job.specs.Commands.Check.{design_in}

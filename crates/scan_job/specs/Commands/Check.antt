@@ -4,7 +4,7 @@ use Rattle.desk_io.specs.declared.slot.Slot.TheVariants.{Table, Lef, Verilog, De
 use Rattle.scan_words.specs.declared.verb.Verb.TheVariants as verbs
 use Rattle.design_files.specs.Files.{Texts, texts_of}
 use Rattle.design_files.specs.Faults.{HoldsInFiles}
-use Rattle.check_report.specs.Checks.{IsCheckText}
+use Rattle.check_command.specs.Checks.{IsCheckText}
 use Rattle.scan_job.specs.declared.commands.check.CheckRequest.{CheckRequest}
 use Rattle.scan_job.specs.Commands.{Files, Command}
 

@@ -3,8 +3,8 @@ use Rattle.std.specs.Prelude.{ℕ, false, List, [], ◌∷◌}
 use Rattle.base_types.specs.declared.fault.Fault.{Fault}
 use Rattle.desk_io.specs.declared.slot.Slot.TheVariants.{Table, Verilog, Stil, NewVerilog, NewStil, Log}
 use Rattle.scan_words.specs.declared.verb.Verb.TheVariants as verbs
-use Rattle.fail_report.specs.Faults.{HoldsInFailmap}
-use Rattle.fail_report.specs.Texts.{IsFailmapText}
+use Rattle.failmap_command.specs.Faults.{HoldsInFailmap}
+use Rattle.failmap_command.specs.Texts.{IsFailmapText}
 use Rattle.scan_job.specs.declared.commands.failmap.FailmapRequest.{FailmapRequest}
 use Rattle.scan_job.specs.Commands.{Files, Command}
 use Rattle.scan_job.specs.Commands.Verify.{Sets, sets_in}

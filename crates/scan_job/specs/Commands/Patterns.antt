@@ -12,12 +12,12 @@ use Rattle.stil_written.specs.Written.{written_says}
 use Rattle.retargeted_patterns.specs.Figures.{figures_of}
 use Rattle.design_files.specs.Files.{Texts, with_head}
 use Rattle.design_files.specs.Faults.{HoldsInFiles}
-use Rattle.chain_reorder.specs.declared.figures.Figures.{Figures}
-use Rattle.chain_reorder.specs.declared.patterns.PatternPlan.{PatternPlan}
-use Rattle.chain_reorder.specs.PatternPlans.{IsReorderedWith}
+use Rattle.reorder_command.specs.declared.figures.Figures.{Figures}
+use Rattle.reorder_command.specs.declared.patterns.PatternPlan.{PatternPlan}
+use Rattle.reorder_command.specs.PatternPlans.{IsReorderedWith}
 use Rattle.retargeted_patterns.specs.declared.figures.PatternFigures.{PatternFigures}
-use Rattle.play_report.specs.Files.{IsHeadText}
-use Rattle.play_report.specs.Faults.{IsPatternFault}
+use Rattle.play_command.specs.Files.{IsHeadText}
+use Rattle.play_command.specs.Faults.{IsPatternFault}
 use Rattle.written_meaning.specs.Meaning.{KeepsMeaning, form_of}
 use Rattle.scan_job.specs.declared.commands.patterns.PatternsRequest.{PatternsRequest}
 use Rattle.scan_job.specs.Commands.{Command}

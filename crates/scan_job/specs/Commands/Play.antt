@@ -3,10 +3,10 @@ use Rattle.std.specs.Prelude.{ℕ, true, List, [], ◌∷◌, codes}
 use Rattle.desk_io.specs.declared.slot.Slot.TheVariants.{Table, Verilog, Stil}
 use Rattle.desk_io.specs.Names.{Names}
 use Rattle.scan_words.specs.declared.verb.Verb.TheVariants as verbs
-use Rattle.play_report.specs.declared.device.DeviceKind.{DeviceKind}
-use Rattle.play_report.specs.declared.device.DeviceKind.TheVariants as devices
-use Rattle.play_report.specs.Faults.{HoldsInPlay}
-use Rattle.play_report.specs.Files.{IsPlayText}
+use Rattle.play_command.specs.declared.device.DeviceKind.{DeviceKind}
+use Rattle.play_command.specs.declared.device.DeviceKind.TheVariants as devices
+use Rattle.play_command.specs.Faults.{HoldsInPlay}
+use Rattle.play_command.specs.Files.{IsPlayText}
 use Rattle.scan_job.specs.declared.commands.play.PlayRequest.{PlayRequest}
 use Rattle.scan_job.specs.Commands.{Command}
 

@@ -11,12 +11,12 @@ use Rattle.scan_words.specs.declared.verb.Verb.TheVariants as verbs
 use Rattle.scan_words.specs.Form.{Text}
 use Rattle.design_files.specs.Files.{Texts}
 use Rattle.design_files.specs.Faults.{HoldsInFiles}
-use Rattle.chain_reorder.specs.declared.goal.Goal.{Goal}
-use Rattle.chain_reorder.specs.declared.goal.Goal.TheVariants as goals
-use Rattle.chain_reorder.specs.declared.figures.Figures.{Figures}
-use Rattle.chain_reorder.specs.declared.figures.Measured.{Measured}
-use Rattle.chain_reorder.specs.declared.figures.Measured.TheVariants.{Lengths, Longest}
-use Rattle.chain_reorder.specs.Reordered.{IsReordered}
+use Rattle.reorder_command.specs.declared.goal.Goal.{Goal}
+use Rattle.reorder_command.specs.declared.goal.Goal.TheVariants as goals
+use Rattle.reorder_command.specs.declared.figures.Figures.{Figures}
+use Rattle.reorder_command.specs.declared.figures.Measured.{Measured}
+use Rattle.reorder_command.specs.declared.figures.Measured.TheVariants.{Lengths, Longest}
+use Rattle.reorder_command.specs.Reordered.{IsReordered}
 use Rattle.scan_job.specs.declared.commands.reorder.ReorderRequest.{ReorderRequest}
 use Rattle.scan_job.specs.Commands.{Command}
 use Rattle.scan_job.specs.Commands.Check.{design_in}

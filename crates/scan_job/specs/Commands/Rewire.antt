@@ -4,9 +4,9 @@ use Rattle.std.specs.Fmt.{decimal}
 use Rattle.desk_io.specs.declared.slot.Slot.TheVariants.{Verilog, OutVerilog}
 use Rattle.desk_io.specs.declared.outputs.Outputs.{Outputs}
 use Rattle.scan_words.specs.declared.verb.Verb.TheVariants as verbs
-use Rattle.chain_rewire.specs.declared.rewire.Rewire.{Rewire}
-use Rattle.chain_rewire.specs.Faults.{HoldsInRewire}
-use Rattle.chain_rewire.specs.Rewiring.{IsRewired, AreErasedAlike, HasPath}
+use Rattle.rewire_command.specs.declared.rewire.Rewire.{Rewire}
+use Rattle.rewire_command.specs.Faults.{HoldsInRewire}
+use Rattle.rewire_command.specs.Rewiring.{IsRewired, AreErasedAlike, HasPath}
 use Rattle.scan_job.specs.declared.commands.rewire.RewireRequest.{RewireRequest}
 use Rattle.scan_job.specs.Commands.{Command}
 

@@ -2,7 +2,7 @@
 use Rattle.std.specs.Prelude.{false, [], ◌∷◌}
 use Rattle.desk_io.specs.declared.slot.Slot.TheVariants.{Table, Verilog}
 use Rattle.scan_words.specs.declared.verb.Verb.TheVariants as verbs
-use Rattle.path_report.specs.Reports.{HoldsInTrace, IsPathText}
+use Rattle.trace_command.specs.Reports.{HoldsInTrace, IsPathText}
 use Rattle.scan_job.specs.declared.commands.trace.TraceRequest.{TraceRequest}
 use Rattle.scan_job.specs.Commands.{Command}
 

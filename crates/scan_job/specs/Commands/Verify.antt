@@ -4,8 +4,8 @@ use Rattle.base_types.specs.declared.fault.Fault.{Fault}
 use Rattle.desk_io.specs.declared.slot.Slot.TheVariants.{Table, Verilog, Stil, NewVerilog, NewStil}
 use Rattle.scan_words.specs.declared.verb.Verb.TheVariants as verbs
 use Rattle.same_files.specs.Same.{AreSameFiles}
-use Rattle.verify_report.specs.Faults.{HoldsInVerify}
-use Rattle.verify_report.specs.Texts.{IsVerifyText, same_text}
+use Rattle.verify_command.specs.Faults.{HoldsInVerify}
+use Rattle.verify_command.specs.Texts.{IsVerifyText, same_text}
 use Rattle.scan_job.specs.declared.commands.verify.VerifyRequest.{VerifyRequest}
 use Rattle.scan_job.specs.Commands.{Files, Command}
 

@@ -5,9 +5,9 @@ ghost use Rattle.scan_job.specs.Commands.Bound.{AreRounds};
 use crate::commands::{Command, Whole};
 use crate::copying::{number_of, word_of};
 use base_types::{NoMemory, ReadFault, Word};
-use bound_report::bound_text;
-use chain_reorder::Progress;
+use bound_command::bound_text;
 use desk_io::{Inputs, Names, Outputs, Slot};
+use reorder_command::Progress;
 use scan_words::Order;
 use std::alloc::Global;
 

@@ -5,9 +5,9 @@ ghost use Rattle.scan_job.specs.Commands.Draw.{drawn_text};
 use crate::commands::{Command, Whole};
 use crate::copying::word_of;
 use base_types::{NoMemory, ReadFault, Text, Word};
-use chain_picture::draw_text;
-use chain_reorder::Progress;
 use desk_io::{Inputs, Names, Outputs, Slot};
+use draw_command::draw_text;
+use reorder_command::Progress;
 use scan_words::Order;
 use std::alloc::Global;
 

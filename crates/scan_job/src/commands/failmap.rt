@@ -4,9 +4,9 @@ ghost use Rattle.scan_job.specs.Requests as requests;
 use crate::commands::{Command, Whole};
 use crate::copying::word_of;
 use base_types::{NoMemory, ReadFault, Word};
-use chain_reorder::Progress;
 use desk_io::{Inputs, Names, Outputs, Slot};
-use fail_report::failmap_text;
+use failmap_command::failmap_text;
+use reorder_command::Progress;
 use scan_words::Order;
 use std::alloc::Global;
 

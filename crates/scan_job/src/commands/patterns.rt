@@ -8,8 +8,8 @@ use crate::commands::reorder::{
 };
 use crate::copying::word_of;
 use base_types::{NoMemory, Text, Word};
-use chain_reorder::{Figures, Goal};
 use desk_io::{Names, Slot};
+use reorder_command::{Figures, Goal};
 use retargeted_patterns::PatternFigures;
 use scan_words::Order;
 use std::alloc::Global;

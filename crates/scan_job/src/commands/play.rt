@@ -7,7 +7,7 @@ use crate::commands::Command;
 use crate::copying::word_of;
 use base_types::{NoMemory, Word};
 use desk_io::{Names, Slot};
-use play_report::DeviceKind;
+use play_command::DeviceKind;
 use scan_words::Order;
 use std::alloc::Global;
 

@@ -6,9 +6,9 @@ ghost use Rattle.scan_job.specs.Commands.Reorder.{design_request, figure_line, m
 use crate::commands::{Command, Whole};
 use crate::copying::word_of;
 use base_types::{Name, NoMemory, ReadFault, Rows, Text, Word};
-use chain_reorder::{Figures, Goal, Measured, Progress, reorder_texts};
 use desk_io::{Inputs, Names, Outputs, Slot};
 use order_search::Effort;
+use reorder_command::{Figures, Goal, Measured, Progress, reorder_texts};
 use scan_words::Order;
 use std::alloc::Global;
 

@@ -5,9 +5,9 @@ ghost use Rattle.scan_job.specs.Commands.Rewire.{rewire_of, moved_text};
 use crate::commands::{Command, Whole};
 use crate::copying::{copies_of, copy_of, name_of, names_in, word_of};
 use base_types::{Name, NoMemory, ReadFault, Rows, Text, Word};
-use chain_reorder::Progress;
-use chain_rewire::{Rewire, rewire_text};
 use desk_io::{Inputs, Names, Outputs, Slot};
+use reorder_command::Progress;
+use rewire_command::{Rewire, rewire_text};
 use scan_words::Order;
 use std::alloc::Global;
 

@@ -4,11 +4,11 @@ ghost use Rattle.scan_job.specs.Requests as requests;
 use crate::commands::{Command, Whole};
 use crate::copying::{name_of, word_of};
 use base_types::{Name, NoMemory, ReadFault, Word};
-use chain_reorder::Progress;
 use desk_io::{Inputs, Names, Outputs, Slot};
-use path_report::path_text;
+use reorder_command::Progress;
 use scan_words::Order;
 use std::alloc::Global;
+use trace_command::path_text;
 
 /// What the words of `trace` ask for, by the names of its options.
 #[derive(Debug, Drop)]

@@ -5,11 +5,11 @@ ghost use Rattle.scan_job.specs.Requests as requests;
 use crate::commands::{Command, Whole};
 use crate::copying::word_of;
 use base_types::{NoMemory, ReadFault, Word};
-use chain_reorder::Progress;
 use desk_io::{Inputs, Names, Outputs, Slot};
+use reorder_command::Progress;
 use scan_words::Order;
 use std::alloc::Global;
-use verify_report::{SetNames, difference_note, verify_text};
+use verify_command::{SetNames, difference_note, verify_text};
 
 /// What is said of two sets that are the same.
 const SAME: &[u8] = b"same\n";

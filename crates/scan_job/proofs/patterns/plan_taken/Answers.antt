@@ -5,9 +5,9 @@ use Rattle.base_types.specs.FirstFault.{IfFault}
 use Rattle.desk_io.specs.declared.slot.Slot.TheVariants.{Stil}
 use Rattle.design_files.specs.Files.{Texts, texts_with, with_head}
 use Rattle.design_files.specs.Faults.{HoldsInFiles, IsFilesFault}
-use Rattle.chain_reorder.specs.declared.reorder.Reordered.{Reordered}
-use Rattle.chain_reorder.specs.declared.patterns.PatternPlan.{PatternPlan}
-use Rattle.chain_reorder.specs.PatternPlans.{IsReorderedWith}
+use Rattle.reorder_command.specs.declared.reorder.Reordered.{Reordered}
+use Rattle.reorder_command.specs.declared.patterns.PatternPlan.{PatternPlan}
+use Rattle.reorder_command.specs.PatternPlans.{IsReorderedWith}
 use Rattle.scan_job.specs.PatternPhases.{design_of}
 use Rattle.scan_job.proofs.Played.{any_head}
 use Rattle.scan_job.proofs.PlanTaken.{plan_stopped, plan_refused, plan_ready}

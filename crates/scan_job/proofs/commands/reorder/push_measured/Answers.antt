@@ -1,5 +1,5 @@
 use Rattle.std.proofs.Common.{◌++◌, ap, sym, ◌∙◌}
-use Rattle.chain_reorder.specs.declared.figures.Measured.{Measured}
+use Rattle.reorder_command.specs.declared.figures.Measured.{Measured}
 use Rattle.scan_job.specs.Commands.Reorder.{measured_text}
 use Rattle.scan_job.proofs.Figures.{two_behind, three_behind}
 use Rattle.scan_job.proofs.commands.reorder.push_measured.Goals as goal

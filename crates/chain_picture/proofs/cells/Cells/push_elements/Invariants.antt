@@ -1,7 +1,0 @@
-use Rattle.std.proofs.Common.{◌≡◌, ◌++◌, drop}
-use Rattle.chain_picture.specs.Drawn.{element_cells}
-use Rattle.chain_picture.proofs.cells.Cells.push_elements.Given as goal
-
-abbrev pub invariant-loop-element : goal.invariant-loop-element
-invariant-loop-element l =
-    l.cells.items ++ element_cells l.self.0 l.self.1 (drop l.element-index l.elements) ≡ l.fn.cells.items ++ element_cells l.self.0 l.self.1 l.elements

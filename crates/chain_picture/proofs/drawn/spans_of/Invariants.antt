@@ -1,7 +1,0 @@
-use Rattle.std.proofs.Common.{◌≡◌, ◌++◌, drop}
-use Rattle.wire_cost.specs.Lengths.{chain_ends}
-use Rattle.chain_picture.specs.Drawn.{spans_of}
-use Rattle.chain_picture.proofs.drawn.spans_of.Given as goal
-
-abbrev pub invariant-loop-unit : goal.invariant-loop-unit
-invariant-loop-unit l = l.spans.items ++ spans_of l.rules (chain_ends l.ends l.chain) (drop l.unit-index l.units) ≡ spans_of l.rules (chain_ends l.ends l.chain) l.units

@@ -1,6 +1,0 @@
-use Rattle.std.proofs.Common.{◌≡◌, map, take}
-use Rattle.traced_paths.specs.Numbers.{path_bits}
-use Rattle.chain_reorder.proofs.fixed.path_bits_of.Given as goal
-
-abbrev pub invariant-loop-path : goal.invariant-loop-path
-invariant-loop-path l = l.bits.items ≡ map (path_bits l.netlist l.table) (take l.path-index l.paths)

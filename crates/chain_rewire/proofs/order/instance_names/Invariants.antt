@@ -1,6 +1,0 @@
-use Rattle.std.proofs.Common.{◌≡◌, map, take}
-use Rattle.chain_rewire.specs.Rewiring.{instance_name}
-use Rattle.chain_rewire.proofs.order.instance_names.Given as goal
-
-abbrev pub invariant-loop-step : goal.invariant-loop-step
-invariant-loop-step l = l.names ≡ map (instance_name l.netlist) (take l.step-index l.path.steps)

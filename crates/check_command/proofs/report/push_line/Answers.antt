@@ -1,0 +1,14 @@
+use Rattle.std.proofs.Common.{◌≤◌, ℕ, List, length, sym, subst, arith, ap}
+use Rattle.wire_cost.specs.Lengths.{IsChainAt}
+use Rattle.wire_cost.proofs.Plans.{chain_of_plan}
+use Rattle.check_command.proofs.report.push_line.Goals as goal
+
+pub bits_of-bits-requires : goal.bits_of-bits-requires
+bits_of-bits-requires c = record {
+  few =
+      subst (λ (us : List ℕ). length us ≤ 65536) (sym c.chain-units.ensures.value) (chain_of_plan c.args.ends.now c.args.rules.now.read c.args.number c.requires.within c.requires.plan).few;
+}
+
+pub wire_of-length-requires-clause-chain : goal.wire_of-length-requires-clause-chain
+wire_of-length-requires-clause-chain c =
+    subst (λ (us : List ℕ). IsChainAt c.args.ends.now c.args.number us) (sym c.chain-units.ensures.value) (chain_of_plan c.args.ends.now c.args.rules.now.read c.args.number c.requires.within c.requires.plan)
