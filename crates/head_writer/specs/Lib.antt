@@ -1,3 +1,5 @@
 pub mod Cells
 pub mod NewChains
 pub mod Noted
+pub mod Anew
+pub mod Fits

@@ -27,7 +27,7 @@ use Rattle.path_laws.specs.Laws.{AreDeclared, DeclaredLaw}
 use Rattle.head_text.specs.Written.{head_edits, written_head}
 use Rattle.head_text.specs.Laws.{TextLaw}
 use Rattle.head_writer.specs.NewChains.{new_chains}
-use Rattle.head_fits.specs.Fits.{FitLaw, chains_for}
+use Rattle.head_writer.specs.Fits.{FitLaw, chains_for}
 use Rattle.design_files.specs.declared.read.DesignFiles.{DesignFiles}
 use Rattle.design_files.specs.Files.{Texts, IsHeadIn}
 use Rattle.design_files.specs.Stages.{AreChecked}

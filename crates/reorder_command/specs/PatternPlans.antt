@@ -12,7 +12,7 @@ use Rattle.stil_calls.specs.Scans.{bits_of}
 use Rattle.stil_tester.specs.Shifting.{bit_counts}
 use Rattle.retarget.specs.Retargeting.{HaveSameCells}
 use Rattle.head_text.specs.Written.{written_head}
-use Rattle.head_fits.specs.Fits.{FitsPaths, AreNewFor, chains_for}
+use Rattle.head_writer.specs.Fits.{FitsPaths, AreNewFor, chains_for}
 use Rattle.plan_paths.specs.NewPaths.{new_paths}
 use Rattle.chain_rules.specs.declared.plan.Plan.{Plan}
 use Rattle.design_files.specs.declared.read.DesignFiles.{DesignFiles}

@@ -2,3 +2,4 @@ pub mod Sameness
 pub mod Patterns
 pub mod Sets
 pub mod Reruns
+pub mod Staying

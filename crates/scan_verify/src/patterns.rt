@@ -5,11 +5,11 @@ ghost use Rattle.stil_written.specs.Readings.{reading};
 ghost use Rattle.scan_verify.specs.Patterns.{IsReady, AreSameStatements, IsSamePlace, pattern_of, differing};
 ghost use Rattle.scan_verify.specs.Sets.{IsSameness, IsPlace};
 
+use crate::have_same_names;
 use crate::statement::{pattern_of, same_statement};
 use base_types::NoMemory;
 use retarget::Map;
 use std::alloc::Global;
-use stil_alike::have_same_names;
 use stil_reader::Stil;
 use stil_types::PatternStatement;
 

@@ -7,10 +7,10 @@ ghost use Rattle.stil_written.specs.Readings.{reading};
 ghost use Rattle.scan_verify.specs.Patterns.{IsReadyCall, IsReady, AreSameStatements, pattern_of};
 
 use crate::call::same_call;
+use crate::{have_same_heading, have_same_tokens};
 use base_types::NoMemory;
 use retarget::Map;
 use std::alloc::Global;
-use stil_alike::{have_same_heading, have_same_tokens};
 use stil_types::{BodyStatement, PatternStatement, ScanCall};
 
 /// Whether two Scans of these bytes have the same heading, and calls that do the same.

@@ -3,8 +3,8 @@ ghost use Rattle.std.specs.Prelude.{◌<◌, ◌^◌, length};
 
 use crate::notes::{SetNames, shown};
 use base_types::{NoMemory, line_of};
+use scan_verify::StayingTokens;
 use std::alloc::Global;
-use stil_alike::StayingTokens;
 use token_forms::Lexeme;
 
 /// What stands at a place of a head, as a user reads it: the file, the line, and the token; or that the head ends.

@@ -8,8 +8,8 @@ use crate::text::head_text;
 use crate::verify::read_new;
 use base_types::{Name, NoMemory, ReadFault};
 use same_files::{CellPair, PatternSet, ScanCell, first_other_cell, have_same_cells, read_set};
+use scan_verify::have_same_names;
 use std::alloc::Global;
-use stil_alike::have_same_names;
 
 /// The names by which a user knows two sets of files: those of their patterns.
 #[derive(Clone, Copy)]

@@ -7,8 +7,8 @@ use crate::places::first_place;
 use crate::text::head_text;
 use base_types::NoMemory;
 use same_files::{PatternSet, have_same_cells};
+use scan_verify::{have_same_names, same_head};
 use std::alloc::Global;
-use stil_alike::{have_same_names, same_head};
 
 /// Whether two sets, each with its STIL text of less than 4 GiB, are the same to a tester: equal
 /// heads but for lengths, inversions and cells, as many chains with the same scan cells, Patterns

@@ -10,8 +10,8 @@ use crate::places::{Place, first_place, one_more};
 use base_types::{Name, NoMemory, Text, plain_name};
 use itoa::Buffer;
 use same_files::{PatternSet, have_same_cells};
+use scan_verify::{have_same_names, same_head};
 use std::alloc::Global;
-use stil_alike::{have_same_names, same_head};
 
 /// The plain name of the Pattern of a number.
 fn pattern_name(alloc: Global, names: &[Name], pattern: u32) -> Result<Name, NoMemory>

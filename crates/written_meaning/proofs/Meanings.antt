@@ -42,9 +42,9 @@ use Rattle.head_text.specs.Laws.{read_names, FitChains, MayFollow, DenotesAnew}
 use Rattle.head_text.proofs.Lays.{take_front, drop_front}
 use Rattle.head_text.proofs.Texts.{text_law}
 use Rattle.head_text.proofs.Written.{head_law}
-use Rattle.head_fits.specs.Fits.{chains_for, FitLaw}
-use Rattle.head_fits.specs.Anew.{KeepsNames, AnewLaw}
-use Rattle.head_fits.proofs.PathNames.{count_all}
+use Rattle.head_writer.specs.Fits.{chains_for, FitLaw}
+use Rattle.head_writer.specs.Anew.{KeepsNames, AnewLaw}
+use Rattle.head_writer.proofs.fits.PathNames.{count_all}
 use Rattle.reorder_command.specs.Reordered.{AreSamePaths}
 use Rattle.reorder_command.specs.PatternPlans.{AreMovable}
 use Rattle.written_meaning.specs.Meaning.{patterns_in, Means, KeepsMeaning}

@@ -21,9 +21,9 @@ use Rattle.head_alike.specs.Heads.{AllSayAs}
 use Rattle.head_text.specs.Written.{NewChain, declared}
 use Rattle.head_text.specs.Laws.{FitChains}
 use Rattle.head_writer.specs.NewChains.{all_named, new_chain}
-use Rattle.head_fits.specs.Fits.{chains_for}
-use Rattle.head_fits.proofs.PathNames.{parity_count}
-use Rattle.head_fits.proofs.ReadBits.{new_count}
+use Rattle.head_writer.specs.Fits.{chains_for}
+use Rattle.head_writer.proofs.fits.PathNames.{parity_count}
+use Rattle.head_writer.proofs.fits.ReadBits.{new_count}
 
 module _ (names : List (List ℕ)) where
   -- what is declared, and what says so, has the read ports

@@ -19,7 +19,7 @@ use Rattle.traced_paths.specs.Asked.{Asked, asked_by_block, once_behind}
 use Rattle.traced_paths.specs.Traced.{ArePathsOf}
 use Rattle.pattern_laws.specs.Laws.{SamePorts}
 use Rattle.reorder_command.specs.Reordered.{AreSamePaths}
-use Rattle.head_fits.specs.Anew.{AreSameByNames}
+use Rattle.head_writer.specs.Anew.{AreSameByNames}
 
 -- a path ends at a port that is driven
 some_net : (b : Bool) (net to : NetId) → cond b (Some net) None ≡ Some to → b ≡ true

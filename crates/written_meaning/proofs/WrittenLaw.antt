@@ -21,8 +21,8 @@ use Rattle.stil_written.specs.Written.{Form, written_says}
 use Rattle.retarget.specs.Moved.{moved_call}
 use Rattle.retargeted_patterns.specs.Texts.{TextsLaw}
 use Rattle.head_text.specs.Written.{written_head}
-use Rattle.head_fits.specs.Fits.{chains_for, FitLaw}
-use Rattle.head_fits.specs.Anew.{KeepsNames, AnewLaw}
+use Rattle.head_writer.specs.Fits.{chains_for, FitLaw}
+use Rattle.head_writer.specs.Anew.{KeepsNames, AnewLaw}
 use Rattle.design_files.specs.Files.{Texts, with_head}
 use Rattle.design_files.specs.Faults.{HoldsInFiles}
 use Rattle.net_edit.specs.declared.edits.Edits.{Edits}

@@ -6,6 +6,6 @@ pub fn meaning_law()
     ensures law { MeaningLaw }
 {
     retargeted_patterns::texts_law();
-    head_fits::fit_law();
-    head_fits::anew_law();
+    head_writer::fit_law();
+    head_writer::anew_law();
 }
