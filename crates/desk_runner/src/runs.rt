@@ -1,8 +1,8 @@
 //! Runs of the commands on three flops in which each call of the desk fails in turn.
 
-use crate::files::{Flops, Manner, SOUND, Texts, changed, desk, files_of, words_of};
+use crate::files::{Flops, Manner, SOUND, Texts, changed, desk, words_of};
 use base_types::{NoMemory, Word};
-use desk_io::{MemoryDesk, Slot, SureDesk, Way};
+use desk_io::{MemoryDesk, Slot, Way};
 use row_forms::Cases;
 use scan_job::run;
 use std::alloc::Global;
@@ -400,22 +400,12 @@ impl<'t> Subject<'t> {
         let wanted = wanted(alloc, self.row, failing.max(empty_write))?;
         cases.compare(self.row.words, came.as_str(), wanted.as_str())
     }
-
-    /// Tries a run over a desk that can't fail.
-    fn try_sure(&self, cases: &mut Cases) -> Result<(), NoMemory> {
-        let alloc = cases.alloc;
-        let mut sure = SureDesk::new(files_of(alloc, &self.files)?);
-        let came = format!(in alloc; "{}", run(alloc, &self.words, &mut sure))?;
-        let wanted = format!(in alloc; "{}", self.row.status)?;
-        cases.compare("a sure desk", came.as_str(), wanted.as_str())
-    }
 }
 
-/// Tries runs: whole over both kinds of desk, and then with each call failing in turn, and each write taking nothing.
+/// Tries runs: whole, and then with each call failing in turn, and each write taking nothing.
 pub(crate) fn try_rows(cases: &mut Cases, flops: &Flops, rows: &[Row]) -> Result<(), NoMemory> {
     for row in rows {
         let subject = Subject::new(cases.alloc, row, flops)?;
-        subject.try_sure(cases)?;
         for number in 0..calls_in(row.calls).saturating_add(1) {
             subject.try_call(cases, number, 0)?;
             if is_write(row.calls, number) {

@@ -5,8 +5,6 @@
 
 mod file_desk;
 mod progress;
-#[cfg(test)]
-mod tests;
 mod usage;
 
 use base_types::Word;
