@@ -11,4 +11,4 @@ mod laws;
 mod patterns;
 
 pub use laws::meaning_law;
-pub use patterns::meaning_law;
+pub use patterns::retargeted_law;
