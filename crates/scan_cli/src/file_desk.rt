@@ -7,8 +7,9 @@ ghost use Rattle.desk_io.specs.Number.{number};
 
 use crate::progress::Progress;
 use desk_io::{Desk, Failed, SLOTS, Slot, Stage, Way};
-use std::fs::File;
+use std::fs::{File, Metadata};
 use std::io::{ErrorKind, Read, Write};
+use std::os::unix::fs::MetadataExt;
 use std::{fs, io};
 
 /// How often a call is made anew where a signal interrupts it.
@@ -54,11 +55,33 @@ fn sync_file(file: &File) -> io::Result<()> {
     }
 }
 
+/// A file by its device and its number there, whatever it is named.
+#[derive(Clone, Copy, PartialEq, Eq)]
+struct Identity {
+    device: u64,
+    number: u64,
+}
+
+/// Which file these are the attributes of, where it is no pipe and no device.
+fn identity_of(attributes: io::Result<Metadata>) -> Option<Identity> {
+    let attributes = attributes.ok()?;
+    if attributes.is_file() {
+        Some(Identity {
+            device: attributes.dev(),
+            number: attributes.ino(),
+        })
+    } else {
+        None
+    }
+}
+
 /// Real files, opened by their names, and standard output as the console. How far it is, it tells on a terminal.
 #[derive(Drop)]
 pub struct FileDesk {
     rt: HostRuntime,
     files: [Option<File>; SLOTS],
+    /// Which files were opened so far.
+    opened: [Option<Identity>; SLOTS],
     stages: [Stage; SLOTS],
     faults: [u64; SLOTS],
     progress: Progress,
@@ -75,10 +98,20 @@ impl FileDesk {
             files: [
                 None, None, None, None, None, None, None, None, None, None, None, None, None,
             ],
+            opened: [None; SLOTS],
             stages: [Stage::Unopened; SLOTS],
             faults: [0; SLOTS],
             progress: Progress::new(rt),
         }
+    }
+
+    /// Opens an output, but not over a file that this run has opened, under whatever name: what is read of it would be lost.
+    fn create(&self, name: &str) -> io::Result<File> {
+        let file = identity_of(fs::metadata(&self.rt, name));
+        if file.is_some() && self.opened.iter().any(|known| *known == file) {
+            return Err(io::Error::from(ErrorKind::AlreadyExists));
+        }
+        fs::create(&self.rt, name)
     }
 
     /// Takes away what was told of how far it is.
@@ -102,11 +135,12 @@ impl Desk for FileDesk {
         let opened = match (slot, slot.way()) {
             (Slot::Console, _) => Ok(None),
             (_, Way::In(_)) => fs::open(&self.rt, name).map(Some),
-            (_, Way::Out(_)) => fs::create(&self.rt, name).map(Some),
+            (_, Way::Out(_)) => self.create(name).map(Some),
         };
         match opened {
             Ok(file) => {
                 self.progress.open(slot, name, &file);
+                self.opened[at] = file.as_ref().and_then(|file| identity_of(file.metadata()));
                 self.files[at] = file;
                 self.stages[at] = Stage::Open;
                 Ok(())
