@@ -10,7 +10,7 @@ use Rattle.verilog_syntax.specs.declared.statement.Statement.TheVariants as stat
 use Rattle.verilog_names.specs.declared.bounds.Bounds.{Bounds}
 use Rattle.verilog_names.specs.declared.declared.First.{First}
 use Rattle.verilog_names.specs.Declarations.{Declaration, bounds_of, first_of, declarations_in}
-use Rattle.verilog_checks.specs.Faults.{stands_again, any_again, has_bit_in, have_bits}
+use Rattle.verilog_checks.specs.Checks.{stands_again, any_again, has_bit_in, have_bits}
 use Rattle.verilog_names.specs.NameTables.{first_in, kept_of, with_first, firsts_of}
 use Rattle.verilog_checks.specs.Seen.{Keeps, AddsOne, Adds, AreKnown, IsClean, declared_as, may_stand_beside}
 use Rattle.verilog_checks.proofs.AnyLemmas.{or_four}

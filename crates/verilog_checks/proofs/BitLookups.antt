@@ -10,7 +10,7 @@ use Rattle.verilog_names.specs.declared.bounds.Bounds.{Bounds}
 use Rattle.verilog_names.specs.declared.declared.First.{First}
 use Rattle.verilog_names.specs.Values.{bit_name}
 use Rattle.verilog_names.specs.Declarations.{Declaration, has, width, has_index, offset, index_at, indexes_from, indexes, is_named, first_of, bounds_or_none, bounds_in, selects}
-use Rattle.verilog_checks.specs.Faults.{has_bit_in, are_bits}
+use Rattle.verilog_checks.specs.Checks.{has_bit_in, are_bits}
 use Rattle.verilog_names.specs.NameTables.{first_kept, kept_bounds}
 use Rattle.verilog_checks.specs.Seen.{is_small, have_small, is_bit}
 use Rattle.verilog_checks.proofs.AnyLemmas.{or_true, and_false, not_true, and_parts, same_tests, any_same, any_and, any_swap}

@@ -1,12 +1,16 @@
--- What a check answers, by places: the first statement that fails its test.
+-- What a check answers, by places: the first statement that is bad.
 use Rattle.std.proofs.Common.{◌≡◌, ℕ, zero, suc, ◌<◌, Bool, true, false, cond, List, [], ◌∷◌, ◌++◌, take, Some, Ok, Err, refl, sym, ap, ◌∙◌, subst, append_assoc, arith}
 use Rattle.std.specs.Prelude.{slice_get}
 use Rattle.std.proofs.lemmas.List.{append-nil}
 use Rattle.base_types.specs.declared.fault.Fault.{Fault}
 use Rattle.base_types.specs.declared.kind.Kind.{Kind}
+use Rattle.base_types.specs.declared.kind.Kind.TheVariants.{VerilogNumber, VerilogTwice, BadSelect}
 use Rattle.verilog_syntax.specs.declared.reading.Placed.{Placed}
 use Rattle.verilog_syntax.specs.Reading.{fault_at}
-use Rattle.verilog_checks.specs.Faults.{check_from, check, IsFirstBad}
+use Rattle.verilog_checks.specs.Checks.{check_from, check, bad_twice}
+use Rattle.verilog_checks.specs.CheckLaws.{IsJudged, NumberLaw, TwiceLaw, SelectLaw}
+use Rattle.verilog_checks.proofs.Cases.{test_law}
+use Rattle.verilog_checks.specs.Faults.{IsFirstBad, HasNoBad, IsBadNumber, IsTwice, IsBadSelect, bad_number, bad_select}
 
 -- the same where more statements stand before
 record IsFirstBehind (bad : List Placed → Placed → Bool) (before ps : List Placed) (i : ℕ) (p : Placed) : Type 0 where
@@ -46,13 +50,6 @@ module _ (bad : List Placed → Placed → Bool) (kind : Kind) where
       ]
       in cases (bad before q) refl h
 
-  -- a fault is that of the first bad statement
-  pub check-first : (ps : List Placed) (f : Fault) → check bad kind ps ≡ Err f → (i : ℕ) × (p : Placed) × IsFirstBad bad ps i p × (f ≡ fault_at kind p.line)
-  check-first ps f h =
-      let found = found_from ps [] f h in
-      let w = found.2 in
-      (found.0, found.1, record { there = w.there; fails = w.fails; first = w.first }, found.3)
-
   good_from : (ps before : List Placed) → check_from bad kind before ps ≡ Ok tt → (j : ℕ) (r : Placed) → slice_get ps j ≡ Some r → bad (before ++ take j ps) r ≡ false
   unfolding check_from
   good_from [] before h = λ j r is. absurd cc
@@ -67,6 +64,47 @@ module _ (bad : List Placed → Placed → Bool) (kind : Kind) where
       ]
       in cases (bad before q) refl h
 
-  -- where there is no fault, no statement is bad
-  pub check-good : (ps : List Placed) → check bad kind ps ≡ Ok tt → (j : ℕ) (r : Placed) → slice_get ps j ≡ Some r → bad (take j ps) r ≡ false
-  check-good ps h j r is = good_from ps [] h j r is
+  -- where no statement is bad, there is no fault
+  passes_from : (ps before : List Placed) → ((i : ℕ) (p : Placed) → slice_get ps i ≡ Some p → bad (before ++ take i ps) p ≡ false) → check_from bad kind before ps ≡ Ok tt
+  unfolding check_from
+  passes_from [] before h = refl
+  passes_from (q ∷ qs) before h =
+      let here : bad before q ≡ false = ap (λ (l : List Placed). bad l q) (sym (append-nil before)) ∙ h 0 q refl in
+      rw here (passes_from qs (before ++ q ∷ []) (λ i p is. ap (λ (l : List Placed). bad l p) (append_assoc before (q ∷ []) (take i qs)) ∙ h (suc i) p is))
+
+true_false : (b : Bool) → b ≡ true → b ≡ false → ⊥
+true_false b t f = let both = sym t ∙ f in absurd cc
+
+not_true : (b : Bool) → (b ≡ true → ⊥) → b ≡ false
+not_true true f = absurd (f refl)
+not_true false f = refl
+
+-- a test that says of each statement whether it is bad
+judged : (IsBad : List Placed → Placed → Type 0) (bad : List Placed → Placed → Bool) (kind : Kind) (ps : List Placed)
+    → ((before : List Placed) (p : Placed) → (bad before p ≡ true → IsBad before p) × (IsBad before p → bad before p ≡ true)) → IsJudged IsBad kind ps (check bad kind ps)
+judged IsBad bad kind ps says =
+    record {
+      passed = λ e i p there is. true_false (bad (take i ps) p) ((says (take i ps) p).1 is) (good_from bad kind ps [] e i p there);
+      passes = λ none. passes_from bad kind ps [] (λ i p there. not_true (bad (take i ps) p) (λ fails. none i p there ((says (take i ps) p).0 fails)));
+      refused = λ f e.
+          let found = found_from bad kind ps [] f e in
+          let w = found.2 in (
+            found.0,
+            found.1,
+            record {
+              there = w.there;
+              bad = (says (take found.0 ps) found.1).0 w.fails;
+              first = λ j q lt there is. true_false (bad (take j ps) q) ((says (take j ps) q).1 is) (w.first j q lt there);
+            },
+            found.3,
+          );
+    }
+
+pub number_law : NumberLaw
+number_law ps = judged IsBadNumber bad_number VerilogNumber ps (λ before p. (λ h. h, λ h. h))
+
+pub twice_law : TwiceLaw
+twice_law ps = judged (IsTwice ps) (bad_twice ps) VerilogTwice ps (test_law ps)
+
+pub select_law : SelectLaw
+select_law ps = judged (IsBadSelect ps) (λ before p. bad_select ps p) BadSelect ps (λ before p. (λ h. h, λ h. h))

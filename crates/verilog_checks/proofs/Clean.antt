@@ -10,7 +10,8 @@ use Rattle.std.proofs.lemmas.Slice.Eq.{bytes_eq-Decides}
 use Rattle.verilog_syntax.specs.declared.statement.Declared.{Declared}
 use Rattle.verilog_names.specs.declared.bounds.Bounds.{Bounds}
 use Rattle.verilog_names.specs.Declarations.{Declaration, declaration_of, is_named, first_of, bounds_or_none, bounds_in, is_port_kind, is_wire}
-use Rattle.verilog_checks.specs.Faults.{same_bounds, may_stand_again, stands_again, any_again, has_bit_in}
+use Rattle.verilog_checks.specs.Checks.{stands_again, any_again, has_bit_in}
+use Rattle.verilog_checks.specs.Faults.{same_bounds, may_stand_again}
 use Rattle.verilog_checks.specs.Seen.{is_bit, IsClean}
 use Rattle.verilog_checks.proofs.AnyLemmas.{or_false, or_false_left, or_false_right, and_parts, any_or, any_same}
 use Rattle.verilog_checks.proofs.BitLookups.{eq_true}

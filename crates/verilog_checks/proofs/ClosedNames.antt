@@ -14,7 +14,7 @@ use Rattle.verilog_syntax.specs.declared.statement.Statement.TheVariants as stat
 use Rattle.verilog_names.specs.declared.bounds.Bounds.{Bounds}
 use Rattle.verilog_names.specs.Values.{unescaped, bit_name}
 use Rattle.verilog_names.specs.Declarations.{Declaration, declaration_of, declarations_in, has, width, index_at, bounds_in, is_declared}
-use Rattle.verilog_checks.specs.Faults.{has_bit_in, are_bits}
+use Rattle.verilog_checks.specs.Checks.{has_bit_in, are_bits}
 use Rattle.verilog_checks.specs.Seen.{is_bit, is_bracketed, AreNets}
 use Rattle.verilog_checks.proofs.AnyLemmas.{not_true, any_same, any_map, any_none}
 use Rattle.verilog_checks.proofs.NameLists.{added}

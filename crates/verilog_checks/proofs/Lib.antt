@@ -2,10 +2,12 @@ pub mod Again
 pub mod AnyLemmas
 pub mod BitLookups
 pub mod BitNames
+pub mod Cases
 pub mod CheckLaw
 pub mod Clean
 pub mod ClosedNames
 pub mod Counting
+pub mod Faultless
 pub mod Firsts
 pub mod NameLists
 pub mod Passes

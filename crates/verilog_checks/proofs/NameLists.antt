@@ -7,7 +7,7 @@ use Rattle.std.proofs.lemmas.List.{drop_more, drop_all, take_more, map-append}
 use Rattle.std.proofs.lemmas.List.Folds.{list_any-append}
 use Rattle.verilog_names.specs.Declarations.{has}
 use Rattle.verilog_checks.proofs.AnyLemmas.{or_false, any_or, any_same}
-use Rattle.verilog_checks.specs.Faults.{has_twice}
+use Rattle.verilog_checks.specs.Checks.{has_twice}
 
 abbrev pub now_of : List (Bor (List ℕ)) → List (List ℕ)
 now_of names = map (λ name. name.now) names

@@ -5,7 +5,7 @@ use Rattle.base_types.specs.declared.fault.Fault.{Fault}
 use Rattle.base_types.specs.declared.kind.Kind.{Kind}
 use Rattle.verilog_syntax.specs.declared.reading.Placed.{Placed}
 use Rattle.verilog_syntax.specs.Reading.{fault_at}
-use Rattle.verilog_checks.specs.Faults.{check_from, check}
+use Rattle.verilog_checks.specs.Checks.{check_from, check}
 
 module _ (bad : List Placed → Placed → Bool) (kind : Kind) (ps : List Placed) (i : ℕ) (p : Placed) (lt : i < length ps) (at : p ≡ get_or ps i p) where
   -- the check at the statement, or behind it

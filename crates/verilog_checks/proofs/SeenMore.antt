@@ -12,7 +12,8 @@ use Rattle.verilog_syntax.specs.declared.statement.Statement.TheVariants as stat
 use Rattle.verilog_syntax.specs.declared.reading.Placed.{Placed}
 use Rattle.verilog_checks.specs.declared.twice.Seen.{Seen}
 use Rattle.verilog_names.specs.Declarations.{Declaration, declaration_of, bounds_of, declarations_in, declarations, has, ports_in, items_in}
-use Rattle.verilog_checks.specs.Faults.{has_twice, any_again, instances_named, instance_names, pins_in, scalars_in, scalars, are_bits, have_bits, bad_twice, is_bad_number, is_bad_range, range_in}
+use Rattle.verilog_checks.specs.Checks.{has_twice, any_again, are_bits, have_bits, bad_twice}
+use Rattle.verilog_checks.specs.Faults.{instances_named, instance_names, pins_in, scalars_in, scalars, is_bad_number, is_bad_range, range_in}
 use Rattle.verilog_names.specs.NameTables.{firsts_of}
 use Rattle.verilog_checks.specs.Steps.{has_bad_number, are_small}
 use Rattle.verilog_names.specs.NameSets.{HasNames}

@@ -7,7 +7,8 @@ use Rattle.base_types.specs.declared.kind.Kind.TheVariants.{VerilogNumber}
 use Rattle.verilog_syntax.specs.declared.reading.Placed.{Placed}
 use Rattle.verilog_syntax.specs.Reading.{fault_at}
 use Rattle.verilog_names.specs.Declarations.{declarations}
-use Rattle.verilog_checks.specs.Faults.{check_from, bad_number, check_number, vector_bits_from, vector_bits}
+use Rattle.verilog_checks.specs.Checks.{check_from, check_number}
+use Rattle.verilog_checks.specs.Faults.{bad_number, vector_bits_from, vector_bits}
 use Rattle.verilog_checks.specs.Steps.{has_bad_number, are_small}
 
 or_false_left : (a b : Bool) → (a || b) ≡ false → a ≡ false

@@ -1,7 +1,7 @@
--- The faults of a Verilog text beyond its form: each kind is a test of a statement beside those before it, and beside all.
--- Of the kinds that occur the least is answered, and of that the first statement that fails its test.
+-- The faults of a Verilog text: what each kind says of a statement beside those before it, and beside all.
+-- Of the kinds that occur the least is answered, and of that the first statement that has it.
 use Rattle.std.specs.Prelude.{◌≡◌, ℕ, ◌+◌, ◌<◌, Bool, true, false, ◌&&◌, ◌||◌, not, nat_lt, ◌==◌, if◌then◌else◌, List, [], ◌∷◌, ◌++◌, map, filter, take, slice_get, Option, Some, None, is_some, Result, Ok, Err}
-use Rattle.std.specs.List.{flat_map, list_any, sum_by}
+use Rattle.std.specs.List.{flat_map, list_any, sum_by, Contains}
 use Rattle.std.specs.Str.{bytes_eq}
 use Rattle.base_types.specs.declared.fault.Fault.{Fault}
 use Rattle.base_types.specs.declared.fault.ReadFault.{ReadFault}
@@ -15,26 +15,22 @@ use Rattle.verilog_syntax.specs.declared.statement.Expression.{Expression}
 use Rattle.verilog_syntax.specs.declared.statement.Statement.{Statement}
 use Rattle.verilog_syntax.specs.declared.statement.Statement.TheVariants as statements
 use Rattle.verilog_syntax.specs.declared.reading.Placed.{Placed}
-use Rattle.verilog_syntax.specs.Reading.{fault_at, result_and_then, read_statements}
+use Rattle.verilog_syntax.specs.Module.{IsModule, IsFormFault}
+use Rattle.verilog_syntax.specs.Reading.{fault_at}
 use Rattle.verilog_names.specs.declared.bounds.Bounds.{Bounds}
 use Rattle.verilog_names.specs.Values.{unescaped, decimal_value, is_big_index, bit_name}
 use Rattle.verilog_checks.specs.ConstantSizes.{constant_size}
 use Rattle.verilog_names.specs.Declarations.{width, indexes, Declaration, declarations_in, declarations, is_named, first_of, bounds_in, is_port_kind, is_wire, ports_in, header_ports, has, items_in, mentions_in, undeclared_in, width_or_one, selects, selects_part, part_of}
 
--- the first statement that fails a test beside those before it
-unfoldable pub check_from : (List Placed → Placed → Bool) → Kind → List Placed → List Placed → Result (Unit {0}) Fault
-check_from bad kind before [] = Ok tt
-check_from bad kind before (p ∷ ps) = if bad before p then Err (fault_at kind p.line) else check_from bad kind (before ++ p ∷ []) ps
-
--- the first of some statements that fails a test
-abbrev pub check : (List Placed → Placed → Bool) → Kind → List Placed → Result (Unit {0}) Fault
-check bad kind ps = check_from bad kind [] ps
-
--- in plain words: the statement at a place fails, and none before it does
-pub record IsFirstBad (bad : List Placed → Placed → Bool) (ps : List Placed) (i : ℕ) (p : Placed) : Type 0 where
+-- the statement at a place is bad beside those before it, and none before it is
+pub record IsFirstBad (IsBad : List Placed → Placed → Type 0) (ps : List Placed) (i : ℕ) (p : Placed) : Type 0 where
   pub there : slice_get ps i ≡ Some p
-  pub fails : bad (take i ps) p ≡ true
-  pub first : (j : ℕ) (q : Placed) → j < i → slice_get ps j ≡ Some q → bad (take j ps) q ≡ false
+  pub bad : IsBad (take i ps) p
+  pub first : (j : ℕ) (q : Placed) → j < i → slice_get ps j ≡ Some q → IsBad (take j ps) q → ⊥
+
+-- no statement is bad beside those before it
+abbrev pub HasNoBad : (List Placed → Placed → Type 0) → List Placed → Type 0
+HasNoBad IsBad ps = (i : ℕ) (p : Placed) → slice_get ps i ≡ Some p → IsBad (take i ps) p → ⊥
 
 -- VerilogNumber: an index beyond 65535, a constant's size of 0 or beyond 128, or with this statement the declared vectors
 -- have more than 16777216 bits together
@@ -89,13 +85,12 @@ bad_number before p =
     is_bad_range (range_in p.statement) || list_any is_bad_number (items_in p.statement)
     || nat_lt 16777216 (vector_bits (declarations (before ++ p ∷ [])))
 
+-- the statement has the fault VerilogNumber
+abbrev pub IsBadNumber : List Placed → Placed → Type 0
+IsBadNumber before p = bad_number before p ≡ true
+
 -- VerilogTwice: an instance, a pin of one instance, a header port or a declared net has a name that stood before, or a
 -- scalar net and a bit of a declared vector have one name, at the later of the two
-
--- some name stands twice
-abbrev pub has_twice : List (List ℕ) → Bool
-has_twice [] = false
-has_twice (name ∷ names) = has names name || has_twice names
 
 -- both are without a range, or have the same bounds
 abbrev pub same_bounds : Option Bounds → Option Bounds → Bool
@@ -107,16 +102,6 @@ same_bounds (Some a) (Some b) = a.left == b.left && a.right == b.right
 -- a port declared again as wire with the same range is no fault
 abbrev pub may_stand_again : Declaration → Declaration → Bool
 may_stand_again first d = is_port_kind first.kind && is_wire d.kind && same_bounds first.bounds d.bounds
-
--- the name was declared before, and may not be declared so again
-abbrev pub stands_again : Option Declaration → Declaration → Bool
-stands_again None d = false
-stands_again (Some first) d = not (may_stand_again first d)
-
--- one of these declarations is of a name that may not stand again
-unfoldable pub any_again : List Declaration → List Declaration → Bool
-any_again before [] = false
-any_again before (d ∷ ds) = stands_again (first_of d.name before) d || any_again (before ++ d ∷ []) ds
 
 -- the instance that a statement names
 abbrev pub instances_named : Statement → List (List ℕ)
@@ -136,11 +121,6 @@ pins_in (statements.Declare kind range names) = []
 pins_in (statements.Assign left right) = []
 pins_in (statements.Instance cell name connections) = map (λ c. unescaped c.pin) connections
 
--- a vector has a bit of this name
-abbrev pub has_bit_in : List ℕ → Option Bounds → List ℕ → Bool
-has_bit_in vector None name = false
-has_bit_in vector (Some b) name = list_any (λ i. bytes_eq (bit_name vector i) name) (indexes b)
-
 -- the scalar nets that a statement declares, or mentions where no statement declares them
 abbrev pub scalars_in : List Declaration → Statement → List (List ℕ)
 scalars_in all statement = map (λ d. d.name) (filter (λ d. not (is_vector d)) (declarations_in statement)) ++ undeclared_in all (mentions_in statement)
@@ -149,23 +129,35 @@ scalars_in all statement = map (λ d. d.name) (filter (λ d. not (is_vector d)) 
 abbrev pub scalars : List Declaration → List Placed → List (List ℕ)
 scalars all ps = flat_map (λ p. scalars_in all p.statement) ps
 
--- one of the names is a bit of a vector that is declared here, with the bounds of its first declaration
-abbrev pub are_bits : List Declaration → List (List ℕ) → Bool
-are_bits ds names = list_any (λ d. list_any (has_bit_in d.name (bounds_in ds d.name)) names) ds
+-- a name stands in the list, and behind that once more
+pub record HasTwice (names : List (List ℕ)) : Type 0 where
+  pub front : List (List ℕ)
+  pub name : List ℕ
+  pub behind : List (List ℕ)
+  pub is : names ≡ front ++ name ∷ behind
+  pub again : Contains behind name
 
--- one of the vectors that these declare has a bit of one of the names
-abbrev pub have_bits : List Declaration → List (List ℕ) → Bool
-have_bits ds names = list_any (λ d. list_any (has_bit_in d.name d.bounds) names) ds
+-- a declaration is of a vector that has a bit of this name
+pub record HasBit (d : Declaration) (name : List ℕ) : Type 0 where
+  pub bounds : Bounds
+  pub vector : d.bounds ≡ Some bounds
+  pub bit : Contains (map (bit_name d.name) (indexes bounds)) name
 
--- the statement gives a name a second time, beside all statements and behind those before it
-unfoldable pub bad_twice : List Placed → List Placed → Placed → Bool
-bad_twice all before p =
-    has_twice (ports_in p.statement)
-    || any_again (declarations before) (declarations_in p.statement)
-    || list_any (has (instance_names before)) (instances_named p.statement)
-    || has_twice (pins_in p.statement)
-    || are_bits (declarations before) (scalars_in (declarations all) p.statement)
-    || have_bits (declarations_in p.statement) (scalars (declarations all) before)
+-- among all statements and behind those before it a statement gives a name a second time
+pub data IsTwice (all before : List Placed) (p : Placed) : Type 0 where
+  -- two ports of the header have one name
+  SameHeaderPort : HasTwice (ports_in p.statement) → IsTwice all before p
+  -- a name was declared before, in the statement itself too, and may not be declared so again
+  DeclaredAgain : (front behind : List Declaration) (first d : Declaration) → declarations_in p.statement ≡ front ++ d ∷ behind → first_of d.name (declarations before ++ front) ≡ Some first
+      → may_stand_again first d ≡ false → IsTwice all before p
+  -- an instance has the name of one before it
+  SameInstance : (name : List ℕ) → Contains (instances_named p.statement) name → Contains (instance_names before) name → IsTwice all before p
+  -- two connections of an instance are of one pin
+  SamePin : HasTwice (pins_in p.statement) → IsTwice all before p
+  -- a scalar net has the name of a bit of a vector before it, as that was declared first
+  ScalarIsBit : (name : List ℕ) (d : Declaration) → Contains (scalars_in (declarations all) p.statement) name → first_of d.name (declarations before) ≡ Some d → HasBit d name → IsTwice all before p
+  -- a vector that is declared has a bit with the name of a scalar net before it
+  BitIsScalar : (name : List ℕ) (d : Declaration) → Contains (scalars (declarations all) before) name → Contains (declarations_in p.statement) d → HasBit d name → IsTwice all before p
 
 -- BadSelect: a select outside its declaration or of a name that is no declared vector, an assign whose sides differ in
 -- width, a header port without a direction, or a name with a direction that isn't in the header
@@ -221,34 +213,22 @@ bad_select all p =
     || list_any (λ port. not (has_direction (declarations all) port)) (ports_in p.statement)
     || list_any (is_badly_listed (header_ports all)) (declarations_in p.statement)
 
--- the first fault of the kind VerilogNumber
-abbrev pub check_number : List Placed → Result (Unit {0}) Fault
-check_number ps = check bad_number VerilogNumber ps
+-- the statement has the fault BadSelect
+abbrev pub IsBadSelect : List Placed → List Placed → Placed → Type 0
+IsBadSelect all before p = bad_select all p ≡ true
 
--- the first fault of the kind VerilogTwice
-abbrev pub check_twice : List Placed → Result (Unit {0}) Fault
-check_twice ps = check (bad_twice ps) VerilogTwice ps
-
--- the first fault of the kind BadSelect
-abbrev pub check_select : List Placed → Result (Unit {0}) Fault
-check_select ps = check (λ before p. bad_select ps p) BadSelect ps
+-- the statements of a text in which nothing is wrong
+pub record IsFaultless (text : List ℕ) (ps : List Placed) : Type 0 where
+  pub form : IsModule text ps
+  pub numbers : HasNoBad IsBadNumber ps
+  pub once : HasNoBad (IsTwice ps) ps
+  pub selects : HasNoBad (IsBadSelect ps) ps
 
 -- what may be wrong with a Verilog text
 pub data HoldsInVerilog (text : List ℕ) : Fault → Type 0 where
   -- VerilogSyntax, SecondModule: it isn't the statements of one module
-  Form : (f : Fault) → read_statements text ≡ Err f → HoldsInVerilog text f
-  -- of its statements one is the first that fails the test of the kind
-  Number : (ps : List Placed) (i : ℕ) (p : Placed) → read_statements text ≡ Ok ps → IsFirstBad bad_number ps i p → HoldsInVerilog text (fault_at VerilogNumber p.line)
-  Twice : (ps : List Placed) (i : ℕ) (p : Placed) → read_statements text ≡ Ok ps → IsFirstBad (bad_twice ps) ps i p → HoldsInVerilog text (fault_at VerilogTwice p.line)
-  Select : (ps : List Placed) (i : ℕ) (p : Placed) → read_statements text ≡ Ok ps → IsFirstBad (λ before q. bad_select ps q) ps i p → HoldsInVerilog text (fault_at BadSelect p.line)
-
--- the statements of a text without a fault, or its first fault
-unfoldable pub read_faultless : List ℕ → Result (List Placed) Fault
-read_faultless text =
-    result_and_then (λ ps. result_and_then (λ a. result_and_then (λ b. result_and_then (λ c. Ok ps) (check_select ps)) (check_twice ps)) (check_number ps)) (read_statements text)
-
--- a fault that is answered is the first of the text, and nothing else is refused; want of memory says nothing
-abbrev pub IsRefused : {X Y : Type 0} → Result X ReadFault → Result Y Fault → Type 0
-IsRefused (Ok x) read = Unit {0}
-IsRefused (Err (faults.Fault fault)) read = read ≡ Err fault
-IsRefused (Err faults.NoMemory) read = Unit {0}
+  Form : (f : Fault) → IsFormFault text f → HoldsInVerilog text f
+  -- of its statements one is the first that is bad so
+  Number : (ps : List Placed) (i : ℕ) (p : Placed) → IsModule text ps → IsFirstBad IsBadNumber ps i p → HoldsInVerilog text (fault_at VerilogNumber p.line)
+  Twice : (ps : List Placed) (i : ℕ) (p : Placed) → IsModule text ps → IsFirstBad (IsTwice ps) ps i p → HoldsInVerilog text (fault_at VerilogTwice p.line)
+  Select : (ps : List Placed) (i : ℕ) (p : Placed) → IsModule text ps → IsFirstBad (IsBadSelect ps) ps i p → HoldsInVerilog text (fault_at BadSelect p.line)

@@ -11,7 +11,8 @@ use Rattle.verilog_names.specs.declared.declared.First.{First}
 use Rattle.verilog_checks.specs.declared.twice.Seen.{Seen}
 use Rattle.verilog_names.specs.Values.{unescaped}
 use Rattle.verilog_names.specs.Declarations.{Declaration, declarations, first_of, bounds_in, is_port_kind, is_wire}
-use Rattle.verilog_checks.specs.Faults.{same_bounds, stands_again, any_again, has_bit_in, have_bits, instance_names, scalars, bad_twice}
+use Rattle.verilog_checks.specs.Checks.{stands_again, any_again, has_bit_in, have_bits, bad_twice}
+use Rattle.verilog_checks.specs.Faults.{same_bounds, instance_names, scalars}
 use Rattle.verilog_names.specs.NameSets.{HasNames}
 use Rattle.verilog_names.specs.NameTables.{firsts_of}
 

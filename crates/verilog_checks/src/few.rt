@@ -2,7 +2,7 @@
 ghost use Rattle.std.specs.Prelude.{◌≡◌, map};
 ghost use Rattle.verilog_names.specs.Values.{unescaped};
 ghost use Rattle.verilog_names.specs.Declarations.{has};
-ghost use Rattle.verilog_checks.specs.Faults.{has_twice};
+ghost use Rattle.verilog_checks.specs.Checks.{has_twice};
 
 use verilog_names::unescaped;
 use verilog_syntax::Connection;

@@ -2,7 +2,8 @@
 ghost use Rattle.std.specs.Prelude.{◌≡◌, ◌++◌, List, ℕ, map, IfOk, OnOk};
 ghost use Rattle.verilog_names.specs.Values.{unescaped};
 ghost use Rattle.verilog_names.specs.Declarations.{ports_in};
-ghost use Rattle.verilog_checks.specs.Faults.{has_twice, pins_in};
+ghost use Rattle.verilog_checks.specs.Checks.{has_twice};
+ghost use Rattle.verilog_checks.specs.Faults.{pins_in};
 ghost use Rattle.verilog_names.specs.NameSets.{HasNames};
 
 use crate::few;

@@ -9,7 +9,8 @@ ghost use Rattle.verilog_syntax.specs.declared.statement.Range.{Range as ghost_r
 ghost use Rattle.verilog_names.specs.Values.{is_big_index};
 ghost use Rattle.verilog_checks.specs.ConstantSizes.{size_digits, constant_size};
 ghost use Rattle.verilog_names.specs.Declarations.{Declaration, bounds_of, declaration_of, declarations_in, connection_items};
-ghost use Rattle.verilog_checks.specs.Faults.{is_bad_size, is_bad_number, is_bad_range, range_in, check_number};
+ghost use Rattle.verilog_checks.specs.Checks.{check_number};
+ghost use Rattle.verilog_checks.specs.Faults.{is_bad_size, is_bad_number, is_bad_range, range_in};
 ghost use Rattle.verilog_checks.specs.Steps.{has_bad_number, are_small, AreCounted, Counts};
 
 use crate::faults::fault_at;

@@ -4,7 +4,8 @@ ghost use Rattle.std.specs.List.{list_any};
 ghost use Rattle.verilog_syntax.specs.Reading.{Answers};
 ghost use Rattle.verilog_names.specs.Values.{is_big_index, unescaped};
 ghost use Rattle.verilog_names.specs.Declarations.{declarations, is_port_kind, header_ports, has, connection_items, items_in, selects, selects_part, part_of};
-ghost use Rattle.verilog_checks.specs.Faults.{is_bad_number, is_bad_select, item_width, expression_width, differ_in_width, has_direction, check_select};
+ghost use Rattle.verilog_checks.specs.Checks.{check_select};
+ghost use Rattle.verilog_checks.specs.Faults.{is_bad_number, is_bad_select, item_width, expression_width, differ_in_width, has_direction};
 ghost use Rattle.verilog_names.specs.NameTables.{firsts_of, known_bounds};
 ghost use Rattle.verilog_checks.specs.Steps.{has_bad_number, are_small, has_key, listed_in, directed_in, IsGathered, is_bad_beside};
 

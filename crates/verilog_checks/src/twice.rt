@@ -8,7 +8,8 @@ ghost use Rattle.std.specs.Prelude.{◌≡◌, ◌||◌, ◌++◌, [], List, ℕ
 ghost use Rattle.std.specs.List.{list_any};
 ghost use Rattle.verilog_syntax.specs.declared.reading.Placed.{Placed};
 ghost use Rattle.verilog_names.specs.Declarations.{Declaration, declarations, declarations_in, has, is_wire, ports_in};
-ghost use Rattle.verilog_checks.specs.Faults.{are_bits, check_twice, has_bit_in, has_twice, instances_named, is_bad_range, pins_in, range_in, same_bounds, IsRefused};
+ghost use Rattle.verilog_checks.specs.Checks.{are_bits, check_twice, has_bit_in, has_twice, IsRefused};
+ghost use Rattle.verilog_checks.specs.Faults.{instances_named, is_bad_range, pins_in, range_in, same_bounds};
 ghost use Rattle.verilog_names.specs.NameTables.{firsts_of};
 ghost use Rattle.verilog_checks.specs.Steps.{are_small};
 ghost use Rattle.verilog_names.specs.NameSets.{HasNames};

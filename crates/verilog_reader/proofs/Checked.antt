@@ -22,7 +22,8 @@ use Rattle.verilog_syntax.specs.Reading.{fault_at}
 use Rattle.verilog_names.specs.declared.bounds.Bounds.{Bounds}
 use Rattle.verilog_names.specs.Values.{unescaped, decimal_value, is_big_index}
 use Rattle.verilog_names.specs.Declarations.{Declaration, declaration_of, declarations_in, declarations, bounds_in, mentions_of, mentions_in, mentions, connection_items, items_in, header_ports, ports_in, selects, selects_part, part_of}
-use Rattle.verilog_checks.specs.Faults.{check_from, is_bad_number, is_bad_range, range_in, bad_number, vector_bits, is_bad_select, differ_in_width, has_direction, is_badly_listed, bad_select}
+use Rattle.verilog_checks.specs.Checks.{check_from}
+use Rattle.verilog_checks.specs.Faults.{is_bad_number, is_bad_range, range_in, bad_number, vector_bits, is_bad_select, differ_in_width, has_direction, is_badly_listed, bad_select}
 use Rattle.verilog_names.specs.NameTables.{place, with_declared}
 use Rattle.verilog_reader.specs.Numbering.{bounds_or, entries, IsListed, IsFineItem, IsFineExpression, IsFineStatement}
 use Rattle.verilog_reader.proofs.Filling.{Entries}

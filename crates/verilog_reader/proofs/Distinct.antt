@@ -8,7 +8,7 @@ use Rattle.std.proofs.lemmas.List.Folds.{list_any-append}
 use Rattle.std.specs.List.{AllByRecursion as Each}
 use Rattle.netlist_core.specs.Netlists.{AreDistinct}
 use Rattle.verilog_names.specs.Declarations.{has}
-use Rattle.verilog_checks.specs.Faults.{has_twice}
+use Rattle.verilog_checks.specs.Checks.{has_twice}
 use Rattle.verilog_reader.proofs.Places.{bytes_same}
 
 abbrev pub IsApartFrom : {X : Type 0} → X → List X → Type 0

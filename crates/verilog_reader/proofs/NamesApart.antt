@@ -15,7 +15,8 @@ use Rattle.verilog_syntax.specs.declared.reading.Placed.{Placed}
 use Rattle.verilog_names.specs.declared.bounds.Bounds.{Bounds}
 use Rattle.verilog_names.specs.Values.{decimal_value, is_big_index, bit_name}
 use Rattle.verilog_names.specs.Declarations.{bounds_of, indexes, Declaration, declaration_of, declarations_in, declarations, is_named, bounds_or_none, bounds_in, mentions, width_or_one}
-use Rattle.verilog_checks.specs.Faults.{is_bad_range, range_in, has_bit_in}
+use Rattle.verilog_checks.specs.Checks.{has_bit_in}
+use Rattle.verilog_checks.specs.Faults.{is_bad_range, range_in}
 use Rattle.verilog_reader.specs.Denoted.{entry_nets, name_bits, bit_text}
 use Rattle.verilog_names.specs.NameTables.{place_from, place, with_entry, with_entries}
 use Rattle.verilog_reader.specs.Numbering.{bounds_or, entries}

@@ -8,8 +8,8 @@ use Rattle.netlist_core.specs.Netlists.{IsAssign, IsInstance, IsNetlist}
 use Rattle.verilog_syntax.specs.declared.reading.Placed.{Placed}
 use Rattle.verilog_names.specs.declared.bounds.Bounds.{Bounds}
 use Rattle.verilog_names.specs.Declarations.{declarations, bounds_in, undeclared_in, mentions}
-use Rattle.verilog_syntax.specs.Reading.{read_statements}
-use Rattle.verilog_checks.specs.Faults.{read_faultless, check_number, check_twice, check_select, bad_number, bad_twice, bad_select, differ_in_width, has_twice, pins_in}
+use Rattle.verilog_checks.specs.Checks.{check_number, check_twice, check_select, bad_twice, has_twice}
+use Rattle.verilog_checks.specs.Faults.{bad_number, bad_select, differ_in_width, pins_in}
 use Rattle.verilog_reader.specs.Denoted.{IsNetlistOf, entry_nets, first_declared, first_mentioned, declared_nets}
 use Rattle.verilog_names.specs.NameTables.{total, with_declared}
 use Rattle.verilog_reader.specs.Numbering.{entries, numbered, numbered_ports, numbered_assigns, numbered_instances, IsFineStatement}
@@ -86,8 +86,3 @@ is_netlist ps number twice select few_nets few_instances =
       instance_names = distinct _ (instances_distinct es ps once);
       instances = subst (λ (n : ℕ). All (IsInstance n) (numbered_instances es ps)) count (all_of (IsInstance (total es)) (numbered_instances es ps) (instances_are es (declarations ps) (bounds_are ps) ps fits (pins_once ps [] ps once)));
     }
-
--- statements that pass the checks are those of a text without a fault
-pub faultless : (text : List ℕ) (ps : List Placed) → read_statements text ≡ Ok ps → check_number ps ≡ Ok tt → check_twice ps ≡ Ok tt → check_select ps ≡ Ok tt → read_faultless text ≡ Ok ps
-unfolding read_faultless
-faultless text ps read number twice select = rw (read, number, twice, select) refl

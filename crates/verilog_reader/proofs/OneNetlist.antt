@@ -1,9 +1,8 @@
 -- A text denotes at most one netlist: the names of its nets are given and distinct, so the name of a bit tells its number. What
 -- it declares is one list at most.
-use Rattle.std.proofs.Common.{◌≡◌, ℕ, ◌<◌, List, [], ◌∷◌, length, map, Result, Ok, Err, refl, sym, ap, ap₂, ◌∙◌, subst, arith}
+use Rattle.std.proofs.Common.{◌≡◌, ℕ, ◌<◌, List, [], ◌∷◌, length, map, refl, sym, ap, ap₂, ◌∙◌, subst, arith}
 use Rattle.std.specs.Prelude.{All, slice_index_or}
 use Rattle.std.proofs.lemmas.List.{length-map, get_or-map}
-use Rattle.base_types.specs.declared.fault.Fault.{Fault}
 use Rattle.std.proofs.lemmas.List.Elements.{All-tail, All-head}
 use Rattle.base_types.specs.declared.span.Span.{Span}
 use Rattle.netlist_core.specs.declared.netlist.NetId.{NetId}
@@ -18,7 +17,9 @@ use Rattle.netlist_core.specs.declared.netlist.Instance.{Instance}
 use Rattle.netlist_core.specs.declared.netlist.Netlist.{Netlist}
 use Rattle.netlist_core.specs.Netlists.{NamedBit, Named, Low, High, Undefined, named_bit, plain_of, AreDistinct, IsBitWithin, IsAssign, IsInstance, IsNetlist}
 use Rattle.verilog_syntax.specs.declared.reading.Placed.{Placed}
+use Rattle.verilog_syntax.proofs.Modules.{one_module}
 use Rattle.verilog_names.specs.Declarations.{declarations}
+use Rattle.verilog_checks.specs.Faults.{IsFaultless}
 use Rattle.verilog_reader.specs.Denoted.{SeenExpression, SeenPort, SeenAssign, SeenConnection, SeenInstance, seen_expression, seen_port, seen_assign, seen_connection, seen_instance, IsNetlistOf, DenotesNetlist, OneDeclaredLaw}
 
 -- two lists are one, where what is seen of them is and tells each member
@@ -129,16 +130,16 @@ same_netlists ps n m a b gn gm =
     ∙ ap₂ (λ ports assigns. record { «module» = m.«module»; line = m.line; nets = m.nets; declared = m.declared; ports = ports; assigns = assigns; instances = n.instances }) ports assigns
     ∙ ap (λ (instances : List Instance). record { «module» = m.«module»; line = m.line; nets = m.nets; declared = m.declared; ports = m.ports; assigns = m.assigns; instances = instances }) instances
 
-abbrev value_or : List Placed → Result (List Placed) Fault → List Placed
-value_or d (Ok ps) = ps
-value_or d (Err f) = d
+-- the statements of a text are one list
+one_list : (text : List ℕ) (ps qs : List Placed) → IsFaultless text ps → IsFaultless text qs → ps ≡ qs
+one_list text ps qs a b = sym ((one_module text ps a.form).1 qs b.form)
 
 pub one_netlist : (text : List ℕ) (n m : Netlist) → DenotesNetlist text n → DenotesNetlist text m → n ≡ m
 one_netlist text n m a b =
-    let same : a.statements ≡ b.statements = ap (value_or []) (sym a.reads ∙ b.reads) in
+    let same : a.statements ≡ b.statements = one_list text a.statements b.statements a.reads b.reads in
     same_netlists a.statements n m a.is (subst (λ (ps : List Placed). IsNetlistOf ps m) (sym same) b.is) a.sound b.sound
 
 pub one_declared : OneDeclaredLaw
 one_declared text ds es a b =
-    let same : a.statements ≡ b.statements = ap (value_or []) (sym a.reads ∙ b.reads) in
+    let same : a.statements ≡ b.statements = one_list text a.statements b.statements a.reads b.reads in
     sym a.is ∙ ap declarations same ∙ b.is

@@ -16,7 +16,8 @@ use Rattle.verilog_syntax.specs.declared.reading.Placed.{Placed}
 use Rattle.verilog_names.specs.declared.bounds.Bounds.{Bounds}
 use Rattle.verilog_names.specs.declared.entry.Entry.{Entry}
 use Rattle.verilog_names.specs.Declarations.{Declaration, declarations_in, declarations, is_named, first_of, bounds_or_none, bounds_in, is_port_kind, is_wire, ports_in, has, width_or_one}
-use Rattle.verilog_checks.specs.Faults.{same_bounds, stands_again, any_again, has_twice, pins_in, instance_names, instances_named, are_bits, have_bits, scalars_in, scalars, bad_twice}
+use Rattle.verilog_checks.specs.Checks.{stands_again, any_again, has_twice, are_bits, have_bits, bad_twice}
+use Rattle.verilog_checks.specs.Faults.{same_bounds, pins_in, instance_names, instances_named, scalars_in, scalars}
 use Rattle.verilog_reader.specs.Denoted.{SeenPort, directions_of, name_bits, named_of, said_port, said_ports_of, said_ports, seen_port}
 use Rattle.verilog_names.specs.NameTables.{place}
 use Rattle.verilog_reader.specs.Numbering.{bounds_or, numbers_from, net_bit, numbered_port, port_bits, numbered_ports_of, numbered_ports_in, numbered_ports}

@@ -20,7 +20,8 @@ use Rattle.verilog_names.specs.declared.bounds.Bounds.{Bounds}
 use Rattle.verilog_names.specs.declared.entry.Entry.{Entry}
 use Rattle.verilog_names.specs.Values.{unescaped}
 use Rattle.verilog_names.specs.Declarations.{Declaration, declarations_in, declarations, is_named, first_of, is_declared, is_port_kind, has, width_or_one}
-use Rattle.verilog_checks.specs.Faults.{stands_again, any_again, instances_named, instance_names, bad_twice}
+use Rattle.verilog_checks.specs.Checks.{stands_again, any_again, bad_twice}
+use Rattle.verilog_checks.specs.Faults.{instances_named, instance_names}
 use Rattle.verilog_reader.specs.Denoted.{directions_of}
 use Rattle.verilog_names.specs.NameTables.{total, place_from, place}
 use Rattle.verilog_reader.specs.Numbering.{numbers_from, numbered_port, port_bits, numbered_ports_of, numbered_ports_in, numbered_ports, numbered_instances_in, numbered_instances}

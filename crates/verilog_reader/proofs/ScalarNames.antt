@@ -14,7 +14,8 @@ use Rattle.verilog_syntax.specs.declared.statement.Statement.TheVariants as stat
 use Rattle.verilog_syntax.specs.declared.reading.Placed.{Placed}
 use Rattle.verilog_names.specs.declared.bounds.Bounds.{Bounds}
 use Rattle.verilog_names.specs.Declarations.{Declaration, declaration_of, declarations_in, declarations, is_named, first_of, is_declared, bounds_or_none, bounds_in, mentions_in, mentions, undeclared_in, has}
-use Rattle.verilog_checks.specs.Faults.{is_vector, has_bit_in, scalars_in, scalars, have_bits, bad_twice}
+use Rattle.verilog_checks.specs.Checks.{has_bit_in, have_bits, bad_twice}
+use Rattle.verilog_checks.specs.Faults.{is_vector, scalars_in, scalars}
 use Rattle.verilog_names.specs.NameTables.{with_declared}
 use Rattle.verilog_reader.specs.Numbering.{entries}
 use Rattle.verilog_reader.proofs.Places.{same_bytes, bytes_swap, named, named_all, declared_named, bounds_are}

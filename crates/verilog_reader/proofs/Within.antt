@@ -24,7 +24,8 @@ use Rattle.verilog_names.specs.Values.{unescaped, decimal_value}
 use Rattle.verilog_checks.specs.ConstantSizes.{constant_size}
 use Rattle.verilog_reader.specs.Constants.{value_bits, fill_of, fitted, digit_bits, digit_width, is_decimal_base, constant_base, constant_digits, constant_bits}
 use Rattle.verilog_names.specs.Declarations.{Declaration, width, bounds_in, width_or_one, selects, selects_part, part_of}
-use Rattle.verilog_checks.specs.Faults.{item_width, expression_width, differ_in_width, pins_in, has_twice}
+use Rattle.verilog_checks.specs.Checks.{has_twice}
+use Rattle.verilog_checks.specs.Faults.{item_width, expression_width, differ_in_width, pins_in}
 use Rattle.verilog_names.specs.NameTables.{total, place, offset_in}
 use Rattle.verilog_reader.specs.Numbering.{bounds_or, numbers_from, net_bit, net_bits, all_bits, one_bit, part_bits, numbered_item, numbered_items, numbered_connection, numbered_assigns_in, numbered_assigns, numbered_instances_in, numbered_instances, IsFineItem, IsFineExpression, IsFineStatement}
 use Rattle.verilog_reader.proofs.Filling.{Entries}

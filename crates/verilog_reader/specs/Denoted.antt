@@ -1,6 +1,6 @@
 -- What a Verilog text denotes: the netlist of its statements and what they declare (IEEE 1364-2005, 12). A net bit is named by
 -- its plain name; net numbers are the places of the names, in their order.
-use Rattle.std.specs.Prelude.{length, ◌≡◌, ℕ, if◌then◌else◌, List, [], ◌∷◌, ◌++◌, map, decimal, Option, Some, None, Ok}
+use Rattle.std.specs.Prelude.{length, ◌≡◌, ℕ, if◌then◌else◌, List, [], ◌∷◌, ◌++◌, map, decimal, Option, Some, None}
 use Rattle.std.specs.List.{flat_map}
 use Rattle.base_types.specs.declared.span.Span.{Span}
 use Rattle.netlist_core.specs.declared.netlist.Direction.{Direction}
@@ -26,7 +26,7 @@ use Rattle.verilog_names.specs.declared.bounds.Bounds.{Bounds}
 use Rattle.verilog_names.specs.Values.{unescaped, decimal_value, bit_name, name_text}
 use Rattle.verilog_reader.specs.Constants.{constant_bits}
 use Rattle.verilog_names.specs.Declarations.{indexes, Declaration, declarations_in, declarations, is_declared, bounds_in, has, mentions, undeclared_in, part_of}
-use Rattle.verilog_checks.specs.Faults.{read_faultless}
+use Rattle.verilog_checks.specs.Faults.{IsFaultless}
 
 -- the net bits of a name, from the left
 abbrev pub name_bits : List ℕ → Option Bounds → List (List ℕ)
@@ -209,21 +209,15 @@ pub record IsNetlistOf (ps : List Placed) (n : Netlist) : Type 0 where
 -- a text without a fault denotes a netlist
 pub record DenotesNetlist (text : List ℕ) (n : Netlist) : Type 0 where
   pub statements : List Placed
-  pub reads : read_faultless text ≡ Ok statements
+  pub reads : IsFaultless text statements
   pub is : IsNetlistOf statements n
   pub sound : IsNetlist n
 
 -- and declares names: each with its kind, and its bounds where it is a vector, in order, repeats too
 pub record Declares (text : List ℕ) (declared : List Declaration) : Type 0 where
   pub statements : List Placed
-  pub reads : read_faultless text ≡ Ok statements
+  pub reads : IsFaultless text statements
   pub is : declarations statements ≡ declared
-
--- two texts declare the same
-pub record DeclareAlike (text other : List ℕ) : Type 0 where
-  pub declared : List Declaration
-  pub here : Declares text declared
-  pub there : Declares other declared
 
 -- a text denotes one netlist only, and what it declares is one list only
 abbrev pub OneNetlistLaw : Type 0

@@ -2,7 +2,7 @@
 //!
 //! Floor: readers, on netlist_core, verilog_syntax, verilog_names, verilog_checks, base_types and token_forms.
 //! Contract: `read_netlist` gives what `specs/Denoted.antt` says the text denotes, and refuses exactly as
-//! `read_faultless` of verilog_checks says. Begin with `netlist.rt`.
+//! `HoldsInVerilog` of verilog_checks says. Begin with `netlist.rt`.
 #![tactic(auto)]
 
 mod bits;

@@ -15,7 +15,6 @@ use verilog_syntax::read_statements;
 /// The netlist of a Verilog text of less than 4 GiB, or its first fault: VerilogSyntax at the first statement that matches no
 /// form, or where the module isn't closed; SecondModule; then VerilogNumber, VerilogTwice and BadSelect, each at the first
 /// statement that has it; or want of memory (IEEE 1364-2005, in this profile).
-#[tactic(auto, unfolding(verilog_checks::specs::Faults::read_faultless))]
 pub fn read_netlist(alloc: Global, bytes: &[u8]) -> Result<Netlist, ReadFault>
     requires size { length bytes.now < 2 ^ 32 }
     ensures value { IfOk result (DenotesNetlist bytes.now) }

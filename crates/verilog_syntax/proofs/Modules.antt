@@ -17,7 +17,7 @@ use Rattle.verilog_syntax.specs.declared.reading.Placed.{Placed}
 use Rattle.verilog_syntax.specs.Grammar.{header, statement}
 use Rattle.verilog_syntax.specs.Reading.{Answers, statement_of, header_of, result_and_then, fault_at, line_of_tokens, placed_or, read_statement, read_header, read_others, read_body, ends_module, body_len, read_end, read_module, read_statements}
 use Rattle.verilog_syntax.specs.Laws.{tokens_in}
-use Rattle.verilog_syntax.specs.Module.{IsOpen, IsClosed, IsLocated, AreStatements, IsBody, IsModule, HasNoForm, IsFormFault, Open, Empty, NoHeader, NoStatement, Second, Behind, IsExactModule, ModuleLaw, FormFaultLaw}
+use Rattle.verilog_syntax.specs.Module.{IsOpen, IsClosed, IsLocated, AreStatements, IsBody, IsModule, HasNoForm, IsFormFault, Open, Empty, NoHeader, NoStatement, Second, Behind, IsExactModule, ModuleLaw, FormFaultLaw, OneFormFaultLaw, OneModuleLaw}
 use Rattle.verilog_syntax.proofs.Bodies.{joined, joined-statements}
 use Rattle.verilog_syntax.proofs.Forms.{statement_spells, header_spells}
 use Rattle.verilog_syntax.proofs.ReadForms.{statement_reads, header_reads}
@@ -215,10 +215,98 @@ ok_err f x e = cc
 pub module_law : ModuleLaw
 module_law text ps = (λ e. subst (ModuleIs text) e (module_is text), λ m. module_reads text ps m)
 
+-- a first fault of form is what is answered
+absent : (o : Option Statement) → ((v : Statement) → o ≡ Some v → ⊥) → o ≡ None
+absent None none = refl
+absent (Some v) none = absurd (none v refl)
+
+none_read : (line : ℕ) (ts : List Token) → HasNoForm statement ts → read_statement line ts ≡ Err (fault_at VerilogSyntax line)
+unfolding read_statement
+none_read line ts none = ap (placed_or line) (absent (statement_of ts) (λ v e. none v (statement_spells ts v e)))
+
+no_header_read : (line : ℕ) (ts : List Token) → HasNoForm header ts → read_header line ts ≡ Err (fault_at VerilogSyntax line)
+unfolding read_header
+no_header_read line ts none = ap (placed_or line) (absent (header_of ts) (λ v e. none v (header_spells ts v e)))
+
+others_stop : (text : List ℕ) (front ss : List (List Token)) (s : List Token) (ps : List Placed) → AreStatements text front ps → HasNoForm statement s
+    → read_others text (front ++ s ∷ ss) ≡ Err (fault_at VerilogSyntax (line_of_tokens text s))
+unfolding read_others
+others_stop text [] ss s [] are none = rw (none_read (line_of_tokens text s) s none) refl
+others_stop text [] ss s (p ∷ ps) are none = absurd are
+others_stop text (t ∷ front) ss s [] are none = absurd are
+others_stop text (t ∷ front) ss s (p ∷ ps) are none = rw (one_statement text t p are.0, others_stop text front ss s ps are.1 none) refl
+
+body_stops : (text : List ℕ) (line : ℕ) (front ss : List (List Token)) (s : List Token) (ps : List Placed)
+    → ((t : List Token) (others : List (List Token)) → front ++ s ∷ ss ≡ t ∷ others → line ≡ line_of_tokens text t) → IsBody text front ps → HasNoForm statement s
+    → read_body line text (front ++ s ∷ ss) ≡ Err (fault_at VerilogSyntax (line_of_tokens text s))
+unfolding read_body
+body_stops text line [] ss s ps at is none = absurd is
+body_stops text line (t ∷ front) ss s [] at is none = absurd is
+body_stops text line (t ∷ front) ss s (p ∷ ps) at is none = rw (one_header text t p line (at t (front ++ s ∷ ss) refl) is.0, others_stop text front ss s ps is.1 none) refl
+
+headless : (text : List ℕ) (line : ℕ) (s : List Token) (ss : List (List Token)) → HasNoForm header s → read_body line text (s ∷ ss) ≡ Err (fault_at VerilogSyntax line)
+unfolding read_body
+headless text line s ss none = rw (no_header_read line s none) refl
+
+empty_body : (text : List ℕ) (line : ℕ) → read_body line text (statements_of []) ≡ Err (fault_at VerilogSyntax line)
+unfolding read_body statements_of
+empty_body text line = refl
+
+open_len : (ts : List Token) → IsOpen ts → body_len ts ≡ length ts
+open_len [] none = refl
+open_len (t ∷ ts) none = let k = open_len ts none.1 in rw (none.0) (omega arith)
+
+second_end : (text : List ℕ) (t : Token) (behind : List Token) (ps : List Placed) → t.text ≡ codes "module" → closing text (t ∷ behind) (Ok ps) ≡ Err (fault_at SecondModule (line_at text t.start))
+unfolding read_end
+second_end text t behind ps is = rw (same_text t.text (codes "module") is) refl
+
+other_end : (text : List ℕ) (t : Token) (behind : List Token) (ps : List Placed) → bytes_eq t.text (codes "module") ≡ false → closing text (t ∷ behind) (Ok ps) ≡ Err (fault_at VerilogSyntax (line_at text t.start))
+unfolding read_end
+other_end text t behind ps is = rw is refl
+
+module _ (text : List ℕ) (body behind : List Token) (c : IsClosed text body behind) where
+  abbrev line : ℕ
+  line = line_of_tokens text (tokens_in text)
+
+  -- what a module that is closed is read as, by what its body is
+  from_body : (read : Result (List Placed) Fault) → read_body line text (statements_of body) ≡ read → read_statements text ≡ closing text behind read
+  from_body read e = closed_module text (tokens_in text) body behind c.end c.is c.text_is c.first ∙ ap (closing text behind) e
+
+  full_body : (ps : List Placed) → IsBody text (statements_of body) ps → read_statements text ≡ closing text behind (Ok ps)
+  full_body ps is = from_body (Ok ps) (body_reads text line (statements_of body) ps (first_at text body behind c) is)
+
+  bare_body : (s : List Token) (ss : List (List Token)) → statements_of body ≡ s ∷ ss → HasNoForm header s → read_statements text ≡ Err (fault_at VerilogSyntax (line_of_tokens text s))
+  bare_body s ss is none =
+      from_body (Err (fault_at VerilogSyntax line)) (ap (read_body line text) is ∙ headless text line s ss none) ∙ ap (λ (n : ℕ). Err (fault_at VerilogSyntax n)) (first_at text body behind c s ss is)
+
+  stopped_body : (front ss : List (List Token)) (s : List Token) (ps : List Placed) → statements_of body ≡ front ++ s ∷ ss → IsBody text front ps → HasNoForm statement s
+      → read_statements text ≡ Err (fault_at VerilogSyntax (line_of_tokens text s))
+  stopped_body front ss s ps is are none =
+      from_body (Err (fault_at VerilogSyntax (line_of_tokens text s)))
+      (ap (read_body line text) is ∙ body_stops text line front ss s ps (λ t others e. first_at text body behind c t others (is ∙ e)) are none)
+
+form_fault_reads : (text : List ℕ) (f : Fault) → IsFormFault text f → read_statements text ≡ Err f
+form_fault_reads text f (Open none is) = open_module text (tokens_in text) (open_len (tokens_in text) none) ∙ ap Err (sym is)
+form_fault_reads text f (Empty behind c is) = from_body text [] behind c (Err _) (empty_body text (line_of_tokens text (tokens_in text))) ∙ ap Err (sym is)
+form_fault_reads text f (NoHeader body behind s ss c cut none is) = bare_body text body behind c s ss cut none ∙ ap Err (sym is)
+form_fault_reads text f (NoStatement body behind s front ss ps c cut are none is) = stopped_body text body behind c front ss s ps cut are none ∙ ap Err (sym is)
+form_fault_reads text f (Second body behind t ps c are text_is is) = full_body text body (t ∷ behind) c ps are ∙ second_end text t behind ps text_is ∙ ap Err (sym is)
+form_fault_reads text f (Behind body behind t ps c are other is) = full_body text body (t ∷ behind) c ps are ∙ other_end text t behind ps other ∙ ap Err (sym is)
+
 pub form_fault_law : FormFaultLaw
-form_fault_law text f e = subst (ModuleIs text) e (module_is text)
+form_fault_law text f = (λ e. subst (ModuleIs text) e (module_is text), form_fault_reads text f)
+
+same_err : {X : Type 0} (r : Result X Fault) (f g : Fault) → r ≡ Err f → r ≡ Err g → f ≡ g
+same_err r f g a b = let both = sym a ∙ b in cc
+
+pub one_form_fault : OneFormFaultLaw
+one_form_fault text f g a b = same_err (read_statements text) f g (form_fault_reads text f a) (form_fault_reads text g b)
+
+pub one_module : OneModuleLaw
+one_module text ps m =
+    (λ f fault. ok_err f ps (sym (module_reads text ps m) ∙ form_fault_reads text f fault), λ qs n. same_ok qs ps (sym (module_reads text qs n) ∙ module_reads text ps m))
 
 pub exact_module : (text : List ℕ) (result : Result (List Placed) ReadFault) → Answers result (read_statements text) → IsExactModule text result
 exact_module text (Ok ps) e = ((module_law text ps).0 e, λ qs m. same_ok qs ps (sym (module_reads text qs m) ∙ e))
-exact_module text (Err (faults.Fault f)) e = (form_fault_law text f e, λ qs m. ok_err f qs (sym (module_reads text qs m) ∙ e))
+exact_module text (Err (faults.Fault f)) e = ((form_fault_law text f).0 e, λ qs m. ok_err f qs (sym (module_reads text qs m) ∙ e))
 exact_module text (Err faults.NoMemory) e = tt

@@ -75,6 +75,14 @@ IsExactModule text (Err faults.NoMemory) = Unit {0}
 abbrev pub ModuleLaw : Type 0
 ModuleLaw = (text : List ℕ) (ps : List Placed) → (read_statements text ≡ Ok ps → IsModule text ps) × (IsModule text ps → read_statements text ≡ Ok ps)
 
--- what is refused is the first fault of form
+-- what is refused is the first fault of form, and there is no other
 abbrev pub FormFaultLaw : Type 0
-FormFaultLaw = (text : List ℕ) (f : Fault) → read_statements text ≡ Err f → IsFormFault text f
+FormFaultLaw = (text : List ℕ) (f : Fault) → (read_statements text ≡ Err f → IsFormFault text f) × (IsFormFault text f → read_statements text ≡ Err f)
+
+-- so a text has one first fault of form at most
+abbrev pub OneFormFaultLaw : Type 0
+OneFormFaultLaw = (text : List ℕ) (f g : Fault) → IsFormFault text f → IsFormFault text g → f ≡ g
+
+-- and none where it is a module, whose statements are one list only
+abbrev pub OneModuleLaw : Type 0
+OneModuleLaw = (text : List ℕ) (ps : List Placed) → IsModule text ps → ((f : Fault) → IsFormFault text f → ⊥) × ((qs : List Placed) → IsModule text qs → qs ≡ ps)

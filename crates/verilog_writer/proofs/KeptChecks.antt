@@ -17,7 +17,8 @@ use Rattle.verilog_syntax.specs.declared.reading.Placed.{Placed}
 use Rattle.verilog_syntax.specs.Reading.{fault_at}
 use Rattle.verilog_names.specs.declared.bounds.Bounds.{Bounds}
 use Rattle.verilog_names.specs.Declarations.{Declaration, declarations_in, declarations, is_named, first_of, is_declared, bounds_or_none, bounds_in, is_port_kind, is_wire, ports_in, header_ports, has, items_in, mentions_in, mentions, undeclared_in}
-use Rattle.verilog_checks.specs.Faults.{check_from, check_number, check_twice, check_select, is_bad_number, is_bad_range, range_in, vector_bits, bad_number, is_vector, has_twice, same_bounds, stands_again, any_again, instances_named, instance_names, pins_in, has_bit_in, scalars_in, scalars, are_bits, have_bits, bad_twice, is_bad_select, has_direction, is_badly_listed, differ_in_width, bad_select}
+use Rattle.verilog_checks.specs.Checks.{check_from, check_number, check_twice, check_select, has_twice, stands_again, any_again, has_bit_in, are_bits, have_bits, bad_twice}
+use Rattle.verilog_checks.specs.Faults.{is_bad_number, is_bad_range, range_in, vector_bits, bad_number, is_vector, same_bounds, instances_named, instance_names, pins_in, scalars_in, scalars, is_bad_select, has_direction, is_badly_listed, differ_in_width, bad_select}
 use Rattle.verilog_reader.specs.Numbering.{entries}
 use Rattle.verilog_reader.proofs.Checked.{Passes, passes, IsSound, declared_named, each_left, each_right}
 use Rattle.verilog_reader.proofs.Distinct.{each_append}

@@ -19,6 +19,7 @@ use Rattle.verilog_syntax.specs.StatementParts.{item_texts}
 use Rattle.verilog_names.specs.declared.bounds.Bounds.{Bounds}
 use Rattle.verilog_names.specs.Values.{unescaped, name_text, bit_name, decimal_value}
 use Rattle.verilog_names.specs.Declarations.{width, indexes, Declaration, declarations, is_named, first_of, is_declared, bounds_or_none, bounds_in, has, mentions, undeclared_in, selects}
+use Rattle.verilog_checks.proofs.Faultless.{passed}
 use Rattle.verilog_reader.specs.Denoted.{first_declared, first_mentioned, net_entries, entry_nets, bit_text, DenotesNetlist}
 use Rattle.verilog_reader.specs.Numbering.{entries}
 use Rattle.verilog_reader.proofs.BitNaming.{IsSmall, indexes_within}
@@ -32,7 +33,7 @@ use Rattle.verilog_writer.specs.VerilogText.{NetBit, indexed_item, net_text, IsI
 use Rattle.verilog_writer.specs.Written.{text_of}
 use Rattle.verilog_writer.proofs.Bits.{own, bit_item}
 use Rattle.verilog_writer.proofs.Names.{name_again}
-use Rattle.verilog_writer.proofs.Nets.{CanBeEscaped, HasSmall, IsSoundEntry, passed, entries_sound}
+use Rattle.verilog_writer.proofs.Nets.{CanBeEscaped, HasSmall, IsSoundEntry, entries_sound}
 
 -- a scalar net that is declared or mentioned, or a bit of a declared vector
 abbrev pub IsKnown : List Placed → List ℕ → Option ℕ → Type 0

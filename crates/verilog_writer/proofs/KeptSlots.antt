@@ -5,9 +5,9 @@ use Rattle.netlist_core.specs.declared.netlist.Netlist.{Netlist}
 use Rattle.verilog_syntax.specs.Laws.{module_parts}
 use Rattle.verilog_syntax.proofs.SpelledLaw.{spelled_law}
 use Rattle.verilog_names.specs.Declarations.{declarations}
+use Rattle.verilog_checks.proofs.Faultless.{passed}
 use Rattle.verilog_reader.specs.Denoted.{DenotesNetlist}
 use Rattle.verilog_writer.proofs.Edited.{slots_rising}
-use Rattle.verilog_writer.proofs.Nets.{passed}
 use Rattle.verilog_writer.proofs.KeptLists.{Has, Spaced}
 use Rattle.verilog_writer.proofs.KeptPlaces.{places, pin_places, right_places, places_spaced, pins_spaced, rights_spaced, pin_within, right_within, one_kind, instance_spans, right_spans, instances_placed, assigns_placed}
 use Rattle.verilog_writer.proofs.KeptEdits.{AreSlots}

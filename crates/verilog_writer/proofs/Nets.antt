@@ -16,17 +16,17 @@ use Rattle.verilog_syntax.specs.declared.statement.Statement.{Statement}
 use Rattle.verilog_syntax.specs.declared.statement.Statement.TheVariants as statements
 use Rattle.verilog_syntax.specs.declared.reading.Placed.{Placed}
 use Rattle.verilog_syntax.specs.StatementParts.{IsName, IsExpression, IsAnyExpression, IsGoodConnection, IsGoodStatement}
-use Rattle.verilog_syntax.specs.Reading.{result_and_then, read_statements}
 use Rattle.verilog_syntax.proofs.SpelledLaw.{spelled_law}
 use Rattle.verilog_syntax.proofs.Trees.{Begins, Behind, expression_begins}
 use Rattle.verilog_names.specs.declared.bounds.Bounds.{Bounds}
 use Rattle.verilog_names.specs.Values.{decimal_value, is_big_index, bit_name}
 use Rattle.verilog_names.specs.Declarations.{indexes, width, Declaration, declaration_of, declarations_in, declarations, is_declared, bounds_of, has, mentions_of, connection_items, items_in, mentions_in, mentions, undeclared_in}
 use Rattle.verilog_reader.specs.Denoted.{first_declared, first_mentioned, net_entries, entry_nets, bit_text}
-use Rattle.verilog_checks.specs.Faults.{is_bad_range, range_in, is_bad_number, check_number, check_twice, check_select, read_faultless}
+use Rattle.verilog_checks.specs.Faults.{is_bad_range, range_in, is_bad_number}
 use Rattle.verilog_checks.specs.Steps.{has_bad_number, are_small}
 use Rattle.verilog_reader.proofs.BitNaming.{IsSmall, indexes_within}
 use Rattle.verilog_reader.proofs.BitNaming as naming
+use Rattle.verilog_checks.proofs.Faultless.{Passed, passed}
 use Rattle.verilog_checks.proofs.Small.{small_passed}
 use Rattle.verilog_writer.specs.NetTexts.{IsNetText, NetsLaw}
 use Rattle.verilog_writer.proofs.Bits.{first_part, second_part}
@@ -182,30 +182,6 @@ entry_written name (Some b) black small = bits_written name b black small (index
 entries_written : (es : List (List ℕ × Option Bounds)) → Each IsSoundEntry es → Each IsWrittenNet (flat_map (λ e. entry_nets e.0 e.1) es)
 entries_written [] sound = tt
 entries_written (e ∷ es) sound = each_join IsWrittenNet (entry_nets e.0 e.1) (flat_map (λ e. entry_nets e.0 e.1) es) (entry_written e.0 e.1 sound.0.0 sound.0.1) (entries_written es sound.1)
-
--- a text without a fault has passed the checks
-pub record Passed (text : List ℕ) (ps : List Placed) : Type 0 where
-  pub read : read_statements text ≡ Ok ps
-  pub number : check_number ps ≡ Ok tt
-  pub twice : check_twice ps ≡ Ok tt
-  pub select : check_select ps ≡ Ok tt
-
-ok_err : {X P : Type 0} (f : Fault) (x : X) → ◌≡◌ {A = Result X Fault} (Err f) (Ok x) → P
-ok_err f x e = absurd cc
-
-same_ok : (ps qs : List Placed) → ◌≡◌ {A = Result (List Placed) Fault} (Ok ps) (Ok qs) → ps ≡ qs
-same_ok ps qs e = cc
-
-result_ok : {A B P : Type 0} (f : A → Result B Fault) (r : Result A Fault) (y : B) → result_and_then f r ≡ Ok y → ((x : A) → r ≡ Ok x → f x ≡ Ok y → P) → P
-result_ok f (Ok x) y e k = k x refl e
-result_ok f (Err fault) y e k = ok_err fault y e
-
-pub passed : (text : List ℕ) (ps : List Placed) → read_faultless text ≡ Ok ps → Passed text ps
-unfolding read_faultless
-passed text ps e =
-    result_ok _ (read_statements text) ps e (λ qs read e. result_ok _ (check_number qs) ps e (λ a number e.
-    result_ok _ (check_twice qs) ps e (λ b twice e. result_ok _ (check_select qs) ps e (λ c select e.
-    subst (Passed text) (same_ok qs ps e) (record { read = read; number = number; twice = twice; select = select })))))
 
 pub entries_sound : (text : List ℕ) (ps : List Placed) → Passed text ps → Each IsSoundEntry (net_entries ps)
 entries_sound text ps p =

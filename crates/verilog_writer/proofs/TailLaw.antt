@@ -30,7 +30,8 @@ use Rattle.verilog_syntax.specs.Laws.{nowhere, bare, AreRead}
 use Rattle.verilog_syntax.specs.Reading.{read_statements}
 use Rattle.verilog_syntax.specs.StatementParts.{is_header}
 use Rattle.verilog_syntax.proofs.SpelledLaw.{spelled_law}
-use Rattle.verilog_checks.specs.Faults.{read_faultless}
+use Rattle.verilog_checks.specs.Faults.{IsFaultless}
+use Rattle.verilog_checks.proofs.Faultless.{passed}
 use Rattle.verilog_reader.specs.Denoted.{IsNetlistOf, DenotesNetlist}
 use Rattle.verilog_reader.proofs.Distinct.{Distinct, IsApartFrom, each_weaker}
 use Rattle.verilog_writer.specs.VerilogText.{BitEdit, text_edits, written_verilog, changed_items, changed_statement, changed_placed, changed_statements, AreVerilogEdits}
@@ -42,7 +43,6 @@ use Rattle.verilog_writer.proofs.InsertedLaw.{inserted_law}
 use Rattle.verilog_writer.proofs.KeptBits.{kept_items}
 use Rattle.verilog_writer.proofs.KeptEdits.{once}
 use Rattle.verilog_writer.proofs.KeptNames.{put_instance}
-use Rattle.verilog_writer.proofs.Nets.{passed}
 use Rattle.verilog_writer.proofs.TailBits.{at_pin, at_right}
 use Rattle.verilog_writer.proofs.TailDenoted.{IsTailBits, tail_assigns, tail_lines, bit_assigns, count_assigns, put_netlist}
 use Rattle.verilog_writer.proofs.TailEdits.{AreTailed}
@@ -129,7 +129,7 @@ target_is n cells old new edits e =
     (map_alike _ _ placed.connections (λ c. ap (λ (net : Option NetId). let x : Connection = record { pin = c.pin; expr = edited_expr net c.expr } in x) (puts_are n cells old new edits e k c.pin)))))
 
 -- the text is read
-module _ (text : List ℕ) (n : Netlist) (h : Placed) (body : List Placed) (header : is_header h.statement ≡ true) (reads : read_faultless text ≡ Ok (h ∷ body)) (is : IsNetlistOf (h ∷ body) n) (ok : IsNetlist n)
+module _ (text : List ℕ) (n : Netlist) (h : Placed) (body : List Placed) (header : is_header h.statement ≡ true) (reads : IsFaultless text (h ∷ body)) (is : IsNetlistOf (h ∷ body) n) (ok : IsNetlist n)
     (cells : Cells) (edits : Edits) (are : AreTailed n cells (h ∷ body) edits) (apart : Distinct (names_of edits)) (few : length n.nets + length edits.tails < 2 ^ 32)
     (all : List Edit) (same : IsPermutation (expression_edits n cells edits) all) (lines : AreRising 0 (length text) (with_tails text n edits.tails all)) where
   rising : AreRising 0 (length text) all
@@ -240,7 +240,7 @@ text_law text n d cells old new edits e r named all same lines = by d.statements
     few : length n.nets + length edits.tails < 2 ^ 32
     few = let f = named.few in let c = count in omega (arith, f, c)
 
-    by : (ps : List Placed) → read_faultless text ≡ Ok ps → IsNetlistOf ps n → AreTailed n cells ps edits → IsDenoted text n cells old new edits (spliced text (with_tails text n edits.tails all))
+    by : (ps : List Placed) → IsFaultless text ps → IsNetlistOf ps n → AreTailed n cells ps edits → IsDenoted text n cells old new edits (spliced text (with_tails text n edits.tails all))
     by [] reads is are = let s = spelled_law text [] (passed text [] reads).read in absurd s.good.order
     by (h ∷ body) reads is are =
         let s = spelled_law text (h ∷ body) (passed text (h ∷ body) reads).read in

@@ -29,12 +29,14 @@ use Rattle.verilog_syntax.specs.StatementParts.{is_header}
 use Rattle.verilog_names.specs.declared.bounds.Bounds.{Bounds}
 use Rattle.verilog_names.specs.Declarations.{Declaration, declarations_in, declarations, bounds_in, mentions}
 use Rattle.verilog_names.specs.NameTables.{total}
-use Rattle.verilog_checks.specs.Faults.{check_number, check_twice, check_select, differ_in_width, read_faultless}
+use Rattle.verilog_checks.specs.Checks.{check_number, check_twice, check_select}
+use Rattle.verilog_checks.specs.Faults.{differ_in_width, IsFaultless}
+use Rattle.verilog_checks.proofs.Faultless.{passed, faultless}
 use Rattle.verilog_reader.specs.Denoted.{item_bits, said_assigns_in, said_instances_in, seen_assign, seen_instance, first_declared, header_name, IsNetlistOf, DenotesNetlist}
 use Rattle.verilog_reader.specs.Numbering.{entries, numbered}
 use Rattle.verilog_reader.proofs.Checked.{IsSound, mentioned_named, each_from, each_left, each_right}
 use Rattle.verilog_reader.proofs.Distinct.{Distinct, each_weaker, each_both, each_append}
-use Rattle.verilog_reader.proofs.NetlistOf.{is_netlist_of, is_netlist, faultless}
+use Rattle.verilog_reader.proofs.NetlistOf.{is_netlist_of, is_netlist}
 use Rattle.verilog_reader.proofs.NumberedLists.{length-nets}
 use Rattle.verilog_reader.proofs.Places.{named as has_entry, entries_are}
 use Rattle.verilog_writer.specs.NetTexts.{net_name}
@@ -42,7 +44,6 @@ use Rattle.verilog_writer.specs.VerilogText.{NetBit, BitEdit, net_item, text_edi
 use Rattle.verilog_writer.specs.Written.{IsWrittenFrom, DenotesAlike}
 use Rattle.verilog_writer.specs.Inserted.{BitAssign, wire_statement, bit_expression, assign_statement, extended}
 use Rattle.verilog_writer.specs.Wired.{expression_edits, DeclareBehind}
-use Rattle.verilog_writer.proofs.Nets.{passed}
 use Rattle.verilog_writer.proofs.KeptBits.{IsKnownEdit, IsKnownBit, bit_edits, bit_edits_texts, bit_edits_known, bit_edits_are}
 use Rattle.verilog_writer.proofs.KeptChecks.{number_good, twice_good, select_good}
 use Rattle.verilog_writer.proofs.KeptCounts.{fewer_nets}
@@ -75,7 +76,7 @@ wire_kept : (bits : List BitEdit) (ds : List Declaration) (names : List (List �
 wire_kept bits ds [] = tt
 wire_kept bits ds (name ∷ names) = (refl, wire_kept bits ds names)
 
-module _ (text : List ℕ) (n : Netlist) (h : Placed) (body : List Placed) (header : is_header h.statement ≡ true) (reads : read_faultless text ≡ Ok (h ∷ body)) (is : IsNetlistOf (h ∷ body) n) (ok : IsNetlist n)
+module _ (text : List ℕ) (n : Netlist) (h : Placed) (body : List Placed) (header : is_header h.statement ≡ true) (reads : IsFaultless text (h ∷ body)) (is : IsNetlistOf (h ∷ body) n) (ok : IsNetlist n)
     (cells : Cells) (edits : Edits) (are : AreTailed n cells (h ∷ body) edits) (apart : Distinct (names_of edits)) (few : length n.nets + length edits.tails < 2 ^ 32)
     (all : List Edit) (same : IsPermutation (expression_edits n cells edits) all) (rising : AreRising 0 (length text) all) where
   abbrev ps : List Placed

@@ -20,12 +20,12 @@ use Rattle.verilog_syntax.specs.declared.reading.Placed.{Placed}
 use Rattle.verilog_syntax.specs.Laws.{tokens_in}
 use Rattle.verilog_syntax.specs.Reading.{read_statements}
 use Rattle.verilog_syntax.proofs.SpelledLaw.{spelled_law}
+use Rattle.verilog_checks.proofs.Faultless.{passed}
 use Rattle.verilog_reader.specs.Denoted.{DenotesNetlist}
 use Rattle.verilog_reader.proofs.Distinct.{each_weaker, each_any}
 use Rattle.verilog_writer.specs.Written.{edit_at}
 use Rattle.verilog_writer.specs.Inserted.{put_in, with_lines, header_end, last_start}
 use Rattle.verilog_writer.specs.Wired.{pin_connection, pin_edit, port_edit, tail_edit, expression_edits, tail_wire, tail_line, with_tails, AreEditsBetween}
-use Rattle.verilog_writer.proofs.Nets.{passed}
 use Rattle.verilog_writer.proofs.KeptEdits.{AreSlots, starts_permuted, in_row}
 use Rattle.verilog_writer.proofs.KeptLists.{Has, has_right, has_flat, each_has, each_permuted, has_permuted}
 use Rattle.verilog_writer.proofs.KeptPlaces.{places, has_span, has_right_span}

@@ -14,7 +14,8 @@ use Rattle.verilog_syntax.specs.declared.reading.Placed.{Placed}
 use Rattle.verilog_syntax.specs.StatementParts.{is_header}
 use Rattle.verilog_names.specs.declared.bounds.Bounds.{Bounds}
 use Rattle.verilog_names.specs.Declarations.{Declaration, declarations_in, declarations, is_named, is_declared, bounds_in, is_port_kind, ports_in, header_ports, has, items_in, mentions_in, mentions}
-use Rattle.verilog_checks.specs.Faults.{check_number, check_twice, check_select, is_bad_number, is_bad_range, range_in, vector_bits_from, vector_bits, bad_number, has_twice, any_again, instances_named, instance_names, pins_in, has_bit_in, bad_twice, is_bad_select, has_direction, is_badly_listed, differ_in_width, bad_select}
+use Rattle.verilog_checks.specs.Checks.{check_number, check_twice, check_select, has_twice, any_again, has_bit_in, bad_twice}
+use Rattle.verilog_checks.specs.Faults.{is_bad_number, is_bad_range, range_in, vector_bits_from, vector_bits, bad_number, instances_named, instance_names, pins_in, is_bad_select, has_direction, is_badly_listed, differ_in_width, bad_select}
 use Rattle.verilog_reader.specs.Numbering.{entries}
 use Rattle.verilog_reader.proofs.Checked.{Passes, passes, IsSound, mentioned_named, declared_named, each_left, each_right}
 use Rattle.verilog_reader.proofs.Distinct.{Distinct, each_weaker, each_append}

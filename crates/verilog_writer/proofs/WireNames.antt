@@ -17,7 +17,8 @@ use Rattle.verilog_syntax.specs.StatementParts.{is_header}
 use Rattle.verilog_names.specs.declared.bounds.Bounds.{Bounds}
 use Rattle.verilog_names.specs.Values.{unescaped, bit_name, name_text}
 use Rattle.verilog_names.specs.Declarations.{indexes, Declaration, declarations_in, declarations, is_named, first_of, is_declared, bounds_or_none, bounds_in, mentions_in, mentions, undeclared_in}
-use Rattle.verilog_checks.specs.Faults.{is_vector, added_bits, vector_bits_from, vector_bits, stands_again, any_again, has_bit_in}
+use Rattle.verilog_checks.specs.Checks.{stands_again, any_again, has_bit_in}
+use Rattle.verilog_checks.specs.Faults.{is_vector, added_bits, vector_bits_from, vector_bits}
 use Rattle.verilog_reader.specs.Numbering.{entries}
 use Rattle.verilog_reader.proofs.Distinct.{Distinct, IsApartFrom, each_weaker}
 use Rattle.verilog_reader.proofs.Places.{named, same_bytes, bytes_same, bytes_swap}

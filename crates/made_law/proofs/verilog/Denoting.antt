@@ -20,7 +20,8 @@ use Rattle.verilog_syntax.proofs.Modules.{module_law}
 use Rattle.verilog_names.specs.declared.bounds.Bounds.{Bounds}
 use Rattle.verilog_names.specs.Values.{unescaped, name_text}
 use Rattle.verilog_names.specs.Declarations.{Declaration, declaration_of, declarations_in, declarations, header_ports, mentions_in, mentions, undeclared_in}
-use Rattle.verilog_checks.specs.Faults.{check_number, check_twice, check_select, read_faultless}
+use Rattle.verilog_checks.specs.Faults.{IsFaultless}
+use Rattle.verilog_checks.proofs.Faultless.{faultless}
 use Rattle.verilog_checks.proofs.Undeclared.{undeclared-append}
 use Rattle.verilog_checks.proofs.VerilogFaults.{no_fault}
 use Rattle.verilog_reader.specs.Denoted.{said_ports_of, said_ports, said_assigns_in, said_instances_in, first_declared, first_mentioned, entry_nets, declared_nets, said_nets, SeenPort, SeenAssign, SeenInstance, seen_port, seen_assign, seen_instance, IsNetlistOf}
@@ -41,11 +42,6 @@ use Rattle.made_law.proofs.verilog.Modules.{module_is}
 use Rattle.made_law.proofs.verilog.Placing.{Place, put_in, put_all, places_of, stands, behind, put_both, Everywhere, each_put, all_join, all_range, none_put, said_range}
 use Rattle.made_law.proofs.verilog.Scalars.{IsScalar, IsFine, no_bounds, undeclared_yet, all_scalar, number_ok, select_ok, twice_ok}
 use Rattle.made_law.proofs.verilog.Declared.{source, unit_at, rest_of, even_module, module_even, outs, wires, made_declared, declared_are, ports_are, instances_are, names_are, Fine, all_fine}
-
--- a text whose statements go through all checks
-faultless : (text : List ℕ) (ps : List Placed) → read_statements text ≡ Ok ps → check_number ps ≡ Ok tt → check_twice ps ≡ Ok tt → check_select ps ≡ Ok tt → read_faultless text ≡ Ok ps
-unfolding read_faultless
-faultless text ps a b c d = rw (a, b, c, d) refl
 
 -- the declared names are the nets
 first_all : (before ds : List Declaration) (a b : ℕ) → Rising name_key a (map (λ d. d.name) (before ++ ds)) b → first_declared before ds ≡ map (λ d. (d.name, d.bounds)) ds
@@ -169,7 +165,7 @@ module _ (n : ℕ) (some : 8 ≤ n) (most : n ≤ 16384) (at : ℕ → Place) wh
   units_rise : Rising number_in 0 (map unit (units n)) n
   units_rise = rising_range number_in unit 0 0 n 0 n (λ k from to. let v = value_of k (omega arith) in omega (arith, v)) (omega arith) (omega arith)
 
-  goes_through : (text : List ℕ) → read_statements text ≡ Ok ps → read_faultless text ≡ Ok ps
+  goes_through : (text : List ℕ) → read_statements text ≡ Ok ps → IsFaultless text ps
   goes_through text read =
       faultless text ps read (number_ok ps fine) (twice_ok ps fine name_key number_in 0 (19 + n) 0 n rise (subst (λ (l : List (List ℕ)). Rising number_in 0 l n) (sym (instances_are at n)) units_rise)) (select_ok ps fine)
 

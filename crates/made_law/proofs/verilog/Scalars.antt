@@ -16,7 +16,8 @@ use Rattle.verilog_syntax.specs.declared.reading.Placed.{Placed}
 use Rattle.verilog_names.specs.declared.bounds.Bounds.{Bounds}
 use Rattle.verilog_names.specs.Values.{unescaped}
 use Rattle.verilog_names.specs.Declarations.{Declaration, declarations_in, declarations, is_named, first_of, is_declared, bounds_in, ports_in, header_ports, has, items_in, mentions_in, undeclared_in}
-use Rattle.verilog_checks.specs.Faults.{check_from, added_bits, vector_bits_from, range_in, bad_number, has_twice, any_again, instances_named, instance_names, pins_in, has_bit_in, have_bits, scalars_in, scalars, bad_twice, is_badly_listed, has_direction, bad_select, is_bad_number, is_bad_select, differ_in_width}
+use Rattle.verilog_checks.specs.Checks.{check_from, has_twice, any_again, has_bit_in, have_bits, bad_twice}
+use Rattle.verilog_checks.specs.Faults.{added_bits, vector_bits_from, range_in, bad_number, instances_named, instance_names, pins_in, scalars_in, scalars, is_badly_listed, has_direction, bad_select, is_bad_number, is_bad_select, differ_in_width}
 use Rattle.verilog_checks.proofs.AnyLemmas.{any_none}
 use Rattle.def_syntax.proofs.FrameLaws.{each_append, each_front}
 use Rattle.made_law.proofs.designs.Rising.{Rising}

@@ -1,5 +1,5 @@
 use Rattle.std.proofs.Common.{◌≡◌, map, take, drop}
-use Rattle.verilog_checks.specs.Faults.{has_twice}
+use Rattle.verilog_checks.specs.Checks.{has_twice}
 use Rattle.verilog_names.specs.NameSets.{HasNames}
 use Rattle.verilog_checks.proofs.NameLists.{stands_behind}
 use Rattle.verilog_checks.proofs.name_lists.has_twice.Given as goal

@@ -1,7 +1,8 @@
 use Rattle.std.proofs.Common.{◌≡◌, ◌≤◌, true, take, drop}
 use Rattle.base_types.specs.declared.kind.Kind.TheVariants.{VerilogNumber}
 use Rattle.verilog_names.specs.Declarations.{declarations}
-use Rattle.verilog_checks.specs.Faults.{check_from, bad_number, check_number}
+use Rattle.verilog_checks.specs.Checks.{check_from, check_number}
+use Rattle.verilog_checks.specs.Faults.{bad_number}
 use Rattle.verilog_checks.specs.Steps.{are_small, AreCounted}
 use Rattle.verilog_checks.proofs.number.check_number.Given as goal
 

@@ -1,6 +1,7 @@
 use Rattle.std.proofs.Common.{◌≡◌, take, drop}
 use Rattle.base_types.specs.declared.kind.Kind.TheVariants.{BadSelect}
-use Rattle.verilog_checks.specs.Faults.{check_from, bad_select, check_select}
+use Rattle.verilog_checks.specs.Checks.{check_from, check_select}
+use Rattle.verilog_checks.specs.Faults.{bad_select}
 use Rattle.verilog_checks.proofs.select.check_select.Given as goal
 
 abbrev pub invariant-loop-placed : goal.invariant-loop-placed

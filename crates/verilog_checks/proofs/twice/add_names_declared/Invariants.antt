@@ -1,6 +1,6 @@
 use Rattle.std.proofs.Common.{◌≡◌, ◌++◌, ◌||◌, List, ℕ, map, take, drop}
 use Rattle.verilog_names.specs.Declarations.{Declaration}
-use Rattle.verilog_checks.specs.Faults.{any_again, have_bits}
+use Rattle.verilog_checks.specs.Checks.{any_again, have_bits}
 use Rattle.verilog_checks.specs.Seen.{AreKnown, declared_as}
 use Rattle.verilog_checks.proofs.twice.add_names_declared.Given as goal
 

@@ -3,7 +3,7 @@ use Rattle.std.proofs.lemmas.List.{take_more, take_all}
 use Rattle.base_types.specs.declared.kind.Kind.TheVariants.{VerilogTwice}
 use Rattle.verilog_syntax.specs.declared.reading.Placed.{Placed}
 use Rattle.verilog_names.specs.Declarations.{declarations}
-use Rattle.verilog_checks.specs.Faults.{bad_twice}
+use Rattle.verilog_checks.specs.Checks.{bad_twice}
 use Rattle.verilog_names.specs.NameTables.{firsts_of}
 use Rattle.verilog_checks.specs.Seen.{IsSeen}
 use Rattle.verilog_checks.proofs.Passes.{passes, fails, passed}

@@ -1,6 +1,6 @@
 use Rattle.std.proofs.Common.{◌≡◌, take, drop}
 use Rattle.base_types.specs.declared.kind.Kind.TheVariants.{VerilogTwice}
-use Rattle.verilog_checks.specs.Faults.{check_from, bad_twice, check_twice}
+use Rattle.verilog_checks.specs.Checks.{check_from, bad_twice, check_twice}
 use Rattle.verilog_checks.specs.Seen.{IsSeen}
 use Rattle.verilog_checks.proofs.twice.check_twice.Given as goal
 

@@ -1,7 +1,7 @@
 use Rattle.std.proofs.Common.{Option, sym, ap, ◌∙◌}
 use Rattle.std.specs.List.{list_any}
 use Rattle.verilog_names.specs.declared.bounds.Bounds.{Bounds}
-use Rattle.verilog_checks.specs.Faults.{has_bit_in}
+use Rattle.verilog_checks.specs.Checks.{has_bit_in}
 use Rattle.verilog_checks.proofs.AnyLemmas.{any_none}
 use Rattle.verilog_checks.proofs.ClosedNames.{no_closed_bits}
 use Rattle.verilog_checks.proofs.twice.has_bit_among.Goals as goal

@@ -4,7 +4,7 @@ use Rattle.base_types.specs.declared.memory.NoMemory.{NoMemory}
 use Rattle.netlist_core.specs.declared.netlist.Netlist.{Netlist}
 use Rattle.netlist_core.specs.Netlists.{IsNetlist}
 use Rattle.verilog_syntax.specs.declared.reading.Placed.{Placed}
-use Rattle.verilog_checks.specs.Faults.{check_number, check_twice, check_select}
+use Rattle.verilog_checks.specs.Checks.{check_number, check_twice, check_select}
 use Rattle.verilog_reader.specs.Denoted.{IsNetlistOf}
 use Rattle.verilog_reader.specs.Numbering.{entries, numbered}
 use Rattle.verilog_reader.proofs.NetlistOf.{statements_fit, is_netlist_of, is_netlist}

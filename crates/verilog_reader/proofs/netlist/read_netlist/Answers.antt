@@ -4,9 +4,9 @@ use Rattle.base_types.specs.FirstFault.{Answers}
 use Rattle.verilog_syntax.specs.declared.reading.Placed.{Placed}
 use Rattle.netlist_core.specs.declared.netlist.Netlist.{Netlist}
 use Rattle.verilog_names.specs.declared.declared.First.{First}
-use Rattle.verilog_checks.specs.Faults.{IsRefused, check_number, check_twice, check_select}
-use Rattle.verilog_checks.proofs.VerilogFaults.{form_stage, number_stage, twice_stage, select_stage, none}
-use Rattle.verilog_reader.proofs.NetlistOf.{faultless}
+use Rattle.verilog_checks.specs.Checks.{IsRefused, check_number, check_twice, check_select}
+use Rattle.verilog_checks.proofs.Faultless.{faultless}
+use Rattle.verilog_checks.proofs.VerilogFaults.{form_stage, number_stage, twice_stage, select_stage, no_fault}
 use Rattle.verilog_reader.proofs.netlist.read_netlist.Goals as goal
 
 pub returns-clause-value : goal.returns-clause-value
@@ -18,7 +18,9 @@ returns-clause-value c = record {
 }
 
 pub returns-clause-no_fault : goal.returns-clause-no_fault
-returns-clause-no_fault c = none c.args.bytes.now c.in_ok-statements.statements c.in_ok-statements.ensures.value (search rules) (search rules) (search rules)
+returns-clause-no_fault c =
+    let ps = c.in_ok-statements.statements in
+    no_fault c.args.bytes.now ps (faultless c.args.bytes.now ps c.in_ok-statements.ensures.value (search rules) (search rules) (search rules))
 
 pub returns-in_err-statements-clause-fault : goal.returns-in_err-statements-clause-fault
 returns-in_err-statements-clause-fault c =

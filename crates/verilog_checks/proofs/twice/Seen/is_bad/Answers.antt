@@ -1,7 +1,8 @@
 use Rattle.std.proofs.Common.{◌++◌, Bor, List, ℕ, ap, ◌∙◌}
 use Rattle.std.specs.List.{filter}
 use Rattle.verilog_names.specs.Declarations.{declarations, has}
-use Rattle.verilog_checks.specs.Faults.{are_bits, instance_names, scalars}
+use Rattle.verilog_checks.specs.Checks.{are_bits}
+use Rattle.verilog_checks.specs.Faults.{instance_names, scalars}
 use Rattle.verilog_checks.specs.Seen.{is_bracketed}
 use Rattle.verilog_checks.proofs.NameLists.{now_of}
 use Rattle.verilog_checks.proofs.SeenMore.{tells}
