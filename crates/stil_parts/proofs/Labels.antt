@@ -24,7 +24,7 @@ sure-token is t = by (is_bare t) (is_string t) (is_only 58 t)
     by false false true = refl
     by false false false = refl
 
-cond-one : (e : Bool) (g : Stage) → cond e g g ≡ g
+pub cond-one : (e : Bool) (g : Stage) → cond e g g ≡ g
 cond-one true g = refl
 cond-one false g = refl
 
@@ -33,7 +33,7 @@ word-sure is prev [] = refl
 word-sure is prev (t ∷ ts) = ap (λ (g : Stage). word_in (behind_token g t.text) t.end ts) (cond-one (eqb t.start prev) (Sure is)) ∙ ap (λ (g : Stage). word_in g t.end ts) (sure-token is t.text) ∙ word-sure is t.end ts
 
 -- the kinds of tokens exclude one another
-only-is : (m : ℕ) (t : List ℕ) → is_only m t ≡ true → t ≡ m ∷ []
+pub only-is : (m : ℕ) (t : List ℕ) → is_only m t ≡ true → t ≡ m ∷ []
 only-is m [] e = absurd (false≢true e)
 only-is m (b ∷ []) e = ap (λ (x : ℕ). x ∷ []) (eqb-true b m e)
 only-is m (b ∷ c ∷ bs) e = absurd (false≢true e)

@@ -6,7 +6,9 @@ pub mod Comings
 pub mod EndLaw
 pub mod Ends
 pub mod GapLemmas
+pub mod HeadPlace
 pub mod HeadStable
+pub mod HeadTurns
 pub mod Labels
 pub mod OpensLaw
 pub mod PartStable
