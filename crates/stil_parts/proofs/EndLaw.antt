@@ -1,79 +1,76 @@
--- Where a scan ends a statement, its tokens end it, and nowhere else.
-use Rattle.std.proofs.Common.{◌≡◌, ℕ, zero, suc, ◌+◌, ◌-◌, ◌<◌, ◌≤◌, Bool, false, List, length, drop, take, get_or, Option, Some, None, refl, sym, ap, subst, ◌∙◌, arith, inl, inr}
-use Rattle.std.proofs.lemmas.Bool.{cases_Bool, cases_lt}
-use Rattle.std.proofs.lemmas.List.{drop_more, drop_all, drop-drop}
-use Rattle.token_forms.specs.declared.piece.Piece.{Piece}
-use Rattle.token_forms.specs.declared.piece.Piece.TheVariants.{Blank, Token as token}
-use Rattle.token_forms.specs.Pieces.{piece_len, tokens_from}
-use Rattle.base_types.specs.declared.span.Span.{Span}
-use Rattle.token_forms.specs.Tokens.{Token, tokens_of}
-use Rattle.token_forms.proofs.Cuts.{Steps, steps}
-use Rattle.stil_parts.specs.declared.scan.Mode.TheVariants.{Free}
+-- Where a scan in a Pattern ends a statement, its tokens end it, and nowhere else.
+use Rattle.std.proofs.Common.{◌≡◌, ℕ, suc, ◌+◌, Bool, true, false, cond, eqb, ◌&&◌, List, [], ◌∷◌, length, Option, Some, None, refl, sym, ap, ◌∙◌, arith, inl, inr}
+use Rattle.std.proofs.lemmas.Bool.{cases_Bool, cases_eq, eq-eqb, ne_eqb}
+use Rattle.token_forms.specs.Tokens.{Token}
+use Rattle.stil_tokens.specs.StilTokens.{tokens_in}
+use Rattle.stil_parts.specs.declared.scan.Scan.{Scan}
 use Rattle.stil_parts.specs.declared.scan.Found.{Found}
-use Rattle.stil_parts.specs.Scanner.{later, end_of}
+use Rattle.stil_parts.specs.Scanner.{at_brace, found, later, end_of}
 use Rattle.stil_parts.specs.Parts.{begin}
 use Rattle.stil_parts.specs.declared.word.Word.TheVariants.{Known}
-use Rattle.stil_tokens.specs.StilTokens.{piece_at}
-use Rattle.stil_tokens.specs.StilStatements.{token_ends, depth_behind}
 use Rattle.stil_parts.specs.Ending.{statement_end, end_place, EndLaw}
+use Rattle.stil_parts.specs.ByTokens.{ended, shown_of, shown}
 use Rattle.stil_parts.proofs.Scans.{later-zero}
-use Rattle.stil_tokens.proofs.StilPieces.{stil_cut}
-use Rattle.stil_parts.proofs.TokenEnds.{plain, plain-nil, IsThrough, piece-through}
+use Rattle.stil_parts.proofs.Ends.{Went, Ended, Opened, stepped, end_goes, end_ends, end_opens}
+use Rattle.stil_parts.proofs.Stages.{Sure}
+use Rattle.stil_parts.proofs.TokenScan.{ends_in, word_in, holds}
+use Rattle.stil_parts.proofs.Labels.{word-sure, ends-top, top_end}
 
--- the place of an end that was found behind a place
-abbrev place_from : ℕ → Option Found → Option ℕ
-place_from at o = end_place (later at o)
+same-len : (m n : ℕ) → eqb (1 + m) (suc n) ≡ eqb m n
+same-len m n = elim (cases_eq m n) [
+  | inl e ↦ (let k : 1 + m ≡ suc n = omega arith in eq-eqb (1 + m) (suc n) k ∙ sym (eq-eqb m n e))
+  | inr ne ↦ ne_eqb (1 + m) (suc n) (λ e. ne (omega (arith, e))) ∙ sym (ne_eqb m n ne)
+]
 
-place-later : (at n : ℕ) (o : Option Found) → place_from at (later n o) ≡ place_from (at + n) o
-place-later at n None = refl
-place-later at n (Some f) = let e : at + (n + f.len) ≡ at + n + f.len = omega arith in ap (λ (k : ℕ). Some k) e
+shown-later : (n : ℕ) (o : Option Found) → later 1 (shown_of n o) ≡ shown_of (suc n) (later 1 o)
+shown-later n None = refl
+shown-later n (Some f) = later-if (f.opens && eqb f.len n) ∙ ap (λ (b : Bool). cond (f.opens && b) None (Some (found (1 + f.len) f.opens))) (sym (same-len f.len n))
+  where
+    later-if : (b : Bool) → later 1 (cond b None (Some f)) ≡ cond b None (Some (found (1 + f.len) f.opens))
+    later-if true = refl
+    later-if false = refl
 
-module _ (last : Bool) (text : List ℕ) where
-  abbrev tokens_at : ℕ → List Token
-  tokens_at at = tokens_of text (tokens_from piece_at at 0 (drop at text))
+shown-none : (s : Scan) → end_of false s [] ≡ shown_of 0 (end_of true s [])
+unfolding end_of
+shown-none s = by (at_brace s)
+  where
+    by : (b : Bool) → None ≡ shown_of 0 (cond b (Some (found 0 true)) None)
+    by true = refl
+    by false = refl
 
-  -- the law from a place on, for so many bytes behind it
-  abbrev Holds : ℕ → ℕ → Type 0
-  Holds d at = place_from at (end_of last (plain Free d) (drop at text)) ≡ statement_end d (tokens_at at)
+-- in a text that goes on, a brace as the last byte shows nothing, and all else is as in one that ends
+pub front-shown : (s : Scan) (x : List ℕ) → end_of false s x ≡ shown_of (length x) (end_of true s x)
+front-shown s [] = shown-none s
+front-shown s (b ∷ bs) = elim (stepped s b) [
+  | Went t h ↦ end_goes false s b bs t h ∙ ap (later 1) (front-shown t bs) ∙ shown-later (length bs) (end_of true t bs) ∙ sym (ap (shown_of (suc (length bs))) (end_goes true s b bs t h))
+  | Ended h ↦ end_ends false s b bs h ∙ sym (ap (shown_of (suc (length bs))) (end_ends true s b bs h))
+  | Opened h ↦ (
+      let apart : eqb 0 (suc (length bs)) ≡ false = ne_eqb 0 (suc (length bs)) (λ e. omega arith) in
+      end_opens false s b bs h ∙ sym (ap (λ (c : Bool). cond c None (Some (found 0 true))) apart) ∙ sym (ap (shown_of (suc (length bs))) (end_opens true s b bs h)))
+]
 
-  at-nothing : (d at : ℕ) → length text ≤ at → Holds d at
-  unfolding tokens_from
-  at-nothing d at le = rw (drop_all at text le) (ap (place_from at) (plain-nil last Free d))
+pub front-as : (last : Bool) (s : Scan) (x : List ℕ) → end_of last s x ≡ shown last (length x) (end_of true s x)
+front-as true s x = refl
+front-as false s x = front-shown s x
 
-  one-piece : (d at : ℕ) (p : Piece) → at < length text → p ≡ piece_at (drop at text) → IsThrough last d (drop at text) p → Steps piece_at text at p
-      → ((e : ℕ) → Holds e (at + piece_len p)) → Holds d at
-  one-piece d at (Blank n) lt is t s more =
-      ap (place_from at) t.is ∙ place-later at n _ ∙ ap (λ (x : List ℕ). place_from (at + n) (end_of last (plain Free d) x)) (drop-drop n at text) ∙ more d
-      ∙ ap (λ (ss : List Span). statement_end d (tokens_of text ss)) (sym s.same)
-  one-piece d at (token n) lt is t s more =
-      let size : at + n - at ≡ n = omega arith in
-      let word = ap (λ (k : ℕ). take k (drop at text)) size in
-      elim (cases_Bool (token_ends d (take n (drop at text)))) [
-        | inl e ↦ (
-            let here = rw e at t.is in
-            ap (place_from at) here ∙ sym (ap (λ (ss : List Span). statement_end d (tokens_of text ss)) s.same ∙ (rw (word, e) refl)))
-        | inr e ↦ (
-            let here = rw e at t.is in
-            ap (place_from at) here ∙ place-later at n _
-            ∙ ap (λ (x : List ℕ). place_from (at + n) (end_of last (plain Free (depth_behind d (take n (drop at text)))) x)) (drop-drop n at text)
-            ∙ more (depth_behind d (take n (drop at text)))
-            ∙ sym (ap (λ (ss : List Span). statement_end d (tokens_of text ss)) s.same ∙ (rw (word, e) refl)))
-      ]
+shown-ended : (last : Bool) (n : ℕ) (o : Option ℕ) → shown last n (ended o) ≡ ended o
+shown-ended true n o = refl
+shown-ended false n None = refl
+shown-ended false n (Some e) = refl
 
-  holds-within : (fuel d at : ℕ) → length text ≤ at + fuel → Holds d at
-  holds-within zero d at le = at-nothing d at (omega arith)
-  holds-within (suc fuel) d at le = elim (cases_lt at (length text)) [
-    | inl lt ↦ (
-        let cut = drop_more text at 0 lt in
-        let p = piece_at (drop at text) in
-        let s = steps piece_at text at p stil_cut lt refl in
-        let some : 0 < piece_len p = s.some in
-        let through : IsThrough last d (drop at text) p = subst (λ (x : List ℕ). IsThrough last d x (piece_at x)) (sym cut) (piece-through last d (get_or text at 0) (drop (at + 1) text)) in
-        one-piece d at p lt refl through s (λ e. holds-within fuel e (at + piece_len p) (omega arith)))
-    | inr ge ↦ at-nothing d at ge
-  ]
+end_whole : (text : List ℕ) → end_of true (begin (Known false)) text ≡ ended (statement_end 0 (tokens_in text))
+end_whole text =
+    let ts = tokens_in text in
+    let h = holds text (Sure false) 0 0 in
+    sym (later-zero (end_of true (begin (Known false)) text)) ∙ h.ends ∙ ends-top (Sure false) 0 ts ∙ ap (λ (b : Bool). top_end b ts) (word-sure false 0 ts)
+
+-- the end that is found in a Pattern, by tokens
+pub end_found : (last : Bool) (text : List ℕ) → end_of last (begin (Known false)) text ≡ ended (statement_end 0 (tokens_in text))
+end_found last text = front-as last (begin (Known false)) text ∙ ap (shown last (length text)) (end_whole text) ∙ shown-ended last (length text) (statement_end 0 (tokens_in text))
+
+place-ended : (o : Option ℕ) → end_place (ended o) ≡ o
+place-ended None = refl
+place-ended (Some n) = refl
 
 pub end_law : EndLaw
-end_law last text =
-    let h = holds-within last text (length text) 0 0 (omega arith) in
-    ap end_place (sym (later-zero (end_of last (begin (Known false)) text))) ∙ h
+end_law last text = ap end_place (end_found last text) ∙ place-ended (statement_end 0 (tokens_in text))

@@ -1,15 +1,22 @@
 pub mod BytesKept
 mod CalmRuns
 pub mod Choices
+pub mod Comes
 pub mod Comings
 pub mod EndLaw
 pub mod Ends
 pub mod GapLemmas
+pub mod HeadPlace
 pub mod HeadStable
+pub mod HeadTurns
+pub mod Labels
+pub mod OpensLaw
 pub mod PartStable
 pub mod Resumed
 pub mod Scans
 pub mod Searches
 pub mod ShownLaw
+pub mod Stages
 pub mod TokenEnds
+pub mod TokenScan
 pub mod Turns

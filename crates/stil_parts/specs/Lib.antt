@@ -1,3 +1,4 @@
+pub mod ByTokens
 pub mod Calm
 pub mod Coming
 pub mod Deciding

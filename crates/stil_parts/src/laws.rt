@@ -1,4 +1,5 @@
 //! Laws of the definitions, each carried by a contract.
+ghost use Rattle.stil_parts.specs.ByTokens.{OpensLaw, PartLaw, HeadPlaceLaw};
 ghost use Rattle.stil_parts.specs.Ending.{EndLaw};
 ghost use Rattle.stil_parts.specs.Heads.{HeadLaw};
 ghost use Rattle.stil_parts.specs.Laws.{BytesLaw, ShownLaw};
@@ -22,4 +23,18 @@ pub fn head_law()
 /// Where a text isn't refused, none of its bytes is lost. It does nothing; its contract is the law.
 pub fn bytes_law()
     ensures law { BytesLaw }
+{}
+
+/// At the top a scan finds the brace that opens a Pattern, where the tokens have the word Pattern and a block behind it, and else
+/// the end of the statement, where its tokens end it; so a part of a text is told by tokens alone. It does nothing; its contract
+/// is the law.
+pub fn opens_law()
+    ensures law { OpensLaw }
+    ensures parts { PartLaw }
+{}
+
+/// The head of a text ends where, by the tokens, the first statement begins whose word is Pattern, or where the text ends. It does
+/// nothing; its contract is the law.
+pub fn head_place_law()
+    ensures law { HeadPlaceLaw }
 {}

@@ -17,7 +17,7 @@ mod word;
 pub use choice::{Decision, LARGEST, decide};
 pub use gap::{Comment, Gap, MOST, Place, Point, gap_at};
 pub use head::HeadTurn;
-pub use laws::{bytes_law, end_law, head_law, shown_law};
+pub use laws::{bytes_law, end_law, head_law, head_place_law, opens_law, shown_law};
 pub use part::{Part, PartFault, Search, begin_at, part_len, search_part};
 pub use scan::{After, Found, Mode, Scan, Scanned, scan_on};
 pub use word::Word;
