@@ -10,7 +10,7 @@ use Rattle.lef_pins.specs.declared.blocks.MacroReading.{MacroReading}
 use Rattle.lef_pins.specs.declared.file.FileReading.{FileReading}
 use Rattle.lef_pins.specs.declared.macros.Macro.{Macro as macro_value}
 use Rattle.lef_pins.specs.declared.macros.MacroPin.{MacroPin}
-use Rattle.lef_pins.specs.Blocks.{name_of, Block, MacroItem, FileItem, Macro, Passed}
+use Rattle.lef_pins.specs.Blocks.{name_of, is_closed, Block, MacroItem, FileItem, Macro, Passed}
 use Rattle.lef_pins.specs.Faults.{NamedBlock, place_if, unclosed, syntax_in_items, is_size_item, unsized, syntax_in_macro, numbers_in_macro, again_in, pin_rows, macro_rows, macros_of, pins_again, syntax_places, number_places, twice_places}
 use Rattle.lef_pins.specs.Macros.{NamedMacros, macro_at}
 use Rattle.lef_pins.specs.Denoted.{macro_of, size_from, origin_from}
@@ -26,9 +26,9 @@ read l b = gathered put_macro_item (macro_start l) b.items
 macro_next-syntax : (f : FileReading) (name : Token) (b : Block MacroItem) → (put_file_item f (Macro name b)).least.syntax ≡ lesser f.least.syntax (least_of (syntax_in_macro b))
 unfolding put_file_item put_macro with_syntax
 macro_next-syntax f name b =
-    ap (λ (o : Option ℕ). lesser (lesser o (found_if (not b.closed) b.mark.start)) (found_if (not (read f.least b).sized) b.mark.start)) (macro_syntax (macro_start f.least) b.items)
-    ∙ ap (λ (s : Bool). lesser (lesser (lesser f.least.syntax (least_of (syntax_in_items false b.items))) (found_if (not b.closed) b.mark.start)) (found_if (not s) b.mark.start)) (macro_sized (macro_start f.least) b.items)
-    ∙ ap (λ (o : Option ℕ). lesser o (found_if (not (list_any is_size_item b.items)) b.mark.start)) (then_place f.least.syntax (syntax_in_items false b.items) (not b.closed) b.mark.start)
+    ap (λ (o : Option ℕ). lesser (lesser o (found_if (not (is_closed b)) b.mark.start)) (found_if (not (read f.least b).sized) b.mark.start)) (macro_syntax (macro_start f.least) b.items)
+    ∙ ap (λ (s : Bool). lesser (lesser (lesser f.least.syntax (least_of (syntax_in_items false b.items))) (found_if (not (is_closed b)) b.mark.start)) (found_if (not s) b.mark.start)) (macro_sized (macro_start f.least) b.items)
+    ∙ ap (λ (o : Option ℕ). lesser o (found_if (not (list_any is_size_item b.items)) b.mark.start)) (then_place f.least.syntax (syntax_in_items false b.items) (not (is_closed b)) b.mark.start)
     ∙ then_place f.least.syntax (syntax_in_items false b.items ++ unclosed b) (not (list_any is_size_item b.items)) b.mark.start
     ∙ ap (λ (ps : List ℕ). lesser f.least.syntax (least_of ps)) (append_assoc (syntax_in_items false b.items) (unclosed b) (unsized b))
 

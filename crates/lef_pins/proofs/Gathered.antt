@@ -9,7 +9,7 @@ use Rattle.lef_pins.specs.declared.least.Least.{Least}
 use Rattle.lef_pins.specs.declared.pins.PinReading.{PinReading}
 use Rattle.lef_pins.specs.declared.blocks.MacroReading.{MacroReading}
 use Rattle.lef_pins.specs.declared.macros.MacroPin.{MacroPin}
-use Rattle.lef_pins.specs.Blocks.{name_of, Block, PinItem, Port, OfPin, MacroItem, Pin, Shapes, OfMacro}
+use Rattle.lef_pins.specs.Blocks.{name_of, is_closed, Block, PinItem, Port, OfPin, MacroItem, Pin, Shapes, OfMacro}
 use Rattle.lef_pins.specs.Statements.{start_of, is_read_rect, rect_values, is_bad_rect, is_far_rect, is_bad, is_far}
 use Rattle.lef_pins.specs.Faults.{place_if, syntax_in_port, syntax_in_pin_item, syntax_in_pin, syntax_in_item, syntax_in_items, is_size_item, numbers_in_port, numbers_in_pin_item, numbers_in_item}
 use Rattle.lef_pins.specs.Denoted.{port_rect, item_rect, pin_rect, pins_of, size_from, origin_from}
@@ -68,7 +68,7 @@ port_first p (s ∷ ss) =
 item_syntax : (p : PinReading) (i : PinItem) → (put_pin_item p i).least.syntax ≡ lesser p.least.syntax (least_of (syntax_in_pin_item i))
 unfolding put_pin_item with_syntax
 item_syntax p (Port b) =
-    ap (λ (o : Option ℕ). lesser o (found_if (not b.closed) b.mark.start)) (port_syntax p b.items) ∙ then_place p.least.syntax (syntax_in_port b.items) (not b.closed) b.mark.start
+    ap (λ (o : Option ℕ). lesser o (found_if (not (is_closed b)) b.mark.start)) (port_syntax p b.items) ∙ then_place p.least.syntax (syntax_in_port b.items) (not (is_closed b)) b.mark.start
 item_syntax p (OfPin s) = sym (lesser_none p.least.syntax)
 
 item_number : (p : PinReading) (i : PinItem) → (put_pin_item p i).least.number ≡ lesser p.least.number (least_of (numbers_in_pin_item i))
@@ -99,13 +99,13 @@ fresh l = record { least = l; rect = None }
 pin_syntax : (m : MacroReading) (name : Token) (b : Block PinItem) → (put_macro_item m (Pin name b)).least.syntax ≡ lesser m.least.syntax (least_of (syntax_in_pin b))
 unfolding put_macro_item put_pin with_syntax with_twice
 pin_syntax m name b =
-    ap (λ (o : Option ℕ). lesser o (found_if (not b.closed) b.mark.start)) (all_places put_pin_item (λ x. x.least.syntax) syntax_in_pin_item item_syntax (fresh m.least) b.items)
-    ∙ then_place m.least.syntax (flat_map syntax_in_pin_item b.items) (not b.closed) b.mark.start
+    ap (λ (o : Option ℕ). lesser o (found_if (not (is_closed b)) b.mark.start)) (all_places put_pin_item (λ x. x.least.syntax) syntax_in_pin_item item_syntax (fresh m.least) b.items)
+    ∙ then_place m.least.syntax (flat_map syntax_in_pin_item b.items) (not (is_closed b)) b.mark.start
 
 macro_item_syntax : (m : MacroReading) (i : MacroItem) → (put_macro_item m i).least.syntax ≡ lesser m.least.syntax (least_of (syntax_in_item m.sized i))
 unfolding put_macro_item put_statement with_syntax with_number
 macro_item_syntax m (Pin name b) = pin_syntax m name b
-macro_item_syntax m (Shapes b) = ap (lesser m.least.syntax) (sym (least_if (not b.closed) b.mark.start))
+macro_item_syntax m (Shapes b) = ap (lesser m.least.syntax) (sym (least_if (not (is_closed b)) b.mark.start))
 macro_item_syntax m (OfMacro s) = ap (lesser m.least.syntax) (sym (least_if (is_bad m.sized s) (start_of s)))
 
 pub or_false : (b : Bool) → b || false ≡ b

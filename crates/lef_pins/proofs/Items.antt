@@ -8,9 +8,10 @@ use Rattle.lef_pins.specs.declared.pins.PinReading.{PinReading}
 use Rattle.lef_pins.specs.declared.blocks.MacroReading.{MacroReading}
 use Rattle.lef_pins.specs.declared.file.FileReading.{FileReading}
 use Rattle.lef_pins.specs.Statements.{text_at, start_of}
-use Rattle.lef_pins.specs.Blocks.{is_no_name, begins_with, begins_named, begins_shapes, is_shapes, ends_shapes, ends_named, inner_len, inner_at, pin_item_at, macro_item_at, file_item_at, found_at, passing_len, outer_len, Taken}
+use Rattle.lef_pins.specs.BlockReading.{inner_at, pin_item_at, macro_item_at, file_item_at, found_at, passing_len, outer_len, Taken}
+use Rattle.lef_pins.specs.Blocks.{name_of, is_no_name, begins_with, begins_named, begins_shapes, is_shapes, ends_shapes, ends_named, inner_len}
 use Rattle.lef_pins.specs.Reading.{gathered, with_syntax, put_rect, put_pin_item, put_statement, put_pin, put_macro_item, macro_start, put_macro, put_file_item, with_least}
-use Rattle.lef_pins.proofs.Trees.{pin_only}
+use Rattle.lef_pins.proofs.Trees.{pin_only, shapes_closed, named_closed}
 
 -- the state behind an item, and the tokens behind it
 pub record IsPut {S I : Type 0} (put : S → I → S) (item : List Token → Taken I) (state : S) (ts : List Token) (new : S) (rest : List Token) : Type 0 where
@@ -23,7 +24,7 @@ pub port_put : (p : PinReading) (ts : List Token) → begins_with (codes "PORT")
     IsPut put_pin_item pin_item_at p ts (record { least = with_syntax read.least (not (ends_shapes found.1)) (start_of ts); rect = read.rect }) (drop 1 found.1)
 unfolding pin_item_at put_pin_item
 port_put p [] e = absurd cc
-port_put p (t ∷ ts) e = record { state_is = rw e refl; rest_is = rw e refl }
+port_put p (t ∷ ts) e = record { state_is = rw (e, shapes_closed (found_at ends_shapes inner_at ts).1) refl; rest_is = rw e refl }
 
 pub of_pin_put : (p : PinReading) (ts : List Token) → begins_with (codes "PORT") ts ≡ false → IsPut put_pin_item pin_item_at p ts p (drop (inner_len ts) ts)
 unfolding pin_item_at put_pin_item inner_len
@@ -43,7 +44,7 @@ pub pin_put : (m : MacroReading) (ts : List Token) → begins_named (codes "PIN"
 unfolding macro_item_at put_macro_item
 pin_put m [] e = absurd cc
 pin_put m (t ∷ []) e = absurd cc
-pin_put m (t ∷ n ∷ ts) e = let both = named_parts (bytes_eq t.text (codes "PIN")) (is_no_name n) e in record { state_is = rw (both.0, both.1) refl; rest_is = rw (both.0, both.1) refl }
+pin_put m (t ∷ n ∷ ts) e = let both = named_parts (bytes_eq t.text (codes "PIN")) (is_no_name n) e in let closed = named_closed (name_of n) (found_at (ends_named (name_of n)) pin_item_at ts).1 in record { state_is = rw (both.0, both.1, closed) refl; rest_is = rw (both.0, both.1) refl }
 
 no_pin_word : (w : List ℕ) → is_shapes w ≡ true → bytes_eq w (codes "PIN") ≡ false
 no_pin_word w e = either_word (bytes_eq w (codes "PIN")) refl
@@ -69,7 +70,7 @@ pub shapes_put : (m : MacroReading) (ts : List Token) → begins_named (codes "P
     IsPut put_macro_item macro_item_at m ts (with_least m (with_syntax m.least (not (ends_shapes found.1)) (start_of ts))) (drop 1 found.1)
 unfolding macro_item_at put_macro_item
 shapes_put m [] no_pin e = absurd cc
-shapes_put m (t ∷ ts) no_pin e = let other = no_pin_word t.text e in record { state_is = rw (other, e) refl; rest_is = rw (other, e) refl }
+shapes_put m (t ∷ ts) no_pin e = let other = no_pin_word t.text e in record { state_is = rw (other, e, shapes_closed (found_at ends_shapes inner_at ts).1) refl; rest_is = rw (other, e) refl }
 
 pub statement_put : (m : MacroReading) (ts : List Token) → begins_named (codes "PIN") ts ≡ false → begins_shapes ts ≡ false
     → IsPut put_macro_item macro_item_at m ts (put_statement m (inner_at ts).0) (inner_at ts).1
@@ -85,7 +86,7 @@ pub macro_put : (f : FileReading) (ts : List Token) → begins_named (codes "MAC
 unfolding file_item_at put_file_item
 macro_put f [] e = absurd cc
 macro_put f (t ∷ []) e = absurd cc
-macro_put f (t ∷ n ∷ ts) e = let both = named_parts (bytes_eq t.text (codes "MACRO")) (is_no_name n) e in record { state_is = rw (both.0, both.1) refl; rest_is = rw (both.0, both.1) refl }
+macro_put f (t ∷ n ∷ ts) e = let both = named_parts (bytes_eq t.text (codes "MACRO")) (is_no_name n) e in let closed = named_closed (name_of n) (found_at (ends_named (name_of n)) macro_item_at ts).1 in record { state_is = rw (both.0, both.1, closed) refl; rest_is = rw (both.0, both.1) refl }
 
 lone_macro : (f : FileReading) (t : Token) (b : Bool) → bytes_eq t.text (codes "MACRO") ≡ b → IsPut put_file_item file_item_at f (t ∷ []) f (drop (outer_len (t ∷ [])) (t ∷ []))
 unfolding file_item_at put_file_item

@@ -14,7 +14,8 @@ use Rattle.base_types.proofs.LineLemmas.{line_at-from}
 use Rattle.base_types.specs.declared.span.Span.{Span}
 use Rattle.token_forms.specs.Tokens.{Token, tokens_of}
 use Rattle.def_tokens.specs.DefTokens.{def_tokens, tokens_in}
-use Rattle.lef_pins.specs.Blocks.{name_of, FileItem, IsLef, lef_at}
+use Rattle.lef_pins.specs.BlockReading.{lef_at}
+use Rattle.lef_pins.specs.Blocks.{name_of, FileItem, IsLef}
 use Rattle.lef_pins.specs.Faults.{macros_of, syntax_places, number_places, twice_places, HoldsInLef, Syntax, Number, Twice}
 use Rattle.lef_pins.specs.Macros.{NamedMacros}
 use Rattle.lef_pins.specs.Denoted.{macro_of, DenotesMacros}

@@ -2,7 +2,8 @@
 use Rattle.std.proofs.Common.{◌≡◌, ℕ, suc, ◌<◌, ◌≤◌, ◌==◌, Bool, true, false, ◌||◌, not, List, [], ◌∷◌, length, refl, sym, ap, ◌∙◌, arith}
 use Rattle.std.proofs.lemmas.Bool.Decides.{nat_tests}
 use Rattle.token_forms.specs.Tokens.{Token}
-use Rattle.lef_pins.specs.Blocks.{Taken, items_within, found_at, ends_never}
+use Rattle.lef_pins.specs.BlockReading.{Taken, items_within, found_at}
+use Rattle.lef_pins.specs.Blocks.{Kind, ends_never}
 use Rattle.lef_pins.specs.Reading.{gathered, goes_on}
 use Rattle.lef_pins.proofs.Trees.{Reads, IsSame, found, ended, gone_on, items_only}
 
@@ -44,16 +45,18 @@ goes {ends} n e = not_true ends (sym (ap (λ (b : Bool). not (b || ends)) (some 
 stops : {ends : Bool} (n : ℕ) → not (suc n == 0 || ends) ≡ false → ends ≡ true
 stops {ends} n e = not_false ends (sym (ap (λ (b : Bool). not (b || ends)) (some n)) ∙ e)
 
-module _ {I : Type 0} (ends : List Token → Bool) (IsItem : I → List Token → List Token → Type 0) (item : List Token → Taken I) (reads : Reads ends IsItem item) where
+module _ {I : Type 0} (ends : List Token → Bool) (kind : Kind I) (item : List Token → Taken I) (reads : Reads ends kind item) where
   -- the items don't hang on how many may be found
   enough : (n : ℕ) (ts : List Token) → length ts ≤ n → IsSame (items_within n ends item ts) (found_at ends item ts).0 (found_at ends item ts).1
-  enough n ts short = items_only ends IsItem item reads n ts (found_at ends item ts).0 (found_at ends item ts).1 short (found ends IsItem item reads (length ts) ts (omega arith)).are
+  enough n ts short =
+      let all = found ends kind item reads (length ts) ts (omega arith) in
+      items_only ends kind item reads n ts (found_at ends item ts).0 (found_at ends item ts).1 short all.whole all.are all.stops
 
   behind : (t : Token) (ts : List Token) → ends (t ∷ ts) ≡ false → IsNext ends item (t ∷ ts)
   behind t ts e =
       let less = (reads.takes t ts e).less in
       let rest = enough (length ts) (item (t ∷ ts)).1 (omega arith) in
-      let more = gone_on ends IsItem item reads (length ts) t ts e in
+      let more = gone_on ends kind item reads (length ts) t ts e in
       record {
         items = ap (λ (x : Taken (List I)). x.0) more ∙ ap (λ (x : List I). (item (t ∷ ts)).0 ∷ x) (sym rest.item);
         end = ap (λ (x : Taken (List I)). x.1) more ∙ sym rest.behind;
@@ -69,7 +72,7 @@ module _ {I : Type 0} (ends : List Token → Bool) (IsItem : I → List Token �
   unfolding goes_on items_within
   at_end [] e = record { items = refl; end = refl }
   at_end (t ∷ ts) e =
-      let none = ended ends IsItem item reads (length ts) t ts (stops (length ts) e) in
+      let none = ended ends kind item reads (length ts) t ts (stops (length ts) e) in
       record { items = ap (λ (x : Taken (List I)). x.0) none; end = ap (λ (x : Taken (List I)). x.1) none }
 
   -- fewer tokens are left

@@ -10,7 +10,7 @@ use Rattle.base_types.specs.declared.fault.FileKind.TheVariants.{Lef}
 use Rattle.base_types.specs.declared.kind.Kind.TheVariants.{LefSyntax, LefNumber, LefTwice}
 use Rattle.token_forms.specs.Tokens.{Token}
 use Rattle.def_tokens.specs.DefTokens.{tokens_in}
-use Rattle.lef_pins.specs.Blocks.{name_of, Block, PinItem, Port, OfPin, MacroItem, Pin, Shapes, OfMacro, FileItem, Macro, Passed, IsLef}
+use Rattle.lef_pins.specs.Blocks.{name_of, Block, is_closed, PinItem, Port, OfPin, MacroItem, Pin, Shapes, OfMacro, FileItem, Macro, Passed, IsLef}
 use Rattle.lef_pins.specs.Statements.{start_of, begins_size, is_bad_rect, is_bad, is_far_rect, is_far}
 
 -- a place, where a test holds
@@ -19,7 +19,7 @@ place_if holds place = if holds then place ∷ [] else []
 
 -- the first token of a block that isn't closed
 abbrev pub unclosed : {I : Type 0} → Block I → List ℕ
-unclosed b = place_if (not b.closed) b.mark.start
+unclosed b = place_if (not (is_closed b)) b.mark.start
 
 -- a macro with its name
 abbrev pub NamedBlock : Type 0

@@ -1,10 +1,9 @@
 -- What passes over together outside macros, as texts (LEF 5.8): plain tokens and whole extensions, and an end behind which a macro may
--- begin.
-use Rattle.std.specs.Prelude.{◌≡◌, ℕ, Bool, true, ◌&&◌, not, List, [], ◌∷◌, ◌++◌, length, codes}
+-- begin; or what is left open at the text's end.
+use Rattle.std.specs.Prelude.{◌≡◌, ℕ, Bool, true, ◌&&◌, not, List, [], ◌∷◌, ◌++◌, codes, ◌⊎◌}
 use Rattle.std.specs.List.{flat_map, list_all, AllByRecursion}
 use Rattle.std.specs.Str.{bytes_eq}
 use Rattle.token_forms.specs.Tokens.{Token}
-use Rattle.lef_pins.specs.Blocks.{outer_len}
 
 -- the token has another text
 abbrev pub is_other : List ℕ → Token → Bool
@@ -59,11 +58,39 @@ end_tokens (Semicolon t) = t ∷ []
 end_tokens (Name end name) = end ∷ name ∷ []
 end_tokens (Definitions mark inner end name) = mark ∷ inner ++ end ∷ name ∷ []
 
--- pieces and an end pass over together, whatever stands behind them
-abbrev pub OuterLaw : Type 0
-OuterLaw = (pieces : List Piece) (end : End) (behind : List Token) → AllByRecursion IsPiece pieces → IsEnd end
-    → outer_len (flat_map piece_tokens pieces ++ (end_tokens end ++ behind)) ≡ length (flat_map piece_tokens pieces ++ end_tokens end)
+-- what may be left open at the text's end: nothing; a last END; property definitions without an END and its token; an extension
+pub data Rest : Type 0 where
+  Nothing : Rest
+  LastEnd : Token → Rest
+  OpenDefinitions : Token → List Token → List Token → Rest
+  OpenExtension : Token → List Token → Rest
 
--- pieces alone pass over up to the text's end
-abbrev pub OpenLaw : Type 0
-OpenLaw = (pieces : List Piece) → AllByRecursion IsPiece pieces → outer_len (flat_map piece_tokens pieces) ≡ length (flat_map piece_tokens pieces)
+-- no END stands in property definitions that are left open, but as the text's last token
+pub record AreOpenDefinitions (mark : Token) (inner last : List Token) : Type 0 where
+  pub begins : mark.text ≡ codes "PROPERTYDEFINITIONS"
+  pub inside : list_all (is_other (codes "END")) inner ≡ true
+  pub ends : (last ≡ []) ⊎ ((end : Token) × (last ≡ end ∷ []) × (end.text ≡ codes "END"))
+
+-- no ENDEXT stands in an extension that is left open
+pub record IsOpenExtension (mark : Token) (inner : List Token) : Type 0 where
+  pub begins : mark.text ≡ codes "BEGINEXT"
+  pub inside : list_all (is_other (codes "ENDEXT")) inner ≡ true
+
+-- what is left open is such
+abbrev pub IsRest : Rest → Type 0
+IsRest Nothing = Unit {0}
+IsRest (LastEnd end) = end.text ≡ codes "END"
+IsRest (OpenDefinitions mark inner last) = AreOpenDefinitions mark inner last
+IsRest (OpenExtension mark inner) = IsOpenExtension mark inner
+
+-- its tokens
+abbrev pub rest_tokens : Rest → List Token
+rest_tokens Nothing = []
+rest_tokens (LastEnd end) = end ∷ []
+rest_tokens (OpenDefinitions mark inner last) = mark ∷ inner ++ last
+rest_tokens (OpenExtension mark inner) = mark ∷ inner
+
+-- the tokens pass over together before those behind them: pieces and an end; or, at the text's end, pieces and what is left open
+pub data IsPassed (s behind : List Token) : Type 0 where
+  Ended : (pieces : List Piece) (end : End) → AllByRecursion IsPiece pieces → IsEnd end → s ≡ flat_map piece_tokens pieces ++ end_tokens end → IsPassed s behind
+  Open : (pieces : List Piece) (rest : Rest) → AllByRecursion IsPiece pieces → IsRest rest → s ≡ flat_map piece_tokens pieces ++ rest_tokens rest → behind ≡ [] → IsPassed s behind

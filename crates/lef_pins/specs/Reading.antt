@@ -10,7 +10,7 @@ use Rattle.lef_pins.specs.declared.pins.PinReading.{PinReading}
 use Rattle.lef_pins.specs.declared.blocks.MacroReading.{MacroReading}
 use Rattle.lef_pins.specs.declared.file.FileReading.{FileReading}
 use Rattle.lef_pins.specs.declared.macros.Macro.{Macro as macro_value}
-use Rattle.lef_pins.specs.Blocks.{name_of, PinItem, Port, OfPin, MacroItem, Pin, Shapes, OfMacro, FileItem, Macro, Passed}
+use Rattle.lef_pins.specs.Blocks.{name_of, is_closed, PinItem, Port, OfPin, MacroItem, Pin, Shapes, OfMacro, FileItem, Macro, Passed}
 use Rattle.lef_pins.specs.Statements.{start_of, is_read_rect, is_bad_rect, is_far_rect, rect_values, begins_size, begins_origin, size_values, origin_values, is_bad, is_far}
 use Rattle.lef_pins.specs.Macros.{macro_at, with_macro}
 
@@ -62,7 +62,7 @@ put_rect p s =
 unfoldable pub put_pin_item : PinReading → PinItem → PinReading
 put_pin_item p (Port b) =
     let read = gathered put_rect p b.items in
-    record { least = with_syntax read.least (not b.closed) b.mark.start; rect = read.rect }
+    record { least = with_syntax read.least (not (is_closed b)) b.mark.start; rect = read.rect }
 put_pin_item p (OfPin s) = p
 
 -- names, and one more
@@ -99,8 +99,8 @@ put_statement m s =
 
 -- a macro, and an item more
 unfoldable pub put_macro_item : MacroReading → MacroItem → MacroReading
-put_macro_item m (Pin name b) = put_pin m (name_of name) b.mark.start b.closed (gathered put_pin_item (record { least = m.least; rect = None }) b.items)
-put_macro_item m (Shapes b) = with_least m (with_syntax m.least (not b.closed) b.mark.start)
+put_macro_item m (Pin name b) = put_pin m (name_of name) b.mark.start (is_closed b) (gathered put_pin_item (record { least = m.least; rect = None }) b.items)
+put_macro_item m (Shapes b) = with_least m (with_syntax m.least (not (is_closed b)) b.mark.start)
 put_macro_item m (OfMacro s) = put_statement m s
 
 -- a macro before its first item
@@ -122,7 +122,7 @@ put_macro f name place closed m =
 
 -- a file, and an item more
 unfoldable pub put_file_item : FileReading → FileItem → FileReading
-put_file_item f (Macro name b) = put_macro f (name_of name) b.mark.start b.closed (gathered put_macro_item (macro_start f.least) b.items)
+put_file_item f (Macro name b) = put_macro f (name_of name) b.mark.start (is_closed b) (gathered put_macro_item (macro_start f.least) b.items)
 put_file_item f (Passed s) = f
 
 -- nothing is found

@@ -1,6 +1,7 @@
 //! The macros of a LEF.
 ghost use Rattle.std.specs.Prelude.{◌≡◌, ◌||◌, true, not, codes, drop, OnOk, IfOk};
-ghost use Rattle.lef_pins.specs.Blocks.{begins_named, begins_shapes, ends_shapes, ends_named, inner_at, pin_item_at, macro_item_at, found_at};
+ghost use Rattle.lef_pins.specs.BlockReading.{inner_at, pin_item_at, macro_item_at, found_at};
+ghost use Rattle.lef_pins.specs.Blocks.{begins_named, begins_shapes, ends_shapes, ends_named};
 ghost use Rattle.lef_pins.specs.Reading.{gathered, put_statement, put_pin, put_macro_item, macro_start, macro_read};
 
 use crate::ends::{begins_named, begins_shapes, ends_named, goes_on_named};

@@ -1,7 +1,8 @@
 //! How many tokens of a LEF stand together.
 ghost use Rattle.std.specs.Prelude.{◌≡◌, ◌<◌, ◌≤◌, false, length};
 ghost use Rattle.def_tokens.specs.DefStatements.{count_with};
-ghost use Rattle.lef_pins.specs.Blocks.{definitions_len, extended_behind, passing_len, outer_len, inner_len};
+ghost use Rattle.lef_pins.specs.BlockReading.{definitions_len, extended_behind, passing_len, outer_len};
+ghost use Rattle.lef_pins.specs.Blocks.{inner_len};
 
 use crate::stretch::Stretch;
 use def_tokens::statement_len;
@@ -45,7 +46,7 @@ fn extended_behind(extended: bool, text: &[u8]) -> bool
 
 /// How many tokens pass over together: up to and with a `;`, an END and the token behind it, or the END of property
 /// definitions and the token behind it, of which none stands in an extension.
-#[tactic(auto, unfolding(crate::specs::Blocks::passing_len))]
+#[tactic(auto, unfolding(crate::specs::BlockReading::passing_len))]
 fn passing_len(mut tokens: Tokens<'_, '_>) -> usize
     ensures value { result ≡ passing_len false tokens.entry }
     ensures within { result ≤ length tokens.entry }

@@ -1,6 +1,7 @@
 //! The pins of a macro.
 ghost use Rattle.std.specs.Prelude.{◌≡◌, codes, drop, not, if◌then◌else◌, Some, None};
-ghost use Rattle.lef_pins.specs.Blocks.{begins_with, ends_shapes, ends_named, inner_len, inner_at, pin_item_at, found_at};
+ghost use Rattle.lef_pins.specs.BlockReading.{inner_at, pin_item_at, found_at};
+ghost use Rattle.lef_pins.specs.Blocks.{begins_with, ends_shapes, ends_named, inner_len};
 ghost use Rattle.lef_pins.specs.Statements.{is_read_rect, rect_values};
 ghost use Rattle.lef_pins.specs.Reading.{gathered, with_syntax, put_rect, put_pin_item};
 

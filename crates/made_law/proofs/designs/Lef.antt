@@ -5,7 +5,8 @@ use Rattle.def_tokens.specs.DefTokens.{piece_at, tokens_in}
 use Rattle.def_tokens.specs.DefStatements.{statement_len}
 use Rattle.def_tokens.specs.Numbers.{decimal_of}
 use Rattle.design_maker.specs.MadeCells.{lef_text}
-use Rattle.lef_pins.specs.Blocks.{name_of, items_within, passing_len, inner_len, pin_item_at, macro_item_at, file_item_at, lef_at}
+use Rattle.lef_pins.specs.BlockReading.{items_within, passing_len, pin_item_at, macro_item_at, file_item_at, lef_at}
+use Rattle.lef_pins.specs.Blocks.{name_of, inner_len}
 use Rattle.lef_pins.specs.Statements.{is_size, is_origin, is_read_rect, is_rect, is_fit_rect, rect_values, begins_size, begins_origin, is_fit_size, is_fit_origin, size_values, origin_values}
 use Rattle.lef_pins.specs.Faults.{macros_of, syntax_places, number_places, twice_places}
 use Rattle.lef_pins.specs.Denoted.{macro_of}

@@ -1,5 +1,6 @@
 use Rattle.std.proofs.Common.{length}
-use Rattle.lef_pins.specs.Blocks.{ends_named, macro_item_at}
+use Rattle.lef_pins.specs.BlockReading.{macro_item_at}
+use Rattle.lef_pins.specs.Blocks.{ends_named}
 use Rattle.lef_pins.specs.Reading.{put_macro_item}
 use Rattle.lef_pins.proofs.Loops.{Kept}
 use Rattle.lef_pins.proofs.blocks.read_macro.Given as goal

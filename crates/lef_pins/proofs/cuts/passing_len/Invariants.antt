@@ -1,5 +1,5 @@
 use Rattle.std.proofs.Common.{◌≡◌, ◌+◌, false, length}
-use Rattle.lef_pins.specs.Blocks.{passing_len}
+use Rattle.lef_pins.specs.BlockReading.{passing_len}
 use Rattle.lef_pins.proofs.cuts.passing_len.Given as goal
 
 abbrev pub invariant-loop-token : goal.invariant-loop-token

@@ -1,5 +1,6 @@
 use Rattle.std.proofs.Common.{length}
-use Rattle.lef_pins.specs.Blocks.{ends_never, file_item_at}
+use Rattle.lef_pins.specs.BlockReading.{file_item_at}
+use Rattle.lef_pins.specs.Blocks.{ends_never}
 use Rattle.lef_pins.specs.Reading.{put_file_item, file_start}
 use Rattle.lef_pins.proofs.Loops.{Kept}
 use Rattle.lef_pins.proofs.file.read_file.Given as goal

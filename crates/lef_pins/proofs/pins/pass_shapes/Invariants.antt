@@ -1,5 +1,6 @@
 use Rattle.std.proofs.Common.{◌≡◌, length}
-use Rattle.lef_pins.specs.Blocks.{ends_shapes, inner_at, found_at}
+use Rattle.lef_pins.specs.BlockReading.{inner_at, found_at}
+use Rattle.lef_pins.specs.Blocks.{ends_shapes}
 use Rattle.lef_pins.proofs.pins.pass_shapes.Given as goal
 
 abbrev pub invariant-loop-rest : goal.invariant-loop-rest

@@ -1,5 +1,6 @@
 use Rattle.std.proofs.Common.{length}
-use Rattle.lef_pins.specs.Blocks.{ends_named, pin_item_at}
+use Rattle.lef_pins.specs.BlockReading.{pin_item_at}
+use Rattle.lef_pins.specs.Blocks.{ends_named}
 use Rattle.lef_pins.specs.Reading.{put_pin_item}
 use Rattle.lef_pins.proofs.Loops.{Kept}
 use Rattle.lef_pins.proofs.pins.read_pin.Given as goal

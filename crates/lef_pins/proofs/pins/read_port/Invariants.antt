@@ -1,5 +1,6 @@
 use Rattle.std.proofs.Common.{length}
-use Rattle.lef_pins.specs.Blocks.{ends_shapes, inner_at}
+use Rattle.lef_pins.specs.BlockReading.{inner_at}
+use Rattle.lef_pins.specs.Blocks.{ends_shapes}
 use Rattle.lef_pins.specs.Reading.{put_rect}
 use Rattle.lef_pins.proofs.Loops.{Kept}
 use Rattle.lef_pins.proofs.pins.read_port.Given as goal
