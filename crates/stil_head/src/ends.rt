@@ -5,6 +5,7 @@ ghost use Rattle.stil_parts.specs.declared.word.Word.TheVariants.{Start as ghost
 ghost use Rattle.stil_parts.specs.Words.{word_shown, word_settled};
 ghost use Rattle.stil_parts.specs.Scanner.{step};
 ghost use Rattle.stil_parts.specs.Parts.{begin};
+ghost use Rattle.stil_parts.specs.ByTokens.{head_place};
 ghost use Rattle.stil_parts.specs.Heads.{word_of, head_turn, head_end};
 ghost use Rattle.stil_head.specs.Heads.{HasTurn};
 
@@ -108,6 +109,8 @@ fn head_turn(comment: Comment, bytes: &[u8]) -> Option<HeadTurn>
 pub fn head_len(bytes: &[u8]) -> usize
     requires size { length bytes.now < 2 ^ 32 }
     ensures value { head_end true ghost_outside 0 bytes.now ≡ Some result }
+    // By the tokens it is the place of the first statement whose word is Pattern.
+    ensures tokens { result ≡ head_place bytes.now }
     ensures within { result ≤ length bytes.now }
 {
     let mut comment = Comment::Outside;

@@ -8,6 +8,7 @@ ghost use Rattle.base_types.specs.Faults.{at_line};
 ghost use Rattle.base_types.specs.declared.fault.FileKind.TheVariants.{Stil as stil_file};
 ghost use Rattle.base_types.specs.declared.fault.ReadFault.TheVariants.{Fault as refused};
 ghost use Rattle.stil_types.specs.declared.head.StilHead.{StilHead as ghost_head};
+ghost use Rattle.stil_parts.specs.ByTokens.{head_place};
 ghost use Rattle.stil_syntax.specs.Shapes.{body_statements};
 ghost use Rattle.stil_blocks.specs.Callees.{statement_keywords};
 ghost use Rattle.stil_head.specs.Heads.{DenotesHead, IsHead, SaysAll, IsLeftFault};
@@ -141,6 +142,8 @@ fn read_text(alloc: Global, text: &[u8]) -> Result<StilHead, ReadFault>
 pub fn read_head(alloc: Global, bytes: &[u8]) -> Result<StilHead, ReadFault>
     requires size { length bytes.now < 2 ^ 32 }
     ensures value { IfOk result (DenotesHead bytes.now) }
+    // It ends, by the tokens, where the first statement begins whose word is Pattern.
+    ensures ends { IfOk result (λ head. head.end ≡ head_place bytes.now) }
     ensures only { IfOk result (λ head. (other : ghost_head) → DenotesHead bytes.now other → other ≡ head) }
     ensures first { IfFault result (IsFirstFault (HoldsInHead bytes.now)) }
     ensures no_fault { OnOk result ((fault : ghost_fault) → HoldsInHead bytes.now fault → ⊥) }

@@ -483,27 +483,27 @@ module _ (d : ℕ) (g : Stage) where
   semicolon-here : (bs : List ℕ) → IsThrough d g (59 ∷ bs) (token 1)
   semicolon-here bs = elim (cases_Bool (eqb d 0)) [
     | inl z ↦ record {
-        ends = rw z (end_ends true here 59 bs (step-semicolon-ends d (word_for g) z));
-        word = sure-ends 59 bs (step-semicolon-ends d (word_for g) z) ∙ sym (sure-then d bs (Known (settled g)) refl);
-      }
+      ends = rw z (end_ends true here 59 bs (step-semicolon-ends d (word_for g) z));
+      word = sure-ends 59 bs (step-semicolon-ends d (word_for g) z) ∙ sym (sure-then d bs (Known (settled g)) refl);
+    }
     | inr z ↦ record {
-        ends = rw z (end_goes true here 59 bs (at Free d (word_settled (word_for g))) (step-semicolon-goes d (word_for g) z)
-            ∙ ap (λ (w : Word). later 1 (end_of true (at Free d w) bs)) (word-settled g));
-        word = sure-here 59 bs (at Free d (word_settled (word_for g))) refl (step-semicolon-goes d (word_for g) z) ∙ sym (sure-then d bs (Known (settled g)) refl);
-      }
+      ends = rw z (end_goes true here 59 bs (at Free d (word_settled (word_for g))) (step-semicolon-goes d (word_for g) z)
+          ∙ ap (λ (w : Word). later 1 (end_of true (at Free d w) bs)) (word-settled g));
+      word = sure-here 59 bs (at Free d (word_settled (word_for g))) refl (step-semicolon-goes d (word_for g) z) ∙ sym (sure-then d bs (Known (settled g)) refl);
+    }
   ]
 
   close-here : (bs : List ℕ) → IsThrough d g (125 ∷ bs) (token 1)
   close-here bs = elim (cases_Bool (eqb d 1)) [
     | inl z ↦ record {
-        ends = rw z (end_ends true here 125 bs (step-close-ends d (word_for g) z));
-        word = sure-ends 125 bs (step-close-ends d (word_for g) z) ∙ sym (sure-then (d - 1) bs (Known (settled g)) refl);
-      }
+      ends = rw z (end_ends true here 125 bs (step-close-ends d (word_for g) z));
+      word = sure-ends 125 bs (step-close-ends d (word_for g) z) ∙ sym (sure-then (d - 1) bs (Known (settled g)) refl);
+    }
     | inr z ↦ record {
-        ends = rw z (end_goes true here 125 bs (at Free (d - 1) (word_settled (word_for g))) (step-close-goes d (word_for g) z)
-            ∙ ap (λ (w : Word). later 1 (end_of true (at Free (d - 1) w) bs)) (word-settled g));
-        word = sure-here 125 bs (at Free (d - 1) (word_settled (word_for g))) refl (step-close-goes d (word_for g) z) ∙ sym (sure-then (d - 1) bs (Known (settled g)) refl);
-      }
+      ends = rw z (end_goes true here 125 bs (at Free (d - 1) (word_settled (word_for g))) (step-close-goes d (word_for g) z)
+          ∙ ap (λ (w : Word). later 1 (end_of true (at Free (d - 1) w) bs)) (word-settled g));
+      word = sure-here 125 bs (at Free (d - 1) (word_settled (word_for g))) refl (step-close-goes d (word_for g) z) ∙ sym (sure-then (d - 1) bs (Known (settled g)) refl);
+    }
   ]
 
   other-here : (b : ℕ) (bs : List ℕ) → other_mark b ≡ true → IsThrough d g (b ∷ bs) (token 1)

@@ -1,6 +1,7 @@
 //! The part of a text that is handed out at once.
 ghost use Rattle.std.specs.Prelude.{◌≡◌};
 ghost use Rattle.stil_parts.specs.Parts.{begin_at, word_at, part_of, part_len};
+ghost use Rattle.stil_parts.specs.ByTokens.{part_found, part_by_tokens};
 ghost use Rattle.stil_parts.specs.Resuming.{Resumes, Searched};
 
 use crate::gap::Place;
@@ -83,6 +84,8 @@ pub fn part_len(part: Part) -> usize
 pub fn search_part(last: bool, bytes: &[u8], place: Place, done: usize, scan: Scan) -> Search
     requires resumes { Resumes place bytes.now done scan }
     ensures value { Searched last place bytes.now result }
+    // The part is told by the tokens of the bytes alone.
+    ensures tokens { part_found result ≡ part_by_tokens last place bytes.now }
 {
     match scan_on(last, bytes, done, scan) {
         Scanned::Found(found) => Search::Part(part_of(place, found)),
