@@ -4,6 +4,7 @@ pub mod Examples
 pub mod FrameLaws
 pub mod Lawful
 pub mod OptionLaws
+pub mod OptionWords
 pub mod Places
 pub mod ReadTurns
 pub mod Sole

@@ -4,4 +4,5 @@ pub mod Grammar
 pub mod Options
 pub mod Pieces
 pub mod Reading
+pub mod Statements
 pub mod Words

@@ -7,6 +7,16 @@ use Rattle.def_tokens.specs.DefStatements.{count_with}
 use Rattle.lef_pins.specs.Outside.{Piece, IsPiece, piece_tokens, End, IsEnd, end_tokens}
 use Rattle.lef_pins.specs.Blocks.{name_of, is_no_name, inner_len, Block, PinItem, Port, OfPin, MacroItem, Pin, Shapes, OfMacro, FileItem, Macro, Passed, is_port, is_shapes, ends_shapes, ends_named, ends_never, IsLef}
 
+-- the first token says this name
+abbrev pub begins_with_name : List ℕ → List Token → Bool
+begins_with_name name [] = false
+begins_with_name name (t ∷ ts) = bytes_eq (name_of t) name
+
+-- a token stands first that is a name
+abbrev pub begins_with_any_name : List Token → Bool
+begins_with_any_name [] = false
+begins_with_any_name (t ∷ ts) = not (is_no_name t)
+
 -- behind PROPERTYDEFINITIONS: the tokens up to and with an END and the token behind it
 abbrev pub definitions_len : List Token → ℕ
 definitions_len ts = min (count_with (codes "END") ts + 1) (length ts)

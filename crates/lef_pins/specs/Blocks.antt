@@ -64,24 +64,9 @@ begins_with w (t ∷ ts) = bytes_eq t.text w
 abbrev pub name_of : Token → List ℕ
 name_of t = plain_name t.text
 
--- the first token says this name
-abbrev pub begins_with_name : List ℕ → List Token → Bool
-begins_with_name name [] = false
-begins_with_name name (t ∷ ts) = bytes_eq (name_of t) name
-
--- the first token has this text, and the second says this name
-abbrev pub begins_with_two : List ℕ → List ℕ → List Token → Bool
-begins_with_two v name [] = false
-begins_with_two v name (t ∷ ts) = bytes_eq t.text v && begins_with_name name ts
-
 -- a semicolon is no name
 abbrev pub is_no_name : Token → Bool
 is_no_name t = bytes_eq t.text (codes ";")
-
--- a token stands first that is a name
-abbrev pub begins_with_any_name : List Token → Bool
-begins_with_any_name [] = false
-begins_with_any_name (t ∷ ts) = not (is_no_name t)
 
 -- an END closes a port, an OBS or a DENSITY
 abbrev pub ends_shapes : List Token → Bool
@@ -89,7 +74,9 @@ ends_shapes ts = begins_with (codes "END") ts
 
 -- END and the name close a pin or a macro
 abbrev pub ends_named : List ℕ → List Token → Bool
-ends_named name ts = begins_with_two (codes "END") name ts
+ends_named name [] = false
+ends_named name (t ∷ []) = false
+ends_named name (t ∷ n ∷ ts) = bytes_eq t.text (codes "END") && bytes_eq (name_of n) name
 
 -- the word of a port
 abbrev pub is_port : List ℕ → Bool

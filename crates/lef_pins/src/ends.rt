@@ -2,7 +2,8 @@
 ghost use Rattle.std.specs.Prelude.{◌≡◌, codes};
 ghost use Rattle.std.specs.Str.{bytes_eq};
 ghost use Rattle.base_types.specs.Names.{plain_name};
-ghost use Rattle.lef_pins.specs.Blocks.{begins_with, begins_with_name, begins_with_any_name, begins_named, ends_shapes, ends_named, is_port, is_shapes, begins_shapes};
+ghost use Rattle.lef_pins.specs.Blocks.{begins_with, begins_named, ends_shapes, ends_named, is_port, is_shapes, begins_shapes};
+ghost use Rattle.lef_pins.specs.BlockReading.{begins_with_name, begins_with_any_name};
 ghost use Rattle.lef_pins.specs.Reading.{goes_on};
 
 use crate::stretch::Stretch;
