@@ -141,7 +141,7 @@ def reached(imports, text):
 
 
 def deciding(kind):
-    """The definitions that say where a fault of the kind holds, of the lowest crates, each with its crate: facts where there are some, else functions."""
+    """The definitions that say where a fault of the kind holds, of the lowest crates, each with its crate: facts where there are some, else functions; laws only tie these."""
     cited = re.compile(r"(?<![.\w])(?:kinds\.)?%s\b" % kind)
     facts, others, with_facts = [], [], set()
     for crate in sorted(crates(), key=lambda crate: (depth(crate), crate)):
@@ -149,6 +149,8 @@ def deciding(kind):
             if crate == "base_types" or not re.search(r"declared\.kind\.Kind\.TheVariants(?:\.\{[^}]*\b%s\b| as)" % kind, text_of(path)):
                 continue
             for name, block in spec(crate, module_of(crate, path)).blocks.items():
+                if name.endswith("Law"):
+                    continue
                 if cited.search(block) and name[:1].isupper():
                     facts.append((crate, name))
                     with_facts.add(crate)

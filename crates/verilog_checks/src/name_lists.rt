@@ -38,7 +38,11 @@ pub(crate) fn ports_in<'a>(
 }
 
 /// Whether an instance connects a pin twice.
-pub(crate) fn repeats_pin(alloc: Global, statement: &Statement) -> Result<bool, NoMemory>
+pub(crate) fn repeats_pin(
+    alloc: Global,
+    hashing: NameState,
+    statement: &Statement,
+) -> Result<bool, NoMemory>
     ensures value { IfOk result (λ twice. twice ≡ has_twice (pins_in statement.now)) }
 {
     match statement {
@@ -46,7 +50,7 @@ pub(crate) fn repeats_pin(alloc: Global, statement: &Statement) -> Result<bool, 
             if connections.as_slice().len() <= FEW {
                 Ok(few::has_pin_twice(connections.as_slice()))
             } else {
-                has_twice(alloc, pins_in(alloc, statement)?.as_slice())
+                has_twice(alloc, hashing, pins_in(alloc, statement)?.as_slice())
             }
         }
         Statement::Module { .. } | Statement::Declare { .. } | Statement::Assign { .. } => {
@@ -79,13 +83,17 @@ fn pins_in<'a>(alloc: Global, statement: &Statement<'a>) -> Result<Vec<&'a [u8]>
 const FEW: usize = 16;
 
 /// Whether a name stands twice.
-pub(crate) fn has_twice(alloc: Global, names: &[&[u8]]) -> Result<bool, NoMemory>
+pub(crate) fn has_twice(
+    alloc: Global,
+    hashing: NameState,
+    names: &[&[u8]],
+) -> Result<bool, NoMemory>
     ensures value { IfOk result (λ twice. twice ≡ has_twice (map (λ name. name.now) names.now)) }
 {
     if names.len() <= FEW {
         return Ok(few::has_twice(names));
     }
-    let mut seen = NameSet::with_hasher(alloc, NameState::new());
+    let mut seen = NameSet::with_hasher(alloc, hashing);
     for name in names {
         if !seen.insert(*name)? {
             return Ok(true);

@@ -128,12 +128,12 @@ struct Vectors<'a> {
 }
 
 impl<'a> Vectors<'a> {
-    fn new(alloc: Global) -> Vectors<'a>
+    fn new(alloc: Global, hashing: NameState) -> Vectors<'a>
         ensures counted { AreCounted result [] }
         ensures small { result.bits ≤ 16777216 }
     {
         Vectors {
-            names: NameSet::with_hasher(alloc, NameState::new()),
+            names: NameSet::with_hasher(alloc, hashing),
             bits: 0,
         }
     }
@@ -187,11 +187,15 @@ impl<'a> Vectors<'a> {
 }
 
 /// Every index, every constant's size and the bits of the declared vectors keep their limits.
-pub fn check_number(alloc: Global, statements: &[Placed]) -> Result<(), ReadFault>
+pub fn check_number(
+    alloc: Global,
+    hashing: NameState,
+    statements: &[Placed],
+) -> Result<(), ReadFault>
     ensures value { Answers result (check_number statements.now) }
     ensures small { OnOk result (are_small statements.now ≡ true) }
 {
-    let mut vectors = Vectors::new(alloc);
+    let mut vectors = Vectors::new(alloc, hashing);
     for placed in statements {
         if has_bad_number(&placed.statement) || !vectors.add_statement(&placed.statement)? {
             return Err(fault_at(Kind::VerilogNumber, placed.line));

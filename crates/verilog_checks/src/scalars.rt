@@ -40,11 +40,12 @@ fn add_declared<'a>(set: &mut NameSet<'a>, statement: &Statement<'a>) -> Result<
 /// The closed names that statements declare. Mostly there are none.
 pub(crate) fn closed_declared<'a>(
     alloc: Global,
+    hashing: NameState,
     statements: &[Placed<'a>],
 ) -> Result<NameSet<'a>, NoMemory>
     ensures value { IfOk result (λ set. AreClosed set (declarations statements.now)) }
 {
-    let mut set = NameSet::with_hasher(alloc, NameState::new());
+    let mut set = NameSet::with_hasher(alloc, hashing);
     for placed in statements {
         add_declared(&mut set, &placed.statement)?;
     }

@@ -184,20 +184,28 @@ fn add_names<'a>(set: &mut NameSet<'a>, names: &[TokenText<'a>]) -> Result<(), N
     Ok(())
 }
 
-fn header_ports<'a>(alloc: Global, statements: &[Placed<'a>]) -> Result<NameSet<'a>, NoMemory>
+fn header_ports<'a>(
+    alloc: Global,
+    hashing: NameState,
+    statements: &[Placed<'a>],
+) -> Result<NameSet<'a>, NoMemory>
     ensures value { IfOk result (λ set. (q : List ℕ) → has_key set q ≡ has (header_ports statements.now) q) }
 {
-    let mut set = NameSet::with_hasher(alloc, NameState::new());
+    let mut set = NameSet::with_hasher(alloc, hashing);
     for placed in statements {
         add_names(&mut set, listed_in(&placed.statement))?;
     }
     Ok(set)
 }
 
-fn directed_names<'a>(alloc: Global, statements: &[Placed<'a>]) -> Result<NameSet<'a>, NoMemory>
+fn directed_names<'a>(
+    alloc: Global,
+    hashing: NameState,
+    statements: &[Placed<'a>],
+) -> Result<NameSet<'a>, NoMemory>
     ensures value { IfOk result (λ set. (q : List ℕ) → has_key set q ≡ has_direction (declarations statements.now) q) }
 {
-    let mut set = NameSet::with_hasher(alloc, NameState::new());
+    let mut set = NameSet::with_hasher(alloc, hashing);
     for placed in statements {
         add_names(&mut set, directed_in(&placed.statement))?;
     }
@@ -225,11 +233,15 @@ struct Known<'a> {
     directed: NameSet<'a>,
 }
 
-fn gathered<'a>(alloc: Global, statements: &[Placed<'a>]) -> Result<Known<'a>, NoMemory>
+fn gathered<'a>(
+    alloc: Global,
+    hashing: NameState,
+    statements: &[Placed<'a>],
+) -> Result<Known<'a>, NoMemory>
     ensures value { IfOk result (λ known. IsGathered known statements.now) }
 {
-    let ports = header_ports(alloc, statements)?;
-    let directed = directed_names(alloc, statements)?;
+    let ports = header_ports(alloc, hashing, statements)?;
+    let directed = directed_names(alloc, hashing, statements)?;
     Ok(Known { ports, directed })
 }
 
@@ -247,6 +259,7 @@ fn is_bad<'a>(names: &DeclaredNames<'a>, known: &Known<'a>, statement: &Statemen
 /// names with a direction.
 pub fn check_select<'a>(
     alloc: Global,
+    hashing: NameState,
     names: &DeclaredNames<'a>,
     statements: &[Placed<'a>],
 ) -> Result<(), ReadFault>
@@ -254,7 +267,7 @@ pub fn check_select<'a>(
     requires names { names.now ≡ firsts_of (declarations statements.now) }
     ensures value { Answers result (check_select statements.now) }
 {
-    let known = gathered(alloc, statements)?;
+    let known = gathered(alloc, hashing, statements)?;
     for placed in statements {
         if is_bad(names, &known, &placed.statement) {
             return Err(fault_at(Kind::BadSelect, placed.line));

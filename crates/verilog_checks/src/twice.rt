@@ -202,11 +202,15 @@ fn add_instance<'a>(
 }
 
 /// Whether a port stands twice in the statement, or a pin.
-fn repeats_itself(alloc: Global, statement: &Statement) -> Result<bool, NoMemory>
+fn repeats_itself(
+    alloc: Global,
+    hashing: NameState,
+    statement: &Statement,
+) -> Result<bool, NoMemory>
     ensures value { IfOk result (λ twice. twice ≡ (has_twice (ports_in statement.now) || has_twice (pins_in statement.now))) }
 {
     let ports = ports_in(alloc, statement)?;
-    Ok(has_twice(alloc, ports.as_slice())? || repeats_pin(alloc, statement)?)
+    Ok(has_twice(alloc, hashing, ports.as_slice())? || repeats_pin(alloc, hashing, statement)?)
 }
 
 /// The names of the statements so far.
@@ -242,14 +246,18 @@ fn instance_count(statements: &[Placed]) -> usize {
 
 impl<'a> Seen<'a> {
     /// Nothing yet, and room for the names of so many statements.
-    fn with_room(alloc: Global, statements: &[Placed<'a>]) -> Result<Seen<'a>, NoMemory>
+    fn with_room(
+        alloc: Global,
+        hashing: NameState,
+        statements: &[Placed<'a>],
+    ) -> Result<Seen<'a>, NoMemory>
         ensures value { IfOk result (λ seen. (all : List Placed) → IsSeen all [] seen) }
     {
         let room = instance_count(statements);
         Ok(Seen {
-            declared: DeclaredNames::with_room(alloc, declared_count(statements))?,
-            instances: NameSet::with_capacity_and_hasher(alloc, room, NameState::new())?,
-            nets: NameSet::with_hasher(alloc, NameState::new()),
+            declared: DeclaredNames::with_room(alloc, hashing, declared_count(statements))?,
+            instances: NameSet::with_capacity_and_hasher(alloc, room, hashing)?,
+            nets: NameSet::with_hasher(alloc, hashing),
         })
     }
 
@@ -257,6 +265,7 @@ impl<'a> Seen<'a> {
     fn is_bad(
         &mut self,
         alloc: Global,
+        hashing: NameState,
         closed: &NameSet<'a>,
         statement: &Statement<'a>,
     ) -> Result<bool, NoMemory>
@@ -264,7 +273,7 @@ impl<'a> Seen<'a> {
         ensures value { IfOk result (λ bad. (ps : List Placed) (before : List Placed) (p : Placed) → p.statement ≡ statement.now → AreClosed closed.now (declarations ps) → have_small (declarations before) ≡ true → IsSeen ps before self.old → Tells bad ps before p self.new) }
     {
         let scalars = closed_scalars_in(alloc, closed, statement)?;
-        let itself = repeats_itself(alloc, statement)?;
+        let itself = repeats_itself(alloc, hashing, statement)?;
         let bits = are_bits(&self.declared, scalars.as_slice());
         let stands = add_declarations(alloc, &mut self.declared, &self.nets, statement)?;
         let again = add_instance(&mut self.instances, statement)?;
@@ -277,6 +286,7 @@ impl<'a> Seen<'a> {
 /// that does is answered.
 pub fn check_twice<'a>(
     alloc: Global,
+    hashing: NameState,
     statements: &[Placed<'a>],
 ) -> Result<DeclaredNames<'a>, ReadFault>
     requires small { are_small statements.now ≡ true }
@@ -284,10 +294,10 @@ pub fn check_twice<'a>(
     ensures refused { IsRefused result (check_twice statements.now) }
     ensures names { IfOk result (λ names. names ≡ firsts_of (declarations statements.now)) }
 {
-    let closed = closed_declared(alloc, statements)?;
-    let mut seen = Seen::with_room(alloc, statements)?;
+    let closed = closed_declared(alloc, hashing, statements)?;
+    let mut seen = Seen::with_room(alloc, hashing, statements)?;
     for placed in statements {
-        if seen.is_bad(alloc, &closed, &placed.statement)? {
+        if seen.is_bad(alloc, hashing, &closed, &placed.statement)? {
             return Err(fault_at(Kind::VerilogTwice, placed.line));
         }
     }

@@ -67,11 +67,15 @@ impl<'a> Model for DeclaredNames<'a> {
 
 impl<'a> DeclaredNames<'a> {
     /// No name, and room for so many.
-    pub fn with_room(alloc: Global, names: usize) -> Result<DeclaredNames<'a>, NoMemory>
+    pub fn with_room(
+        alloc: Global,
+        hashing: NameState,
+        names: usize,
+    ) -> Result<DeclaredNames<'a>, NoMemory>
         ensures value { IfOk result (λ table. table ≡ []) }
     {
         Ok(DeclaredNames {
-            slots: IndexMap::with_capacity_and_hasher(alloc, names, NameState::new())?,
+            slots: IndexMap::with_capacity_and_hasher(alloc, names, hashing)?,
             count: 0,
         })
     }

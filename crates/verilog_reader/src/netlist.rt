@@ -10,6 +10,7 @@ use base_types::ReadFault;
 use netlist_core::Netlist;
 use std::alloc::Global;
 use verilog_checks::{check_number, check_select, check_twice};
+use verilog_names::NameState;
 use verilog_syntax::read_statements;
 
 /// The netlist of a Verilog text of less than 4 GiB, or its first fault: VerilogSyntax at the first statement that matches no
@@ -22,8 +23,9 @@ pub fn read_netlist(alloc: Global, bytes: &[u8]) -> Result<Netlist, ReadFault>
     ensures no_fault { OnOk result ((fault : Fault) → HoldsInVerilog bytes.now fault → ⊥) }
 {
     let statements = read_statements(alloc, bytes)?;
-    check_number(alloc, statements.as_slice())?;
-    let names = check_twice(alloc, statements.as_slice())?;
-    check_select(alloc, &names, statements.as_slice())?;
+    let hashing = NameState::of(bytes);
+    check_number(alloc, hashing, statements.as_slice())?;
+    let names = check_twice(alloc, hashing, statements.as_slice())?;
+    check_select(alloc, hashing, &names, statements.as_slice())?;
     Ok(netlist_of(alloc, names, statements)?)
 }
