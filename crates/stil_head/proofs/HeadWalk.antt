@@ -22,8 +22,14 @@ use Rattle.stil_parts.specs.declared.gap.Gap.{Gap}
 use Rattle.stil_parts.specs.Gaps.{gap_at}
 use Rattle.stil_parts.specs.Heads.{word_of, statement_turn, head_turn, head_end}
 use Rattle.stil_head.specs.Heads.{HasTurn}
-use Rattle.stil_parts.proofs.HeadTurns.{behind, behind_none, behind_both, end_here, end_open, end_none, end_passed}
+use Rattle.stil_parts.specs.ByTokens.{head_place}
+use Rattle.stil_parts.proofs.HeadPlace.{head_place_law}
+use Rattle.stil_parts.proofs.HeadTurns.{behind, behind_both, end_here, end_open, end_none, end_passed}
 use Rattle.stil_parts.proofs.Ends.{Went, Ended, Opened, stepped, end_goes, end_ends, end_opens, run_goes, later-some}
+
+-- the end that a walk finds is the place by tokens
+pub placed : (bytes : List ℕ) (n : ℕ) → head_end true Outside 0 bytes ≡ Some n → n ≡ head_place bytes
+placed bytes n e = let law = head_place_law in same_Some _ _ (sym e ∙ law.ends bytes)
 
 module _ (bytes : List ℕ) (at : ℕ) (total : Option ℕ) where
   left_some : at < length bytes → 0 < length (drop at bytes)

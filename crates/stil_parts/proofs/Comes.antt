@@ -5,14 +5,13 @@ use Rattle.stil_tokens.specs.StilTokens.{is_blank, is_quote, other_mark}
 use Rattle.stil_parts.specs.declared.word.Word.{Word}
 use Rattle.stil_parts.specs.declared.word.Word.TheVariants.{Start, Letters, Text, Joined, Known}
 use Rattle.stil_parts.specs.declared.word.Word.TheVariants as words
-use Rattle.stil_parts.specs.Words.{word_byte, word_ends, word_settled, word_text, word_colon, quote_word, mark_word, names_pattern, word_shown}
+use Rattle.stil_parts.specs.Words.{word_byte, word_settled, names_pattern, word_shown}
 use Rattle.stil_parts.specs.declared.scan.Mode.{Mode}
 use Rattle.stil_parts.specs.declared.scan.Mode.TheVariants.{Free, Run, Slash, Quoted, Line, Block, Brace, Note}
 use Rattle.stil_parts.specs.declared.scan.Scan.{Scan}
 use Rattle.stil_parts.specs.declared.scan.After.{After}
 use Rattle.stil_parts.specs.declared.scan.After.TheVariants.{Goes, Ends, Opens}
-use Rattle.stil_parts.specs.declared.scan.Found.{Found}
-use Rattle.stil_parts.specs.Scanner.{goes, mark_step, run_step, free_step, inside, mode_step, step, is_brace, at_brace, found, later, end_of}
+use Rattle.stil_parts.specs.Scanner.{goes, mark_step, run_step, free_step, inside, mode_step, step, is_brace, later, end_of}
 use Rattle.stil_parts.specs.Heads.{word_of}
 use Rattle.stil_parts.proofs.Scans.{later-later, later-zero}
 use Rattle.stil_parts.proofs.Ends.{Went, Ended, Opened, stepped, end_goes, end_ends, end_opens}

@@ -1,7 +1,6 @@
 -- Where a scan in a Pattern ends a statement, its tokens end it, and nowhere else.
 use Rattle.std.proofs.Common.{◌≡◌, ℕ, suc, ◌+◌, Bool, true, false, cond, eqb, ◌&&◌, List, [], ◌∷◌, length, Option, Some, None, refl, sym, ap, ◌∙◌, arith, inl, inr}
-use Rattle.std.proofs.lemmas.Bool.{cases_Bool, cases_eq, eq-eqb, ne_eqb}
-use Rattle.token_forms.specs.Tokens.{Token}
+use Rattle.std.proofs.lemmas.Bool.{cases_eq, eq-eqb, ne_eqb}
 use Rattle.stil_tokens.specs.StilTokens.{tokens_in}
 use Rattle.stil_parts.specs.declared.scan.Scan.{Scan}
 use Rattle.stil_parts.specs.declared.scan.Found.{Found}
@@ -13,7 +12,7 @@ use Rattle.stil_parts.specs.ByTokens.{ended, shown_of, shown}
 use Rattle.stil_parts.proofs.Scans.{later-zero}
 use Rattle.stil_parts.proofs.Ends.{Went, Ended, Opened, stepped, end_goes, end_ends, end_opens}
 use Rattle.stil_parts.proofs.Stages.{Sure}
-use Rattle.stil_parts.proofs.TokenScan.{ends_in, word_in, holds}
+use Rattle.stil_parts.proofs.TokenScan.{holds}
 use Rattle.stil_parts.proofs.Labels.{word-sure, ends-top, top_end}
 
 same-len : (m n : ℕ) → eqb (1 + m) (suc n) ≡ eqb m n

@@ -1,14 +1,14 @@
 -- The head of a text ends where the first statement begins whose word is Pattern, by the tokens of the text.
 use Rattle.std.specs.Prelude.{nat_lt}
-use Rattle.std.proofs.Common.{◌≡◌, ℕ, zero, suc, ◌+◌, ◌-◌, ◌<◌, ◌≤◌, Bool, true, false, cond, eqb, not, ◌&&◌, ◌||◌, List, [], ◌∷◌, ◌++◌, length, drop, take, Option, Some, None, refl, sym, ap, subst, ◌∙◌, arith, inl, inr}
+use Rattle.std.proofs.Common.{◌≡◌, ℕ, zero, suc, ◌+◌, ◌-◌, ◌<◌, ◌≤◌, Bool, true, false, cond, eqb, not, ◌&&◌, ◌||◌, List, [], ◌∷◌, length, drop, take, Option, Some, None, refl, sym, ap, subst, ◌∙◌, arith, inl, inr}
 use Rattle.std.specs.List.{prefix_len}
-use Rattle.std.proofs.lemmas.Bool.{cases_Bool, cond_both, eqb-true, or_cases, not-true, not-false, lt-ltb, true≢false, false≢true}
+use Rattle.std.proofs.lemmas.Bool.{cases_Bool, cond_both, eqb-true, or_cases, not-true, not-false, lt-ltb, true≢false}
 use Rattle.std.proofs.lemmas.Option.{same_Some}
 use Rattle.std.proofs.lemmas.List.{drop_all, drop-drop, length-drop, length-take-le, take-append-drop}
 use Rattle.token_forms.specs.declared.piece.Piece.{Piece}
 use Rattle.token_forms.specs.declared.piece.Piece.TheVariants.{Blank, Token as token}
 use Rattle.token_forms.specs.Tokens.{Token, place_of}
-use Rattle.stil_tokens.specs.StilTokens.{is_blank, is_quote, other_mark, is_mark, is_run, quoted_len, closed_len, line_len, brace_piece, slash_piece, piece_at, tokens_in}
+use Rattle.stil_tokens.specs.StilTokens.{is_blank, is_quote, other_mark, is_mark, is_run, quoted_len, closed_len, line_len, brace_piece, slash_piece, piece_at}
 use Rattle.stil_tokens.specs.StilStatements.{is_only, token_ends, depth_behind, len_in, statement_len, statements_within, stil_statements}
 use Rattle.stil_tokens.proofs.StilCuts.{first_law, statement_len-some}
 use Rattle.stil_parts.specs.declared.gap.Place.TheVariants.{Top}
@@ -16,10 +16,9 @@ use Rattle.stil_parts.specs.declared.gap.Comment.{Comment}
 use Rattle.stil_parts.specs.declared.gap.Comment.TheVariants.{Outside, Line, Block}
 use Rattle.stil_parts.specs.declared.gap.Gap.{Gap}
 use Rattle.stil_parts.specs.declared.scan.Found.{Found}
-use Rattle.stil_parts.specs.declared.head.HeadTurn.{HeadTurn}
-use Rattle.stil_parts.specs.declared.head.HeadTurn.TheVariants.{Passed, Here}
+use Rattle.stil_parts.specs.declared.head.HeadTurn.TheVariants.{Passed}
 use Rattle.stil_parts.specs.declared.word.Word.TheVariants.{Start, Known}
-use Rattle.stil_parts.specs.Gaps.{gap_of, line_gap, block_gap, slash_gap, close_gap, outside_gap, gap_at}
+use Rattle.stil_parts.specs.Gaps.{gap_of, line_gap, block_gap, slash_gap, outside_gap, gap_at}
 use Rattle.stil_parts.specs.Scanner.{found, later, end_of}
 use Rattle.stil_parts.specs.Parts.{begin}
 use Rattle.stil_parts.specs.Ending.{statement_end}

@@ -1,7 +1,6 @@
 -- The walk to a head's end in a text that goes no further, turn by turn.
-use Rattle.std.proofs.Common.{◌≡◌, ℕ, zero, suc, ◌+◌, ◌-◌, ◌<◌, ◌≤◌, Bool, true, List, [], ◌∷◌, length, drop, Option, Some, None, refl, sym, ap, ◌∙◌, arith}
+use Rattle.std.proofs.Common.{◌≡◌, ℕ, zero, suc, ◌+◌, ◌-◌, ◌<◌, ◌≤◌, true, List, [], ◌∷◌, length, drop, Option, Some, None, refl, sym, ap, ◌∙◌, arith}
 use Rattle.stil_parts.specs.declared.gap.Comment.{Comment}
-use Rattle.stil_parts.specs.declared.head.HeadTurn.{HeadTurn}
 use Rattle.stil_parts.specs.declared.head.HeadTurn.TheVariants.{Passed, Here}
 use Rattle.stil_parts.specs.Heads.{head_turn, head_end}
 

@@ -1,16 +1,16 @@
 -- The word of a statement and its end, token by token, are those of the definitions: labels, the word behind them, and the brace.
 use Rattle.std.specs.Prelude.{codes, nat_lt}
-use Rattle.std.proofs.Common.{◌≡◌, ℕ, zero, suc, ◌+◌, ◌-◌, ◌<◌, ◌≤◌, Bool, true, false, cond, eqb, not, ◌&&◌, ◌||◌, List, [], ◌∷◌, length, drop, take, Option, Some, None, refl, sym, ap, subst, ◌∙◌, arith, inl, inr}
+use Rattle.std.proofs.Common.{◌≡◌, ℕ, zero, suc, ◌+◌, ◌-◌, ◌≤◌, Bool, true, false, cond, eqb, ◌&&◌, ◌||◌, List, [], ◌∷◌, length, drop, take, Option, Some, None, refl, sym, ap, subst, ◌∙◌, arith, inl, inr}
 use Rattle.std.specs.Str.{bytes_eq}
-use Rattle.std.proofs.lemmas.Bool.{cases_Bool, cond_both, eqb-true, and_parts, and_right, or_cases, ne_eqb, true≢false, false≢true}
+use Rattle.std.proofs.lemmas.Bool.{cases_Bool, eqb-true, and_parts, and_right, or_cases, ne_eqb, true≢false, false≢true}
 use Rattle.token_forms.specs.Tokens.{Token}
 use Rattle.stil_parts.specs.declared.scan.Found.{Found}
 use Rattle.stil_parts.specs.Scanner.{found}
-use Rattle.stil_tokens.specs.StilTokens.{is_blank, is_quote, is_mark, is_run}
-use Rattle.stil_tokens.specs.StilStatements.{is_only, is_note, has_end, token_ends, depth_behind, len_in, statement_len}
+use Rattle.stil_tokens.specs.StilTokens.{is_run}
+use Rattle.stil_tokens.specs.StilStatements.{is_only, is_note, token_ends, depth_behind, len_in, statement_len}
 use Rattle.stil_parts.specs.Ending.{statement_end}
-use Rattle.stil_parts.specs.ByTokens.{is_bare, is_string, string_len, name_len, begins_colon, begins_label, behind_label, behind_within, from_word, begins_pattern, is_pattern, brace_end, opened, ended, opened_or, part_in}
-use Rattle.stil_parts.proofs.Stages.{Stage, Begin, String, Named, Sure, settled, behind_blank, behind_run, behind_string, behind_colon, behind_token}
+use Rattle.stil_parts.specs.ByTokens.{is_bare, is_string, string_len, name_len, begins_colon, behind_within, begins_pattern, is_pattern, brace_end, ended, opened_or}
+use Rattle.stil_parts.proofs.Stages.{Stage, Begin, String, Named, Sure, settled, behind_run, behind_string, behind_colon, behind_token}
 use Rattle.stil_parts.proofs.TokenEnds.{opens, only-other}
 use Rattle.stil_parts.proofs.TokenScan.{before_token, ends_in, word_in}
 

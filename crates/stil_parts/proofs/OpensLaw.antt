@@ -1,13 +1,11 @@
 -- At the top a scan finds the brace that opens a Pattern, or else the statement's end, where the tokens have it.
-use Rattle.std.proofs.Common.{◌≡◌, ℕ, Bool, true, List, length, Option, sym, ap, ◌∙◌}
+use Rattle.std.proofs.Common.{◌≡◌, ℕ, Bool, true, List, length, sym, ap, ◌∙◌}
 use Rattle.stil_tokens.specs.StilTokens.{tokens_in}
-use Rattle.stil_parts.specs.declared.gap.Place.{Place}
 use Rattle.stil_parts.specs.declared.gap.Place.TheVariants.{Top, Pattern}
 use Rattle.stil_parts.specs.declared.word.Word.TheVariants.{Start}
-use Rattle.stil_parts.specs.declared.part.Part.{Part}
 use Rattle.stil_parts.specs.Scanner.{end_of}
 use Rattle.stil_parts.specs.Parts.{begin, parted, part_at}
-use Rattle.stil_parts.specs.ByTokens.{shown, part_in, part_by_tokens, OpensLaw, PartLaw}
+use Rattle.stil_parts.specs.ByTokens.{shown, part_in, OpensLaw, PartLaw}
 use Rattle.stil_parts.proofs.Scans.{later-zero}
 use Rattle.stil_parts.proofs.Stages.{Begin}
 use Rattle.stil_parts.proofs.TokenScan.{holds}

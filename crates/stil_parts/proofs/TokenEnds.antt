@@ -1,7 +1,7 @@
 -- A scan takes the pieces of a text as they are: it ends the statement where its tokens do, finds the brace that opens a Pattern
 -- where that is a token, and has the word by the tokens so far.
 use Rattle.std.specs.Prelude.{codes}
-use Rattle.std.proofs.Common.{◌≡◌, ℕ, zero, suc, ◌+◌, ◌-◌, Bool, true, false, cond, eqb, not, ◌&&◌, ◌||◌, List, [], ◌∷◌, drop, take, Option, Some, None, refl, sym, ap, subst, ◌∙◌, arith, inl, inr}
+use Rattle.std.proofs.Common.{◌≡◌, ℕ, suc, ◌+◌, ◌-◌, Bool, true, false, cond, eqb, not, ◌&&◌, ◌||◌, List, [], ◌∷◌, drop, take, Option, Some, None, refl, sym, ap, subst, ◌∙◌, arith, inl, inr}
 use Rattle.std.specs.Str.{bytes_eq}
 use Rattle.std.specs.List.{prefix_len}
 use Rattle.std.proofs.lemmas.Bool.{cases_Bool, cond_both, eqb-true, or_cases, or_parts, or_left, not-true, not-false, true≢false, false≢true}
@@ -21,11 +21,11 @@ use Rattle.stil_parts.specs.Scanner.{goes, mark_step, run_step, free_step, mode_
 use Rattle.stil_tokens.specs.StilTokens.{is_mark, is_run, quoted_len, closed_len, has_close, line_len, brace_piece, slash_piece, piece_at}
 use Rattle.stil_tokens.specs.StilStatements.{is_only, token_ends, depth_behind}
 use Rattle.stil_parts.specs.Heads.{word_of}
-use Rattle.stil_parts.specs.ByTokens.{is_bare, is_string}
+use Rattle.stil_parts.specs.ByTokens.{is_string}
 use Rattle.stil_parts.proofs.Scans.{later-later}
 use Rattle.stil_parts.proofs.Ends.{end_goes, end_ends, end_opens}
 use Rattle.stil_parts.proofs.Comes.{at, word_known, word_goes, word_ended, end_nil, Comes, comes_one, comes_more, comes_none, same_step, comes_same, comes_as}
-use Rattle.stil_parts.proofs.Stages.{Stage, Begin, String, Named, Sure, word_for, settled, behind_blank, behind_run, behind_string, behind_colon, behind_token, blank-blank, word-blank, word-settled, word-string, word-colon, spell, word-run}
+use Rattle.stil_parts.proofs.Stages.{Stage, Begin, String, Named, Sure, word_for, settled, behind_blank, behind_run, behind_string, behind_colon, behind_token, word-blank, word-settled, word-string, word-colon, spell, word-run}
 
 -- what ends a token ends it once
 ends-twice : (w : Word) → word_ends (word_ends w) ≡ word_ends w

@@ -4,8 +4,7 @@ use Rattle.std.proofs.lemmas.Bool.{cases_lt, ne_eqb, eq-eqb}
 use Rattle.std.proofs.lemmas.List.{drop_more, drop_all, drop-drop}
 use Rattle.token_forms.specs.declared.piece.Piece.{Piece}
 use Rattle.token_forms.specs.declared.piece.Piece.TheVariants.{Blank, Token as token}
-use Rattle.token_forms.specs.Pieces.{piece_len, tokens_from}
-use Rattle.base_types.specs.declared.span.Span.{Span}
+use Rattle.token_forms.specs.Pieces.{tokens_from}
 use Rattle.token_forms.specs.Tokens.{Token, tokens_of}
 use Rattle.token_forms.proofs.Cuts.{Steps, steps}
 use Rattle.stil_parts.specs.declared.scan.Mode.TheVariants.{Free}

@@ -1,5 +1,5 @@
 -- Where the head of a text ends: at the first statement at the top whose word is Pattern. Labels, names with a colon
--- behind them, may stand before the word.
+-- behind them, may stand before the word. The same by the tokens of the text stands in ByTokens.
 use Rattle.std.specs.Prelude.{◌≡◌, ℕ, zero, suc, ◌+◌, ◌-◌, Bool, true, false, nat_lt, if◌then◌else◌, List, [], ◌∷◌, ◌++◌, length, take, Option, Some, None}
 use Rattle.stil_parts.specs.declared.gap.Place.TheVariants.{Top}
 use Rattle.stil_parts.specs.declared.gap.Comment.{Comment}

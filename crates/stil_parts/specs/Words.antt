@@ -1,5 +1,6 @@
 -- The first word of a part, byte by byte (IEEE 1450-1999, clause 6): labels, names with a colon behind them, may stand before
--- it. A name is a run, or a text in ", or such a text with a run right behind it; a word is a run.
+-- it. A name is a run, or a text in ", or such a text with a run right behind it; a word is a run. The same by the tokens of the
+-- text stands in ByTokens.
 use Rattle.std.specs.Prelude.{ℕ, ◌+◌, Bool, true, false, ◌&&◌, ◌==◌, nat_lt, if◌then◌else◌, codes, slice_index, Option, Some, None}
 use Rattle.stil_parts.specs.declared.word.Word.{Word}
 use Rattle.stil_parts.specs.declared.word.Word.TheVariants.{Start, Letters, Run, Text, Joined, After, Known}

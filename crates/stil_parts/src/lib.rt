@@ -3,7 +3,8 @@
 //!
 //! Floor: readers, on lane_kernels, base_types, token_forms, stil_tokens and `memchr`.
 //! Contract: `decide` answers what comes of a text at a point, whatever may follow (`specs/Deciding.antt`); what a text
-//! denotes stands in `specs/Coming.antt`. Begin with `choice.rt`.
+//! denotes stands in `specs/Coming.antt`, and what a part and a head are by tokens in `specs/ByTokens.antt`. Begin with
+//! `choice.rt`.
 #![tactic(auto)]
 
 mod choice;

@@ -5,6 +5,8 @@ use Rattle.base_types.specs.declared.fault.Fault.{Fault}
 use Rattle.stil_types.specs.declared.head.StilHead.{StilHead}
 use Rattle.stil_head.specs.Faults.{HoldsInText, HoldsInHead}
 use Rattle.stil_head.specs.Heads.{IsHead, DenotesHead}
+use Rattle.stil_parts.specs.ByTokens.{head_place}
+use Rattle.stil_head.proofs.HeadWalk.{placed}
 use Rattle.stil_head.proofs.Texts.{text_is, denoted_by, only_head, if_fault_weaker, if_ok_both}
 use Rattle.stil_head.proofs.head.read_head.Goals as goal
 
@@ -12,6 +14,11 @@ pub returns-clause-value : goal.returns-clause-value
 returns-clause-value c =
     if_ok_both c.read_text.result (IsHead (take c.head_len-end.result c.args.bytes.now)) (λ (h : StilHead). h.end ≡ length (take c.head_len-end.result c.args.bytes.now)) (DenotesHead c.args.bytes.now)
     (λ (h : StilHead) s e. denoted_by c.args.bytes.now c.head_len-end.result h c.head_len-end.ensures.value c.head_len-end.ensures.within s e) c.read_text.ensures.value c.read_text.ensures.end
+
+pub returns-clause-ends : goal.returns-clause-ends
+returns-clause-ends c =
+    if_ok_both c.read_text.result (IsHead (take c.head_len-end.result c.args.bytes.now)) (λ (h : StilHead). h.end ≡ length (take c.head_len-end.result c.args.bytes.now)) (λ (h : StilHead). h.end ≡ head_place c.args.bytes.now)
+    (λ (h : StilHead) s e. let d = denoted_by c.args.bytes.now c.head_len-end.result h c.head_len-end.ensures.value c.head_len-end.ensures.within s e in placed c.args.bytes.now h.end d.ends) c.read_text.ensures.value c.read_text.ensures.end
 
 pub returns-clause-only : goal.returns-clause-only
 returns-clause-only c =
