@@ -13,7 +13,9 @@ use Rattle.def_syntax.proofs.FrameLaws.{each_append}
 use Rattle.token_forms.proofs.ClassLemmas.{both}
 use Rattle.def_tokens.specs.DefStatements.{ends_with}
 use Rattle.def_syntax.specs.Words.{marks}
-use Rattle.def_syntax.specs.Grammar.{component, component_option, net}
+use Rattle.def_syntax.specs.Grammar.{component, net}
+use Rattle.def_syntax.specs.OptionForms.{component_form, component_option}
+use Rattle.def_syntax.proofs.OptionWords.{component_law}
 use Rattle.def_syntax.specs.Pieces.{some_list, put_component}
 use Rattle.def_syntax.specs.Designs.{AreLocated}
 use Rattle.def_syntax.specs.declared.component.Component.{Component as ComponentText}
@@ -147,9 +149,9 @@ ends_token (x ∷ []) t e = rw e refl
 ends_token (x ∷ y ∷ xs) t e = ends_token (y ∷ xs) t e
 
 -- the name of a component that stands in a text
-pub component_name : (text : List ℕ) (s : List Token) (x : ComponentText) → StandIn text s → component.spells x s → is_name x.name ≡ true
-unfolding component
-component_name text s x stand h =
+component_name_form : (text : List ℕ) (s : List Token) (x : ComponentText) → StandIn text s → component_form.spells x s → is_name x.name ≡ true
+unfolding component_form
+component_name_form text s x stand h =
     let q = h.holds in
     let w = q.holds.first in
     let o = w.holds in
@@ -176,6 +178,10 @@ component_name text s x stand h =
     let good : is_in (But marks) c.text ≡ true = subst (λ (v : List ℕ). is_in (But marks) v ≡ true) (sym n.second.text) n.second.kind_is in
     let good_name : is_in (But marks) a.text ≡ true = subst (λ (v : List ℕ). is_in (But marks) v ≡ true) (sym n.first.text) n.first.kind_is in
     subst (λ (v : List ℕ). is_name v ≡ true) named (name_both a.text (second_whole t a c (o.back ++ q.holds.back) stands (free_name c.text good)) good_name)
+
+pub component_name : (text : List ℕ) (s : List Token) (x : ComponentText) → StandIn text s → component.spells x s → is_name x.name ≡ true
+unfolding component
+component_name text s x stand h = component_name_form text s x stand (component_law.back x s h)
 
 -- so are those of all components
 pub component_names : (text : List ℕ) (ss : List (List Token)) (xs : List (Located ComponentText)) → AreLocated component text ss xs → Each (StandIn text) ss → Each (λ (c : Component). is_name c.text ≡ true) (map component_of xs)

@@ -15,7 +15,9 @@ use Rattle.splice.specs.declared.Edit.{Edit}
 use Rattle.def_syntax.specs.Words.{marks}
 use Rattle.def_syntax.specs.Options.{and_last}
 use Rattle.def_syntax.specs.Pieces.{once, put_pin, pin_of}
-use Rattle.def_syntax.specs.Grammar.{pin_option, design_pin}
+use Rattle.def_syntax.specs.OptionForms.{design_pin_form, pin_option}
+use Rattle.def_syntax.proofs.OptionWords.{pin_law}
+use Rattle.def_syntax.specs.Grammar.{design_pin}
 use Rattle.def_syntax.specs.Designs.{AreLocated}
 use Rattle.def_syntax.specs.declared.design.Located.{Located}
 use Rattle.def_syntax.specs.declared.pin.DesignPin.{DesignPin}
@@ -151,9 +153,9 @@ record PinToken (x : DesignPin) (ts : List Token) : Type 0 where
   at : TokenAt x.net_span ts
   more : 0 < length at.behind
 
-pin_token : (x : DesignPin) (ts : List Token) → design_pin.spells x ts → PinToken x ts
-unfolding design_pin
-pin_token x ts h =
+pin_token_form : (x : DesignPin) (ts : List Token) → design_pin_form.spells x ts → PinToken x ts
+unfolding design_pin_form
+pin_token_form x ts h =
     let q = h.holds in
     let w = q.holds.first in
     let o = w.holds.second in
@@ -182,6 +184,10 @@ pin_token x ts h =
   where
     some : (a : List Token) (e : Token) → 0 < length (a ++ e ∷ [])
     some a e = omega (arith, length-append a (e ∷ []))
+
+pin_token : (x : DesignPin) (ts : List Token) → design_pin.spells x ts → PinToken x ts
+unfolding design_pin
+pin_token x ts h = pin_token_form x ts (pin_law.back x ts h)
 
 kept_texts : (f : Token → List ℕ) (ts : List Token) → Kept f ts → map f ts ≡ token_texts ts
 kept_texts f [] h = refl

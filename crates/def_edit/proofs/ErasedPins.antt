@@ -13,7 +13,10 @@ use Rattle.token_forms.proofs.ClassLemmas.{apart}
 use Rattle.def_syntax.specs.Words.{marks, placings}
 use Rattle.def_syntax.specs.Options.{open_behind, open_after, and_last}
 use Rattle.def_syntax.specs.Pieces.{once, or_else, put_pin, pin_of}
-use Rattle.def_syntax.specs.Grammar.{turned, placement, pin_option, design_pin}
+use Rattle.def_syntax.specs.Placements.{turned, placement}
+use Rattle.def_syntax.specs.OptionForms.{design_pin_form, pin_option}
+use Rattle.def_syntax.proofs.OptionWords.{pin_law}
+use Rattle.def_syntax.specs.Grammar.{design_pin}
 use Rattle.def_syntax.specs.declared.placement.Placement.{Placement}
 use Rattle.def_syntax.specs.declared.pin.DesignPin.{DesignPin}
 use Rattle.def_layout.proofs.NetThere.{texts_both}
@@ -314,9 +317,9 @@ record PinStands (x : DesignPin) (ts : List Token) : Type 0 where
   here : token.start ≡ x.net_span.start
   level : depth_after 0 (token_texts front) ≡ 0
 
-pin_stands : (x : DesignPin) (ts : List Token) → design_pin.spells x ts → PinStands x ts
-unfolding design_pin
-pin_stands x ts h =
+pin_stands_form : (x : DesignPin) (ts : List Token) → design_pin_form.spells x ts → PinStands x ts
+unfolding design_pin_form
+pin_stands_form x ts h =
     let q = h.holds in
     let w = q.holds.first in
     let o = w.holds.second in
@@ -355,6 +358,10 @@ pin_stands x ts h =
       here = at.here ∙ ap (λ (y : DesignPin). y.net_span.start) n.same;
       level = at.level;
     }
+
+pin_stands : (x : DesignPin) (ts : List Token) → design_pin.spells x ts → PinStands x ts
+unfolding design_pin
+pin_stands x ts h = pin_stands_form x ts (pin_law.back x ts h)
 
 pub pin_erased : (e : Erasing) (x : DesignPin) (w : List ℕ) (ts : List Token) → Strict ts → is_in (But marks) w ≡ true → design_pin.spells x ts → e.is_free (plain_name x.name) ≡ true
     → erased_pin e (pin_statement_words ts x w) ≡ erased_pin e (token_texts ts)

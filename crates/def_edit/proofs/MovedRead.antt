@@ -13,7 +13,9 @@ use Rattle.def_tokens.specs.DefSplit.{begins_run}
 use Rattle.def_tokens.specs.DefStatements.{IsStatementSplit}
 use Rattle.def_tokens.proofs.DefCuts.{statements_law}
 use Rattle.def_syntax.specs.Words.{marks, name}
-use Rattle.def_syntax.specs.Grammar.{component, component_option, chain, clause, partition, terminal}
+use Rattle.def_syntax.specs.Grammar.{component, chain, clause, partition, terminal}
+use Rattle.def_syntax.specs.OptionForms.{component_form, component_option}
+use Rattle.def_syntax.proofs.OptionWords.{component_law}
 use Rattle.def_syntax.specs.Pieces.{once, put_component, fresh_chain, put_clause, is_terminal, some_list}
 use Rattle.def_syntax.specs.Pieces.{component_of as component_made, chain_of as chain_made}
 use Rattle.def_syntax.specs.Options.{and_last}
@@ -363,9 +365,9 @@ no_semicolon false false true d h = absurd cc
 no_semicolon false false false true h = absurd cc
 no_semicolon false false false false h = refl
 
-pub component_seen : (x : Component) (s : List Token) → IsSeen s → component.spells x s → is_name x.name ≡ true
-unfolding component
-component_seen x s seen h =
+component_seen_form : (x : Component) (s : List Token) → IsSeen s → component_form.spells x s → is_name x.name ≡ true
+unfolding component_form
+component_seen_form x s seen h =
     let m = h.holds in
     let sp = m.holds in
     let g = sp.first in
@@ -391,3 +393,7 @@ component_seen x s seen h =
     let all = subst (Each KeepsName) gs.second.is (last_keeps false gs.second.parts.0 gs.second.parts.1 os.back (many_keep true gs.second.parts.0 os.front os.first) os.second) in
     let kept = puts_keep g.parts.0 g.parts.1 m.parts.0 start all g.is in
     subst (λ (c : Component). is_name c.name ≡ true) h.is (subst IsNamed m.is kept)
+
+pub component_seen : (x : Component) (s : List Token) → IsSeen s → component.spells x s → is_name x.name ≡ true
+unfolding component
+component_seen x s seen h = component_seen_form x s seen (component_law.back x s h)

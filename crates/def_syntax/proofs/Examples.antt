@@ -6,7 +6,9 @@ use Rattle.token_forms.specs.Parsing.{word_at}
 use Rattle.token_forms.specs.Tokens.{Token}
 use Rattle.token_forms.specs.Forms.{text_at, many_within, many_at, put_all, gathered_at, passes_at}
 use Rattle.def_syntax.specs.Options.{rest_at, depth_at, word_in, unread_at}
-use Rattle.def_syntax.specs.Grammar.{units, orient_of, turned, placement, component_option, component, pin_option, design_pin, synthesized, connection, net_body, net, net_option, net_parts, bracket, element, elements, terminal, partition, common_pins, element_list, clause, chain}
+use Rattle.def_syntax.specs.Grammar.{units, component, design_pin, synthesized, connection, net_body, net, net_option, net_parts, bracket, element, elements, terminal, partition, common_pins, element_list, clause, chain}
+use Rattle.def_syntax.specs.Placements.{orient_of, turned, placement}
+use Rattle.def_syntax.specs.OptionForms.{component_form, component_option, design_pin_form, pin_option}
 use Rattle.def_tokens.specs.declared.orient.Orient.TheVariants as orient
 use Rattle.def_syntax.specs.declared.net.NetStatement.TheVariants as net_statements
 use Rattle.def_syntax.specs.declared.element.ElementList.TheVariants as lists
@@ -33,18 +35,18 @@ placed : component.reads (tokens 0 placed_texts) ≡ Some (
   record { name = codes "a"; cell = codes "SDF"; place = Some (record { x = codes "-10"; y = codes "0"; orient = orient.FN }) },
   [],
 )
-unfolding tokens component component_option placement turned orient_of word_at text_at many_within many_at put_all gathered_at rest_at depth_at word_in unread_at
+unfolding tokens component component_form component_option placement turned orient_of word_at text_at many_within many_at put_all gathered_at rest_at depth_at word_in unread_at
 placed = refl
 
 abbrev unplaced_texts : List String
 unplaced_texts = "-" ∷ "a" ∷ "SDF" ∷ "+" ∷ "+" ∷ "UNPLACED" ∷ "+" ∷ "PLACED" ∷ "(" ∷ "1" ∷ "2" ∷ ")" ∷ "N" ∷ ";" ∷ []
 
 unplaced : component.reads (tokens 0 unplaced_texts) ≡ Some (record { name = codes "a"; cell = codes "SDF"; place = None }, [])
-unfolding tokens component component_option placement turned orient_of word_at text_at many_within many_at put_all gathered_at rest_at depth_at word_in unread_at
+unfolding tokens component component_form component_option placement turned orient_of word_at text_at many_within many_at put_all gathered_at rest_at depth_at word_in unread_at
 unplaced = refl
 
 no_orientation : component.reads (tokens 0 ("-" ∷ "a" ∷ "SDF" ∷ "+" ∷ "FIXED" ∷ "(" ∷ "10" ∷ "0" ∷ ")" ∷ ";" ∷ [])) ≡ None
-unfolding tokens component component_option placement turned orient_of word_at text_at many_within many_at put_all gathered_at rest_at depth_at word_in unread_at
+unfolding tokens component component_form component_option placement turned orient_of word_at text_at many_within many_at put_all gathered_at rest_at depth_at word_in unread_at
 no_orientation = refl
 
 abbrev pin_texts : List String
@@ -54,11 +56,11 @@ one_pin : design_pin.reads (tokens 0 pin_texts) ≡ Some (
   record { name = codes "si"; net = codes "n1"; net_span = record { start = 70; end = 79 }; place = Some (record { x = codes "1"; y = codes "2"; orient = orient.W }) },
   [],
 )
-unfolding tokens design_pin pin_option placement turned orient_of word_at text_at many_within many_at put_all gathered_at rest_at depth_at word_in unread_at
+unfolding tokens design_pin design_pin_form pin_option placement turned orient_of word_at text_at many_within many_at put_all gathered_at rest_at depth_at word_in unread_at
 one_pin = refl
 
 two_nets : design_pin.reads (tokens 0 ("-" ∷ "si" ∷ "+" ∷ "NET" ∷ "a" ∷ "+" ∷ "NET" ∷ "a" ∷ ";" ∷ [])) ≡ None
-unfolding tokens design_pin pin_option placement turned orient_of word_at text_at many_within many_at put_all gathered_at rest_at depth_at word_in unread_at
+unfolding tokens design_pin design_pin_form pin_option placement turned orient_of word_at text_at many_within many_at put_all gathered_at rest_at depth_at word_in unread_at
 two_nets = refl
 
 abbrev net_texts : List String

@@ -17,8 +17,11 @@ use Rattle.token_forms.proofs.ClassLemmas.{both}
 use Rattle.def_syntax.specs.Words.{marks, placings, any, in_components, in_pins, in_nets, name}
 use Rattle.def_syntax.specs.Options.{open_behind, may_stand, all_stand, open_after, first_word, unread, and_last, options, with_options}
 use Rattle.def_syntax.specs.Pieces.{or_else, fresh_component, put_component, component_of, fresh_pin, put_pin, pin_of}
-use Rattle.def_syntax.specs.Grammar.{turned, placement, component_option, component, pin_option, design_pin, net_option}
-use Rattle.def_syntax.specs.Statements.{cut_at, is_within, AreEach, AreOptions, IsComponentOption, IsPinOption, IsNetOption, component_place, pin_place, nets_in, IsComponentText, IsPinText, ComponentLaw, PinLaw, NetOptionsLaw}
+use Rattle.def_syntax.specs.Placements.{turned, placement}
+use Rattle.def_syntax.specs.OptionForms.{component_form, design_pin_form, component_option, pin_option}
+use Rattle.def_syntax.specs.Grammar.{net_option}
+use Rattle.def_syntax.specs.OptionLaw.{ComponentLaw, PinLaw, NetOptionsLaw}
+use Rattle.def_syntax.specs.Statements.{cut_at, is_within, AreEach, AreOptions, IsComponentOption, IsPinOption, IsNetOption, component_place, pin_place, nets_in, IsComponentText, IsPinText}
 use Rattle.def_syntax.specs.declared.placement.Placement.{Placement}
 use Rattle.def_syntax.specs.declared.component.ComponentOption.{ComponentOption}
 use Rattle.def_syntax.specs.declared.component.ComponentOption.TheVariants as component_options
@@ -586,8 +589,8 @@ follows : {A B : Type 0} (o : Option A) (f : A → Option B) (y : B) → (o >>= 
 follows None f y e = absurd cc
 follows (Some x) f y e = record { middle = x; first = refl; second = e }
 
-component_told : (c : Component) (s : List Token) → component.spells c s → IsComponentText c s
-unfolding component
+component_told : (c : Component) (s : List Token) → component_form.spells c s → IsComponentText c s
+unfolding component_form
 component_told c s h =
     let o = optioned_told (made fresh_component ("-" ▸ (name & name))) put_component IsComponentOption (component_option true) (component_option false) (component_flavour true) (component_flavour false) h.parts s h.holds in
     let m = o.starts_so in
@@ -614,8 +617,8 @@ component_told c s h =
       value = made_so ∙ (λ k. record { name = sym n.text k; cell = sym w.text k; place = component_place o.values });
     }
 
-component_back : (c : Component) (s : List Token) → IsComponentText c s → component.spells c s
-unfolding component
+component_back : (c : Component) (s : List Token) → IsComponentText c s → component_form.spells c s
+unfolding component_form
 component_back c s t =
     let p = follows (put_all put_component (fresh_component (t.name.text, t.cell.text)) t.values) (λ z. Some (component_of z)) _ (components_put t.name.text t.cell.text None t.values) in
     record {
@@ -687,8 +690,8 @@ from_one : (n : List ℕ) (nets : List NetWord) (place : Option Placement) (net 
 unfolding pin_from
 from_one n nets place net e = rw e refl
 
-pin_told : (p : DesignPin) (s : List Token) → design_pin.spells p s → IsPinText p s
-unfolding design_pin and_nets
+pin_told : (p : DesignPin) (s : List Token) → design_pin_form.spells p s → IsPinText p s
+unfolding design_pin_form and_nets
 pin_told p s h =
     let o = optioned_told (made fresh_pin ("-" ▸ name)) put_pin IsPinOption (pin_option true) (pin_option false) (pin_flavour true) (pin_flavour false) h.parts s h.holds in
     let m = o.starts_so in
@@ -714,8 +717,8 @@ pin_told p s h =
       value = f.value ∙ (λ k. record { name = sym n.text k; net = f.net.text; net_span = f.net.span; place = pin_place o.values });
     }
 
-pin_back : (p : DesignPin) (s : List Token) → IsPinText p s → design_pin.spells p s
-unfolding design_pin and_nets
+pin_back : (p : DesignPin) (s : List Token) → IsPinText p s → design_pin_form.spells p s
+unfolding design_pin_form and_nets
 pin_back p s t =
     let made_so = pins_put t.name.text None None t.values ∙ from_one t.name.text (nets_in t.values) (pin_place t.values) t.net t.one_net in
     let f = follows (put_all put_pin (fresh_pin t.name.text) t.values) pin_of _ made_so in

@@ -1,18 +1,12 @@
 -- How the statements of DEF are spelled in tokens (LEF/DEF 5.8, in this profile).
-use Rattle.std.specs.Prelude.{ℕ, Bool, true, false, List, Option, Some, None, is_some, if◌then◌else◌, codes}
-use Rattle.std.specs.Str.{bytes_eq}
-use Rattle.token_forms.specs.Forms.{Form, text, key, ◌&◌, made, made_if, ◌▸◌, ◌◂◌, ◌only_if◌, ◌or◌, maybe, many, some, passed, at, gathered}
-use Rattle.def_syntax.specs.Words.{in_components, in_pins, in_nets, name, name_place, integer, number, placing, net_name, in_statement}
-use Rattle.def_syntax.specs.Options.{unread, options, with_options}
-use Rattle.def_syntax.specs.Pieces.{fresh_component, put_component, component_of, fresh_pin, put_pin, pin_of, fresh_element, put_bracket, no_pins, put_common, is_terminal, fresh_chain, put_clause, chain_of}
-use Rattle.def_tokens.specs.declared.orient.Orient.{Orient}
-use Rattle.def_tokens.specs.declared.orient.Orient.TheVariants as orient
-use Rattle.def_syntax.specs.declared.placement.Placement.{Placement}
-use Rattle.def_syntax.specs.declared.component.ComponentOption.{ComponentOption}
-use Rattle.def_syntax.specs.declared.component.ComponentOption.TheVariants as component_options
+use Rattle.std.specs.Prelude.{Bool, true, false, List, is_some}
+use Rattle.token_forms.specs.Forms.{Form, key, ◌&◌, made, made_if, ◌▸◌, ◌◂◌, ◌only_if◌, ◌or◌, maybe, many, some, passed, at, gathered}
+use Rattle.def_syntax.specs.Words.{in_nets, name, name_place, integer, number, net_name, in_statement}
+use Rattle.def_syntax.specs.Options.{unread, options}
+use Rattle.def_syntax.specs.OptionForms.{said, component_form, design_pin_form}
+use Rattle.def_syntax.specs.Statements.{IsComponentText, IsPinText}
+use Rattle.def_syntax.specs.Pieces.{fresh_element, put_bracket, no_pins, put_common, is_terminal, fresh_chain, put_clause, chain_of}
 use Rattle.def_syntax.specs.declared.component.Component.{Component}
-use Rattle.def_syntax.specs.declared.pin.PinOption.{PinOption}
-use Rattle.def_syntax.specs.declared.pin.PinOption.TheVariants as pin_options
 use Rattle.def_syntax.specs.declared.pin.DesignPin.{DesignPin}
 use Rattle.def_syntax.specs.declared.units.Units.{Units}
 use Rattle.def_syntax.specs.declared.net.Connection.{Connection}
@@ -37,48 +31,13 @@ use Rattle.def_syntax.specs.declared.chain.Chain.{Chain}
 unfoldable pub units : Form Units
 units = made (λ n. record { number = n }) ("UNITS" ▸ ("DISTANCE" ▸ ("MICRONS" ▸ integer)) ◂ ";")
 
--- what an orientation's word makes
-unfoldable pub orient_of : List ℕ → Option Orient
-orient_of text =
-    if bytes_eq text (codes "N") then Some orient.N
-    else (if bytes_eq text (codes "W") then Some orient.W
-    else (if bytes_eq text (codes "S") then Some orient.S
-    else (if bytes_eq text (codes "E") then Some orient.E
-    else (if bytes_eq text (codes "FN") then Some orient.FN
-    else (if bytes_eq text (codes "FW") then Some orient.FW
-    else (if bytes_eq text (codes "FS") then Some orient.FS
-    else (if bytes_eq text (codes "FE") then Some orient.FE
-    else None)))))))
-
--- N    W    S    E    FN    FW    FS    FE
-unfoldable pub turned : Form Orient
-turned = made_if orient_of name
-
--- PLACED ( x y ) orientation    FIXED ( x y ) orientation    COVER ( x y ) orientation
-unfoldable pub placement : Form Placement
-placement = made (λ p. record { x = p.1.0.0; y = p.1.0.1; orient = p.1.1 }) (placing & ("(" ▸ (integer & integer ◂ ")")) & turned)
-
--- + PLACED ..    + FIXED ..    + COVER ..    + UNPLACED    + tokens
-unfoldable pub component_option : Bool → Form ComponentOption
-component_option closed =
-    "+" ▸ (made component_options.Placed placement
-    or made (λ nothing. component_options.Unplaced) (key "UNPLACED")
-    or made (λ word. component_options.Other) (unread closed in_components))
-
--- - name cell option .. ;
+-- - name cell option .. ;    as IsComponentText says
 unfoldable pub component : Form Component
-component = made component_of (with_options (made fresh_component ("-" ▸ (name & name))) put_component (component_option true) (component_option false) ◂ ";")
+component = said IsComponentText component_form
 
--- + NET net    + PLACED ..    + FIXED ..    + COVER ..    + tokens
-unfoldable pub pin_option : Bool → Form PinOption
-pin_option closed =
-    "+" ▸ (made pin_options.Placed placement
-    or made (λ p. pin_options.Net (record { text = p.0; span = p.1 })) ("NET" ▸ at name)
-    or made (λ word. pin_options.Other) (unread closed in_pins))
-
--- - name option .. ;    with + NET net exactly once
+-- - name option .. ;    with + NET net exactly once, as IsPinText says
 unfoldable pub design_pin : Form DesignPin
-design_pin = made_if pin_of (with_options (made fresh_pin ("-" ▸ name)) put_pin (pin_option true) (pin_option false) ◂ ";")
+design_pin = said IsPinText design_pin_form
 
 -- + SYNTHESIZED, or nothing
 unfoldable pub synthesized : Form Bool

@@ -1,8 +1,11 @@
 pub mod Designs
 pub mod Frames
 pub mod Grammar
+pub mod OptionForms
+pub mod OptionLaw
 pub mod Options
 pub mod Pieces
+pub mod Placements
 pub mod Reading
 pub mod Statements
 pub mod Words

@@ -1,5 +1,5 @@
 -- The statements that have options, by their tokens and in plain words (LEF/DEF 5.8, COMPONENTS, PINS and NETS, in this profile).
--- Grammar says the same as forms, along which the reader steps; that both agree is options_law.
+-- OptionForms says the same as forms, along which the reader steps; that both agree is options_law.
 use Rattle.std.specs.Prelude.{◌≡◌, ℕ, Bool, true, false, ◌&&◌, not, ◌==◌, if◌then◌else◌, List, [], ◌∷◌, ◌++◌, drop, Option, Some, None, codes}
 use Rattle.std.specs.List.{list_all}
 use Rattle.std.specs.Str.{bytes_eq}
@@ -7,8 +7,8 @@ use Rattle.token_forms.specs.Tokens.{Token, place_of}
 use Rattle.token_forms.specs.Classes.{Only, But, is_in, begins}
 use Rattle.token_forms.specs.Forms.{key, ◌▸◌, at}
 use Rattle.def_syntax.specs.Words.{marks, in_components, in_pins, name}
-use Rattle.def_syntax.specs.Options.{open_behind, first_word, options}
-use Rattle.def_syntax.specs.Grammar.{placement, component, design_pin, net_option}
+use Rattle.def_syntax.specs.Options.{open_behind, first_word}
+use Rattle.def_syntax.specs.Placements.{placement}
 use Rattle.def_syntax.specs.declared.placement.Placement.{Placement}
 use Rattle.def_syntax.specs.declared.component.ComponentOption.{ComponentOption}
 use Rattle.def_syntax.specs.declared.component.ComponentOption.TheVariants as component_options
@@ -114,20 +114,3 @@ pub record IsPinText (p : DesignPin) (s : List Token) : Type 0 where
   pub net : NetWord
   pub one_net : nets_in values ≡ net ∷ []
   pub value : p ≡ record { name = name.text; net = net.text; net_span = net.span; place = pin_place values }
-
--- what a form spells is what the words say, and only that
-pub record SaysSame {X : Type 0} (spells Says : X → List Token → Type 0) : Type 0 where
-  pub there : (x : X) (s : List Token) → spells x s → Says x s
-  pub back : (x : X) (s : List Token) → Says x s → spells x s
-
--- of a statement of COMPONENTS
-abbrev pub ComponentLaw : Type 0
-ComponentLaw = SaysSame component.spells IsComponentText
-
--- of a statement of PINS
-abbrev pub PinLaw : Type 0
-PinLaw = SaysSame design_pin.spells IsPinText
-
--- of the options of a statement of NETS
-abbrev pub NetOptionsLaw : Type 0
-NetOptionsLaw = SaysSame (options (net_option true) (net_option false)).spells (AreOptions IsNetOption)

@@ -1,7 +1,8 @@
 //! The statements of COMPONENTS.
 ghost use Rattle.std.specs.Prelude.{◌≡◌, false, Option, Some, None};
 ghost use Rattle.token_forms.specs.Laws.{IsStatement};
-ghost use Rattle.def_syntax.specs.Grammar.{component_option, component};
+ghost use Rattle.def_syntax.specs.OptionForms.{component_option};
+ghost use Rattle.def_syntax.specs.Grammar.{component};
 ghost use Rattle.def_syntax.specs.Pieces.{put_component};
 
 use crate::kinds::{InComponents, Name};
@@ -39,12 +40,12 @@ pub(crate) struct SoFar<'a> {
 impl<'a> Read<'a> for ComponentOption<'a> {
     ghost form = { component_option false };
 
-    #[tactic(auto, unfolding(crate::specs::Grammar::component_option))]
+    #[tactic(auto, unfolding(crate::specs::OptionForms::component_option))]
     fn begins(parser: &Parser<'a, '_>) -> bool {
         parser.begins_word(b"+")
     }
 
-    #[tactic(auto, unfolding(crate::specs::Grammar::component_option))]
+    #[tactic(auto, unfolding(crate::specs::OptionForms::component_option))]
     fn read(parser: &mut Parser<'a, '_>) -> Result<ComponentOption<'a>, Stop> {
         parser.word(b"+")?;
         if Placement::begins(parser) {
@@ -77,12 +78,12 @@ impl<'a> Gather<ComponentOption<'a>> for SoFar<'a> {
 impl<'a> Read<'a> for Component<'a> {
     ghost form = { component };
 
-    #[tactic(auto, unfolding(crate::specs::Grammar::component))]
+    #[tactic(auto, unfolding(crate::specs::Grammar::component, crate::specs::OptionForms::component_form))]
     fn begins(parser: &Parser<'a, '_>) -> bool {
         parser.begins_word(b"-")
     }
 
-    #[tactic(auto, unfolding(crate::specs::Grammar::component))]
+    #[tactic(auto, unfolding(crate::specs::Grammar::component, crate::specs::OptionForms::component_form))]
     fn read(parser: &mut Parser<'a, '_>) -> Result<Component<'a>, Stop> {
         parser.word(b"-")?;
         let name = parser.text::<Name>()?;

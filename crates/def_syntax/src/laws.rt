@@ -1,5 +1,5 @@
 //! Laws of the definitions, each carried by a contract.
-ghost use Rattle.def_syntax.specs.Statements.{ComponentLaw, PinLaw, NetOptionsLaw};
+ghost use Rattle.def_syntax.specs.OptionLaw.{ComponentLaw, PinLaw, NetOptionsLaw};
 
 /// The forms of components, of design pins and of a net's options spell what the plain words on tokens say, and only that. It does
 /// nothing; its contract is the law.

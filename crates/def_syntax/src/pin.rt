@@ -4,7 +4,8 @@ ghost use Rattle.token_forms.specs.Parsing.{Gives, GivesAll};
 ghost use Rattle.token_forms.specs.Forms.{made, at};
 ghost use Rattle.token_forms.specs.Laws.{IsStatement};
 ghost use Rattle.def_syntax.specs.Words.{name};
-ghost use Rattle.def_syntax.specs.Grammar.{pin_option, design_pin};
+ghost use Rattle.def_syntax.specs.OptionForms.{pin_option};
+ghost use Rattle.def_syntax.specs.Grammar.{design_pin};
 ghost use Rattle.def_syntax.specs.Pieces.{put_pin, pin_of};
 
 use crate::kinds::{InPins, Name};
@@ -60,12 +61,12 @@ fn net_word<'a>(parser: &mut Parser<'a, '_>) -> Result<NetWord<'a>, Stop>
 impl<'a> Read<'a> for PinOption<'a> {
     ghost form = { pin_option false };
 
-    #[tactic(auto, unfolding(crate::specs::Grammar::pin_option))]
+    #[tactic(auto, unfolding(crate::specs::OptionForms::pin_option))]
     fn begins(parser: &Parser<'a, '_>) -> bool {
         parser.begins_word(b"+")
     }
 
-    #[tactic(auto, unfolding(crate::specs::Grammar::pin_option))]
+    #[tactic(auto, unfolding(crate::specs::OptionForms::pin_option))]
     fn read(parser: &mut Parser<'a, '_>) -> Result<PinOption<'a>, Stop> {
         parser.word(b"+")?;
         if Placement::begins(parser) {
@@ -110,12 +111,12 @@ fn pin_of(read: SoFar<'_>) -> Result<DesignPin<'_>, Stop>
 impl<'a> Read<'a> for DesignPin<'a> {
     ghost form = { design_pin };
 
-    #[tactic(auto, unfolding(crate::specs::Grammar::design_pin))]
+    #[tactic(auto, unfolding(crate::specs::Grammar::design_pin, crate::specs::OptionForms::design_pin_form))]
     fn begins(parser: &Parser<'a, '_>) -> bool {
         parser.begins_word(b"-")
     }
 
-    #[tactic(auto, unfolding(crate::specs::Grammar::design_pin))]
+    #[tactic(auto, unfolding(crate::specs::Grammar::design_pin, crate::specs::OptionForms::design_pin_form))]
     fn read(parser: &mut Parser<'a, '_>) -> Result<DesignPin<'a>, Stop> {
         parser.word(b"-")?;
         let name = parser.text::<Name>()?;

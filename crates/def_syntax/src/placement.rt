@@ -1,7 +1,7 @@
 //! Where a component or a design pin is placed.
 ghost use Rattle.std.specs.Prelude.{◌≡◌, ◌<◌, length, OnOk};
 ghost use Rattle.token_forms.specs.Parsing.{Gives};
-ghost use Rattle.def_syntax.specs.Grammar.{orient_of, turned, placement};
+ghost use Rattle.def_syntax.specs.Placements.{orient_of, turned, placement};
 
 use crate::kinds::{Integer, Name, Placing};
 use base_types::Stop;
@@ -18,7 +18,7 @@ pub struct Placement<'a> {
 }
 
 /// What an orientation's word makes.
-#[tactic(auto, unfolding(crate::specs::Grammar::orient_of))]
+#[tactic(auto, unfolding(crate::specs::Placements::orient_of))]
 fn orient_of(word: &[u8]) -> Option<Orient>
     ensures value { result ≡ orient_of word.now }
 {
@@ -35,7 +35,7 @@ fn orient_of(word: &[u8]) -> Option<Orient>
     }
 }
 
-#[tactic(auto, unfolding(crate::specs::Grammar::turned))]
+#[tactic(auto, unfolding(crate::specs::Placements::turned))]
 fn turned(parser: &mut Parser<'_, '_>) -> Result<Orient, Stop>
     ensures value { Gives result parser.new.tokens (turned.reads parser.old.tokens) }
     ensures shorter { OnOk result (length parser.new.tokens < length parser.old.tokens) }
@@ -47,12 +47,12 @@ fn turned(parser: &mut Parser<'_, '_>) -> Result<Orient, Stop>
 impl<'a> Read<'a> for Placement<'a> {
     ghost form = { placement };
 
-    #[tactic(auto, unfolding(crate::specs::Grammar::placement))]
+    #[tactic(auto, unfolding(crate::specs::Placements::placement))]
     fn begins(parser: &Parser<'a, '_>) -> bool {
         parser.begins_text::<Placing>()
     }
 
-    #[tactic(auto, unfolding(crate::specs::Grammar::placement))]
+    #[tactic(auto, unfolding(crate::specs::Placements::placement))]
     fn read(parser: &mut Parser<'a, '_>) -> Result<Placement<'a>, Stop> {
         parser.text::<Placing>()?;
         parser.word(b"(")?;

@@ -12,7 +12,8 @@ use Rattle.token_forms.proofs.ClassLemmas.{both}
 use Rattle.def_tokens.specs.DefStatements.{ends_with, is_closed}
 use Rattle.def_syntax.specs.Words.{marks}
 use Rattle.def_syntax.specs.Frames.{is_end}
-use Rattle.def_syntax.specs.Grammar.{component, design_pin, net, chain, component_option, pin_option}
+use Rattle.def_syntax.specs.Grammar.{component, design_pin, net, chain}
+use Rattle.def_syntax.specs.OptionForms.{component_form, design_pin_form, component_option, pin_option}
 use Rattle.def_syntax.specs.declared.pin.DesignPin.{DesignPin}
 use Rattle.def_syntax.proofs.Lawful.{component_statement, pin_statement, net_statement, chain_statement}
 use Rattle.def_layout.specs.declared.chains.ChainLayout.{ChainLayout}
@@ -45,11 +46,11 @@ begins_dashed form h e x [] k = absurd (h.lawful.not_empty h.full x k)
 begins_dashed form h e x (t ∷ ts) k = dash_is t.text (ap (λ cs. is_in_any cs t.text) (sym e) ∙ h.lawful.first x t ts k)
 
 pub components_dashed : IsDashed component
-unfolding component component_option
+unfolding component component_form component_option
 components_dashed = record { first = begins_dashed component component_statement refl }
 
 pub pins_dashed : IsDashed design_pin
-unfolding design_pin pin_option
+unfolding design_pin design_pin_form pin_option
 pins_dashed = record { first = begins_dashed design_pin pin_statement refl }
 
 pub nets_dashed : IsDashed net

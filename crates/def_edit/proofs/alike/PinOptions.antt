@@ -9,7 +9,7 @@ use Rattle.token_forms.proofs.Joined.{word_joined}
 use Rattle.token_forms.proofs.Parted.{word_texts}
 use Rattle.def_syntax.specs.Words.{marks, in_pins, name}
 use Rattle.def_syntax.specs.Pieces.{once, or_else, put_pin}
-use Rattle.def_syntax.specs.Grammar.{pin_option}
+use Rattle.def_syntax.specs.OptionForms.{pin_option}
 use Rattle.def_syntax.specs.declared.placement.Placement.{Placement}
 use Rattle.def_edit.proofs.alike.SameForms.{cut_again}
 use Rattle.def_edit.proofs.alike.SameOptions.{unread_by}

@@ -14,7 +14,9 @@ use Rattle.token_forms.proofs.Parted.{word_texts}
 use Rattle.def_syntax.specs.Words.{marks, name}
 use Rattle.def_syntax.specs.Options.{and_last}
 use Rattle.def_syntax.specs.Pieces.{once, fresh_pin, put_pin, pin_of}
-use Rattle.def_syntax.specs.Grammar.{pin_option, design_pin}
+use Rattle.def_syntax.specs.OptionForms.{design_pin_form, pin_option}
+use Rattle.def_syntax.proofs.OptionWords.{pin_law}
+use Rattle.def_syntax.specs.Grammar.{design_pin}
 use Rattle.def_syntax.specs.declared.pin.DesignPin.{DesignPin}
 use Rattle.def_syntax.proofs.FrameLaws.{each_front, each_behind}
 use Rattle.def_edit.specs.Alike.ByWords.{IsByWords}
@@ -287,10 +289,10 @@ pub record OtherPin (f : Token → List ℕ) (x : DesignPin) (ts us : List Token
   pub stands : ts ≡ front ++ token ∷ behind
   pub words : token_texts us ≡ token_texts front ++ f token ∷ token_texts behind
 
-pub other_pin : (f : Token → List ℕ) → ((v : Token) → is_in (But marks) v.text ≡ true → is_in (But marks) (f v) ≡ true) → (x : DesignPin) (ts us : List Token) → Alone f x.net_span.start ts → token_texts us ≡ map f ts → design_pin.spells x ts
+other_form : (f : Token → List ℕ) → ((v : Token) → is_in (But marks) v.text ≡ true → is_in (But marks) (f v) ≡ true) → (x : DesignPin) (ts us : List Token) → Alone f x.net_span.start ts → token_texts us ≡ map f ts → design_pin_form.spells x ts
     → OtherPin f x ts us
-unfolding design_pin
-other_pin f names x ts us alone e h =
+unfolding design_pin design_pin_form
+other_form f names x ts us alone e h =
     let q = h.holds in
     let w = q.holds.first in
     let o = w.holds.second in
@@ -322,7 +324,7 @@ other_pin f names x ts us alone e h =
     let value : DesignPin = record { name = r.name; net = b.net.text; net_span = b.net.span; place = r.place } in
     record {
       value = value;
-      spelled = record {
+      spelled = pin_law.there value us (record {
         parts = t;
         is = refl;
         holds = record {
@@ -340,7 +342,7 @@ other_pin f names x ts us alone e h =
             second = word_joined (codes ";") d.behind end_text;
           };
         };
-      };
+      });
       name = ap (λ (y : DesignPin). y.name) n.same;
       place = ap (λ (y : DesignPin). y.place) n.same;
       token = b.token;
@@ -354,3 +356,8 @@ other_pin f names x ts us alone e h =
       words = e ∙ ap (map f) (whole ∙ stands) ∙ map-append f (start ++ b.front) (b.token ∷ (b.behind ++ end)) ∙ ap (λ (l : List (List ℕ)). l ++ f b.token ∷ map f (b.behind ++ end)) (kept_texts f (start ++ b.front) kept.0)
           ∙ ap (λ (l : List (List ℕ)). token_texts (start ++ b.front) ++ f b.token ∷ l) (kept_texts f (b.behind ++ end) kept.1);
     }
+
+pub other_pin : (f : Token → List ℕ) → ((v : Token) → is_in (But marks) v.text ≡ true → is_in (But marks) (f v) ≡ true) → (x : DesignPin) (ts us : List Token) → Alone f x.net_span.start ts → token_texts us ≡ map f ts → design_pin.spells x ts
+    → OtherPin f x ts us
+unfolding design_pin
+other_pin f names x ts us alone e h = other_form f names x ts us alone e (pin_law.back x ts h)

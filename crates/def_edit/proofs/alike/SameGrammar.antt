@@ -3,10 +3,20 @@ use Rattle.std.proofs.Common.{Bool, true, false}
 use Rattle.token_forms.specs.Forms.{made, ◌&◌, ◌▸◌}
 use Rattle.def_syntax.specs.Words.{name}
 use Rattle.def_syntax.specs.Pieces.{fresh_component}
+<<<<<<< HEAD:crates/def_edit/proofs/alike/SameGrammar.antt
 use Rattle.def_syntax.specs.Grammar.{units, turned, placement, component_option, component, bracket, element, elements, terminal, partition, common_pins, element_list, clause, chain}
 use Rattle.def_edit.specs.Alike.ByWords.{IsByWords}
 use Rattle.def_edit.proofs.alike.SameForms.{word_by, text_by, pair_by, made_by, made_if_by, before_by, behind_by, only_by, or_by, maybe_by, many_by, some_by, passed_by, gathered_by}
 use Rattle.def_edit.proofs.alike.SameOptions.{unread_by, with_options_by}
+=======
+use Rattle.def_syntax.specs.Grammar.{units, component, bracket, element, elements, terminal, partition, common_pins, element_list, clause, chain}
+use Rattle.def_syntax.specs.Placements.{turned, placement}
+use Rattle.def_syntax.specs.OptionForms.{component_form, component_option}
+use Rattle.def_syntax.proofs.OptionWords.{component_law}
+use Rattle.def_alike.specs.ByWords.{IsByWords}
+use Rattle.def_alike.proofs.SameForms.{word_by, text_by, pair_by, made_by, made_if_by, before_by, behind_by, only_by, or_by, maybe_by, many_by, some_by, passed_by, gathered_by}
+use Rattle.def_alike.proofs.SameOptions.{unread_by, with_options_by}
+>>>>>>> h4-4:crates/def_alike/proofs/SameGrammar.antt
 
 ruleset words = (word_by, text_by, pair_by, made_by, made_if_by, before_by, behind_by, only_by, or_by, maybe_by, many_by, some_by, passed_by, gathered_by, unread_by, with_options_by)
 
@@ -29,9 +39,13 @@ component_option_by closed = search (words, placement_by) depth 12
 component_start_by : IsByWords (made fresh_component ("-" ▸ (name & name)))
 component_start_by = search words depth 12
 
+component_form_by : IsByWords component_form
+unfolding component_form
+component_form_by = made_by _ _ (behind_by _ ";" (with_options_by _ _ (component_option true) (component_option false) component_start_by (component_option_by true) (component_option_by false)))
+
 pub component_by : IsByWords component
 unfolding component
-component_by = made_by _ _ (behind_by _ ";" (with_options_by _ _ (component_option true) (component_option false) component_start_by (component_option_by true) (component_option_by false)))
+component_by = record { same = λ x ts us e h. component_law.there x us (component_form_by.same x ts us e (component_law.back x ts h)) }
 
 bracket_by : IsByWords bracket
 unfolding bracket

@@ -13,7 +13,9 @@ use Rattle.def_tokens.specs.declared.orient.Orient.TheVariants as orient
 use Rattle.def_syntax.specs.Words.{marks}
 use Rattle.def_syntax.specs.Frames.{start_of}
 use Rattle.def_syntax.specs.Options.{rest_at, depth_at, word_in, unread_at}
-use Rattle.def_syntax.specs.Grammar.{orient_of, turned, placement, component_option, component}
+use Rattle.def_syntax.specs.Placements.{orient_of, turned, placement}
+use Rattle.def_syntax.specs.OptionForms.{component_form, component_option}
+use Rattle.def_syntax.specs.Grammar.{component}
 use Rattle.def_syntax.specs.declared.component.Component.{Component}
 use Rattle.def_syntax.proofs.Lawful.{component_statement}
 use Rattle.def_layout.specs.NetForms.{AreIn}
@@ -36,7 +38,7 @@ words_of name x y = codes "-" ∷ name ∷ codes "SDF" ∷ codes "+" ∷ codes "
 
 component_read : (place : ℕ → Span) (name x y : List ℕ) → is_in (But marks) name ≡ true → is_in (But marks) x ≡ true → is_integer x ≡ true → is_in (But marks) y ≡ true → is_integer y ≡ true
     → component.reads (tokens_by place 0 (words_of name x y)) ≡ Some (component_text name x y, [])
-unfolding component component_option placement turned orient_of word_at text_at many_within many_at put_all gathered_at rest_at depth_at word_in unread_at
+unfolding component component_form component_option placement turned orient_of word_at text_at many_within many_at put_all gathered_at rest_at depth_at word_in unread_at
 component_read place name x y a b c d e = rw (a, b, c, d, e) refl
 
 component_spelled : (i : ℕ) (s : List Token) → token_texts s ≡ component_words i → component.spells (component_text (unit i) (decimal (place_x i)) (decimal (place_y i))) s

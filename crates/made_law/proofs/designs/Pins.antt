@@ -15,7 +15,9 @@ use Rattle.def_tokens.specs.declared.orient.Orient.TheVariants as orient
 use Rattle.def_syntax.specs.Words.{marks}
 use Rattle.def_syntax.specs.Frames.{start_of}
 use Rattle.def_syntax.specs.Options.{rest_at, depth_at, word_in, unread_at}
-use Rattle.def_syntax.specs.Grammar.{orient_of, turned, placement, pin_option, design_pin}
+use Rattle.def_syntax.specs.Placements.{orient_of, turned, placement}
+use Rattle.def_syntax.specs.OptionForms.{design_pin_form, pin_option}
+use Rattle.def_syntax.specs.Grammar.{design_pin}
 use Rattle.def_syntax.specs.declared.placement.Placement.{Placement}
 use Rattle.def_syntax.specs.declared.pin.DesignPin.{DesignPin}
 use Rattle.def_syntax.proofs.Lawful.{pin_statement}
@@ -54,12 +56,12 @@ pub record GoodPin (r : PinRow) : Type 0 where
 placed_read : (place : ℕ → Span) (name net x y : List ℕ) → is_in (But marks) name ≡ true → is_in (But marks) net ≡ true → is_in (But marks) x ≡ true → is_integer x ≡ true → is_in (But marks) y ≡ true → is_integer y ≡ true
     → design_pin.reads (tokens_by place 0 (codes "-" ∷ name ∷ codes "+" ∷ codes "NET" ∷ net ∷ codes "+" ∷ codes "PLACED" ∷ codes "(" ∷ x ∷ y ∷ codes ")" ∷ codes "N" ∷ codes ";" ∷ []))
     ≡ Some (record { name = name; net = net; net_span = place 4; place = Some (record { x = x; y = y; orient = orient.N }) }, [])
-unfolding design_pin pin_option placement turned orient_of word_at text_at many_within many_at put_all gathered_at rest_at depth_at word_in unread_at
+unfolding design_pin design_pin_form pin_option placement turned orient_of word_at text_at many_within many_at put_all gathered_at rest_at depth_at word_in unread_at
 placed_read place name net x y a b c d e f = rw (a, b, c, d, e, f) refl
 
 wide_read : (place : ℕ → Span) (name net : List ℕ) → is_in (But marks) name ≡ true → is_in (But marks) net ≡ true
     → design_pin.reads (tokens_by place 0 (codes "-" ∷ name ∷ codes "+" ∷ codes "NET" ∷ net ∷ codes ";" ∷ [])) ≡ Some (record { name = name; net = net; net_span = place 4; place = None }, [])
-unfolding design_pin pin_option placement turned orient_of word_at text_at many_within many_at put_all gathered_at rest_at depth_at word_in unread_at
+unfolding design_pin design_pin_form pin_option placement turned orient_of word_at text_at many_within many_at put_all gathered_at rest_at depth_at word_in unread_at
 wide_read place name net a b = rw (a, b) refl
 
 pin_read : (place : ℕ → Span) (name net : List ℕ) (o : Option (ℕ × ℕ)) → is_in (But marks) name ≡ true → is_in (But marks) net ≡ true
