@@ -3,20 +3,13 @@ use Rattle.std.proofs.Common.{Bool, true, false}
 use Rattle.token_forms.specs.Forms.{made, ◌&◌, ◌▸◌}
 use Rattle.def_syntax.specs.Words.{name}
 use Rattle.def_syntax.specs.Pieces.{fresh_component}
-<<<<<<< HEAD:crates/def_edit/proofs/alike/SameGrammar.antt
-use Rattle.def_syntax.specs.Grammar.{units, turned, placement, component_option, component, bracket, element, elements, terminal, partition, common_pins, element_list, clause, chain}
-use Rattle.def_edit.specs.Alike.ByWords.{IsByWords}
-use Rattle.def_edit.proofs.alike.SameForms.{word_by, text_by, pair_by, made_by, made_if_by, before_by, behind_by, only_by, or_by, maybe_by, many_by, some_by, passed_by, gathered_by}
-use Rattle.def_edit.proofs.alike.SameOptions.{unread_by, with_options_by}
-=======
 use Rattle.def_syntax.specs.Grammar.{units, component, bracket, element, elements, terminal, partition, common_pins, element_list, clause, chain}
 use Rattle.def_syntax.specs.Placements.{turned, placement}
 use Rattle.def_syntax.specs.OptionForms.{component_form, component_option}
 use Rattle.def_syntax.proofs.OptionWords.{component_law}
-use Rattle.def_alike.specs.ByWords.{IsByWords}
-use Rattle.def_alike.proofs.SameForms.{word_by, text_by, pair_by, made_by, made_if_by, before_by, behind_by, only_by, or_by, maybe_by, many_by, some_by, passed_by, gathered_by}
-use Rattle.def_alike.proofs.SameOptions.{unread_by, with_options_by}
->>>>>>> h4-4:crates/def_alike/proofs/SameGrammar.antt
+use Rattle.def_edit.specs.Alike.ByWords.{IsByWords}
+use Rattle.def_edit.proofs.alike.SameForms.{word_by, text_by, pair_by, made_by, made_if_by, before_by, behind_by, only_by, or_by, maybe_by, many_by, some_by, passed_by, gathered_by}
+use Rattle.def_edit.proofs.alike.SameOptions.{unread_by, with_options_by}
 
 ruleset words = (word_by, text_by, pair_by, made_by, made_if_by, before_by, behind_by, only_by, or_by, maybe_by, many_by, some_by, passed_by, gathered_by, unread_by, with_options_by)
 
