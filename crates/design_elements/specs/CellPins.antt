@@ -1,5 +1,6 @@
 -- What the chains of a design name (LEF/DEF 5.8, SCANCHAINS): components with pins of them, and the scan paths that the pins tell.
-use Rattle.std.specs.Prelude.{ℕ, Bool, true, ◌&&◌, ◌==◌, if◌then◌else◌, List, [], ◌∷◌, ◌++◌, length, map, Option, Some, None, option_and_then, slice_get}
+use Rattle.std.specs.Prelude.{ℕ, Bool, true, ◌&&◌, ◌==◌, not, if◌then◌else◌, List, [], ◌∷◌, ◌++◌, length, map, Option, Some, None, option_and_then, slice_get}
+use Rattle.std.specs.Option.{is_none}
 use Rattle.std.specs.List.{flat_map, list_any, position}
 use Rattle.std.specs.Str.{bytes_eq}
 use Rattle.cell_table.specs.declared.paths.ScanPath.{ScanPath}
@@ -44,18 +45,19 @@ cells_of chain = start_pins chain.start ++ stop_pins chain.stop ++ map pins_of (
 abbrev pub leaves_by : ScanPath → List ℕ → Bool
 leaves_by path output = list_any (λ o. bytes_eq o.pin output) path.outs
 
--- the scan path is entered by the in pin and left by the out pin, as far as they are named
-abbrev pub fits : Option (List ℕ) → Option (List ℕ) → ScanPath → Bool
-fits None None path = true
-fits (Some input) None path = bytes_eq path.input input
-fits None (Some output) path = leaves_by path output
-fits (Some input) (Some output) path = bytes_eq path.input input && leaves_by path output
+-- no pin is named, or the one that is passes the test
+abbrev pub none_or : (List ℕ → Bool) → Option (List ℕ) → Bool
+none_or test None = true
+none_or test (Some pin) = test pin
 
--- the scan path that the pins tell, by its number: without a pin the only one
+-- the scan path has each pin that is named: it is entered by the in pin, and left by the out pin
+abbrev pub fits : Option (List ℕ) → Option (List ℕ) → ScanPath → Bool
+fits input output path = none_or (bytes_eq path.input) input && none_or (leaves_by path) output
+
+-- the scan path that the pins tell, by its number: the first that has each named pin; where none is named, the only one
 abbrev pub path_among : List ScanPath → Option (List ℕ) → Option (List ℕ) → Option ℕ
-path_among paths None None = if length paths == 1 then Some 0 else None
-path_among paths (Some input) output = position (fits (Some input) output) paths
-path_among paths None (Some output) = position (fits None (Some output)) paths
+path_among paths input output =
+    if is_none input && (is_none output && not (length paths == 1)) then None else position (fits input output) paths
 
 -- the number of the scan path that is named
 abbrev pub path_number : Cells → List Component → CellPins → Option ℕ
@@ -67,9 +69,7 @@ path_named cells components pins = option_and_then (λ k. slice_get (scan_paths 
 
 -- the number of the out pin that is named, among those of the scan path
 abbrev pub out_among : Option (List ℕ) → Option ScanPath → Option ℕ
-out_among None path = None
-out_among (Some output) None = None
-out_among (Some output) (Some path) = position (λ o. bytes_eq o.pin output) path.outs
+out_among output path = option_and_then (λ pin. option_and_then (λ p. position (λ o. bytes_eq o.pin pin) p.outs) path) output
 
 -- the number of the out pin
 abbrev pub out_number : Cells → List Component → CellPins → Option ℕ

@@ -48,7 +48,7 @@ fn leaves_by(path: &ScanPath, pin: &Name) -> bool
         .any(|out| out.pin.bytes() == pin.bytes())
 }
 
-/// Whether the scan path is entered by the in pin and left by the out pin, as far as they are named.
+/// Whether the scan path has each pin that is named: it is entered by the in pin, and left by the out pin.
 fn fits(input: Option<&Name>, output: Option<&Name>, path: &ScanPath) -> bool
     ensures value { result ≡ fits (name_at input.entry) (name_at output.entry) path.now }
 {
@@ -68,7 +68,7 @@ fn first_fitting(paths: &[ScanPath], input: Option<&Name>, output: Option<&Name>
     paths.iter().position(|path| fits(input, output, path))
 }
 
-/// The number of the scan path that the pins tell; without a pin the only one.
+/// The number of the scan path that the pins tell: the first that has each named pin; where none is named, the only one.
 pub(crate) fn path_among(
     paths: &[ScanPath],
     input: Option<&Name>,
@@ -76,9 +76,10 @@ pub(crate) fn path_among(
 ) -> Option<usize>
     ensures value { result ≡ path_among paths.now (name_at input.entry) (name_at output.entry) }
 {
-    match (input, output) {
-        (None, None) => { if paths.len() == 1 { Some(0) } else { None } }
-        (Some(_), _) | (None, Some(_)) => first_fitting(paths, input, output),
+    if input.is_none() && (output.is_none() && paths.len() != 1) {
+        None
+    } else {
+        first_fitting(paths, input, output)
     }
 }
 
