@@ -1,8 +1,13 @@
 -- What a `NameHasher` computes.
 use Rattle.std.specs.Prelude.{ℕ, ◌+◌, ◌*◌, ◌/◌, ◌%◌, ◌^◌, ◌-◌, List, [], ◌∷◌, bit_and, bit_xor, nat_le, if◌then◌else◌}
+use Rattle.std.specs.Hash.DefaultHasher as sip
 use Rattle.verilog_syntax.specs.VerilogTokens.{is_digit}
 use Rattle.verilog_names.specs.declared.name_hash.NameHasher.{NameHasher}
 use Rattle.verilog_names.specs.declared.name_hash.NameState.{NameState}
+
+-- the key of a text: SipHash-1-3 of all its bytes
+abbrev pub keyed : List ℕ → NameState
+keyed text = record { key = sip.finish (sip.write sip.initial text) }
 
 -- nothing hashed yet
 abbrev pub started : NameState → NameHasher

@@ -1,6 +1,6 @@
 //! Hashes of names, by a key that is worked out from the whole text in which they stand.
 ghost use Rattle.std.specs.Prelude.{◌≡◌};
-ghost use Rattle.verilog_names.specs.NameHashes.{finished, folded, pushed, started, written};
+ghost use Rattle.verilog_names.specs.NameHashes.{finished, folded, keyed, pushed, started, written};
 
 use std::collections::HashSet;
 use std::hash::{BuildHasher, DefaultHasher, Hasher};
@@ -81,7 +81,9 @@ pub struct NameState {
 
 impl NameState {
     /// For the names in a text. The key comes from all of it, so that who writes names doesn't know it before they are written.
-    pub fn of(text: &[u8]) -> NameState {
+    pub fn of(text: &[u8]) -> NameState
+        ensures value { result ≡ keyed text.now }
+    {
         let mut hasher = DefaultHasher::new();
         hasher.write(text);
         NameState {
