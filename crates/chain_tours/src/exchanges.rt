@@ -22,14 +22,14 @@ impl Tours {
         }
     }
 
-    /// What follows p and what begins at q change places, up to the stops.
-    pub fn try_rests(&self, link: &Link, best: &mut Change) {
+    /// What follows p and what begins at q change places, up to the stops; answers how much work their bits were.
+    pub fn try_rests(&self, link: &Link, best: &mut Change) -> u64 {
         if link.q == link.q_last {
-            return;
+            return 0;
         }
         let longer = self.longer_by_rests(link);
         if longer >= best.longer {
-            return;
+            return 0;
         }
         let behind = link.p.wrapping_add(1);
         let one = link.p_run(behind, link.p_last.wrapping_sub(behind));
@@ -37,6 +37,11 @@ impl Tours {
         let bits = self.bits_from(behind, one.nodes);
         let others = self.bits_from(link.q, other.nodes);
         self.take_exchange(longer, one, bits, other, others, best);
+        if self.is_even {
+            0
+        } else {
+            u64::from(one.nodes.wrapping_add(other.nodes) / 8)
+        }
     }
 
     // Whether two runs may change places.

@@ -10,8 +10,10 @@ mod links;
 mod lists;
 mod nodes;
 mod places;
+mod thirds;
 
 pub use links::{Change, Link, Reach};
 pub use lists::{at, count, filled, item, part, part_mut, put};
 pub use nodes::{Node, Scale, way};
 pub use places::{Run, Step, Tour, Tours};
+pub use thirds::{Near, Turn};

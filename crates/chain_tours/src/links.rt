@@ -35,6 +35,8 @@ impl Change {
 pub struct Reach {
     /// The longest run that is reversed.
     pub reversed: u32,
+    /// Whether steps within a chain open a third link beside near nodes; else short runs alone are moved.
+    pub thirds: bool,
     /// The most units of runs that are exchanged, and by how many they may differ.
     pub exchanged: u32,
     pub uneven: u32,
@@ -95,6 +97,15 @@ impl Link {
     /// Whether q follows p already.
     pub fn stands(&self) -> bool {
         self.p.wrapping_add(1) == self.q
+    }
+
+    /// The place of the node that loses its neighbour where the link is tried from p: that before q, or where from q: that behind p.
+    pub fn loose(&self, is_out: bool) -> u32 {
+        if is_out {
+            self.q.wrapping_sub(1)
+        } else {
+            self.p.wrapping_add(1)
+        }
     }
 
     /// Whether p and q are of one chain.

@@ -2,7 +2,7 @@
 //!
 //! Nodes are numbers: first the units, then the start and the stop of each chain in turn. Each node knows its chain and its
 //! place in the list. A stretch has room before and behind it, so that units taken out or put in move the shorter side.
-//! What changes together: `places`, `stands` and `at_chain` of each node that is moved. Each loop over places or over nodes of
+//! What changes together: `spots`, `stands` and `line` at each node that is moved. Each loop over places or over nodes of
 //! a run ends where the list does (`within`), so that no number that wrapped makes one longer.
 ghost use Rattle.std.specs.Prelude.{◌≤◌, length};
 
@@ -56,6 +56,18 @@ impl Tour {
         let end = self.base.wrapping_add(self.room);
         end.wrapping_sub(self.first).wrapping_sub(self.nodes)
     }
+}
+
+// Where a node stands: its chain, and its place in the list.
+#[derive(Clone, Copy)]
+struct Spot {
+    chain: u32,
+    place: u32,
+}
+
+impl Spot {
+    // Of what isn't a node.
+    const NONE: Spot = Spot { chain: 0, place: 0 };
 }
 
 /// A run of nodes of one chain; places count from the chain's start.
@@ -114,8 +126,7 @@ pub struct Tours {
     pub is_plain: bool,
     stands: Vec<u32>,
     line: Vec<Node>,
-    places: Vec<u32>,
-    at_chain: Vec<u32>,
+    spots: Vec<Spot>,
     spare: Vec<u32>,
 }
 
@@ -135,8 +146,7 @@ impl Tours {
         }
         let stands = filled(alloc, room, 0)?;
         let line = vec![in alloc; Node::NOWHERE; room as usize]?;
-        let places = filled(alloc, all, 0)?;
-        let at_chain = filled(alloc, all, 0)?;
+        let spots = vec![in alloc; Spot::NONE; all as usize]?;
         let spare = filled(alloc, all, 0)?;
         let each = at(bits.as_slice(), 0);
         let mut is_plain = true;
@@ -155,8 +165,7 @@ impl Tours {
             is_plain,
             stands,
             line,
-            places,
-            at_chain,
+            spots,
             spare,
         })
     }
@@ -184,13 +193,13 @@ impl Tours {
     /// The place of a node.
     #[inline(always)]
     pub fn place(&self, node: u32) -> u32 {
-        at(self.places.as_slice(), node)
+        item(self.spots.as_slice(), node, Spot::NONE).place
     }
 
     /// The chain of a node.
     #[inline(always)]
     pub fn chain(&self, node: u32) -> u32 {
-        at(self.at_chain.as_slice(), node)
+        item(self.spots.as_slice(), node, Spot::NONE).chain
     }
 
     /// The stretch of a chain.
@@ -203,18 +212,6 @@ impl Tours {
     #[inline(always)]
     pub fn first(&self, chain: u32) -> u32 {
         self.tour(chain).first
-    }
-
-    /// The node behind a node.
-    #[inline(always)]
-    pub fn next(&self, node: u32) -> u32 {
-        self.node(self.place(node).wrapping_add(1))
-    }
-
-    /// The node before a node.
-    #[inline(always)]
-    pub fn previous(&self, node: u32) -> u32 {
-        self.node(self.place(node).wrapping_sub(1))
     }
 
     /// Whether a node is a unit.
@@ -324,6 +321,19 @@ impl Tours {
         length
     }
 
+    /// No order of the chains is shorter: where units are left beside their entry a link may be 0, else a chain is as long as the
+    /// way from its start to its stop.
+    pub fn least_length(&self) -> i64 {
+        let mut least = 0i64;
+        if self.is_plain {
+            for chain in 0..count(self.tours.as_slice()) {
+                let start = self.start(chain);
+                least = least.wrapping_add(self.way(start, start.wrapping_add(1)));
+            }
+        }
+        least
+    }
+
     /// Whether a chain may hold so many bits more or fewer and so many units more or fewer, and has room for them.
     pub fn may_change(&self, chain: u32, bits: i64, units: i64) -> bool {
         if bits == 0 && units == 0 {
@@ -345,25 +355,24 @@ impl Tours {
         let point = self.point(node);
         put(self.stands.as_mut_slice(), place, node);
         put(self.line.as_mut_slice(), place, point);
-        put(self.places.as_mut_slice(), node, place);
-        put(self.at_chain.as_mut_slice(), node, chain);
+        put(self.spots.as_mut_slice(), node, Spot { chain, place });
     }
 
     // Puts a node at another place of its chain.
     #[inline(always)]
-    fn shift(&mut self, from: u32, to: u32) {
+    fn shift(&mut self, chain: u32, from: u32, to: u32) {
         let node = self.node(from);
         let point = self.point_at(from);
         put(self.stands.as_mut_slice(), to, node);
         put(self.line.as_mut_slice(), to, point);
-        put(self.places.as_mut_slice(), node, to);
+        put(self.spots.as_mut_slice(), node, Spot { chain, place: to });
     }
 
-    // Tells the nodes from one place up to another where they stand.
-    fn number(&mut self, from: u32, to: u32) {
+    // Tells the nodes of a chain from one place up to another where they stand.
+    fn number(&mut self, chain: u32, from: u32, to: u32) {
         for place in from..self.within(to) {
             let node = self.node(place);
-            put(self.places.as_mut_slice(), node, place);
+            put(self.spots.as_mut_slice(), node, Spot { chain, place });
         }
     }
 
@@ -377,7 +386,7 @@ impl Tours {
         let from = self.first(run.chain).wrapping_add(run.from);
         let to = from.wrapping_add(run.nodes);
         self.turn(from, to);
-        self.number(from, to);
+        self.number(run.chain, from, to);
     }
 
     fn rotate(&mut self, run: Run, first: u32) {
@@ -387,7 +396,7 @@ impl Tours {
         self.turn(from, middle);
         self.turn(middle, to);
         self.turn(from, to);
-        self.number(from, to);
+        self.number(run.chain, from, to);
     }
 
     // Changes the bits and the nodes that a chain's stretch is said to have.
@@ -412,12 +421,12 @@ impl Tours {
         if run.from < end.wrapping_sub(behind) {
             for t in 0..self.within(run.from) {
                 let place = from.wrapping_sub(1).wrapping_sub(t);
-                self.shift(place, place.wrapping_add(gap));
+                self.shift(run.chain, place, place.wrapping_add(gap));
             }
             self.count_in(run.chain, tour.first.wrapping_add(gap), nodes, tour.bits);
         } else {
             for place in behind..self.within(end) {
-                self.shift(place, place.wrapping_sub(gap));
+                self.shift(run.chain, place, place.wrapping_sub(gap));
             }
             self.count_in(run.chain, tour.first, nodes, tour.bits);
         }
@@ -428,7 +437,7 @@ impl Tours {
         let tour = self.tour(chain);
         let before = tour.room_before();
         for place in tour.first..self.within(tour.first.wrapping_add(tour.nodes)) {
-            self.shift(place, place.wrapping_sub(before));
+            self.shift(chain, place, place.wrapping_sub(before));
         }
         self.count_in(chain, tour.base, tour.nodes, tour.bits);
     }
@@ -448,13 +457,13 @@ impl Tours {
         let shorter = run.from < end.wrapping_sub(from);
         if tour.room_before() >= gap && (shorter || tour.room_behind() < gap) {
             for place in tour.first..self.within(from) {
-                self.shift(place, place.wrapping_sub(gap));
+                self.shift(run.chain, place, place.wrapping_sub(gap));
             }
             self.count_in(run.chain, tour.first.wrapping_sub(gap), nodes, tour.bits);
         } else {
             for t in 0..self.within(end.wrapping_sub(from)) {
                 let place = end.wrapping_sub(1).wrapping_sub(t);
-                self.shift(place, place.wrapping_add(gap));
+                self.shift(run.chain, place, place.wrapping_add(gap));
             }
             self.count_in(run.chain, tour.first, nodes, tour.bits);
         }

@@ -2,12 +2,13 @@
 //!
 //! All of it counts down one number, the work: eight for each link that is tried and each perturbation, one for each pair of
 //! runs. So it ends, and takes the same steps on every machine.
-use crate::near::{KEPT, NONE, Side, near_units};
+use crate::carries::try_carries;
+use crate::near::{KEPT, NearUnits};
 use crate::progress::{Progress, Told};
 use crate::queue::Queue;
 use crate::random::Random;
 use base_types::NoMemory;
-use chain_tours::{Change, Link, Reach, Run, Step, Tours, at, count, item, put};
+use chain_tours::{Change, Link, Near, Reach, Run, Step, Tours, Turn, at, count, item, put};
 use std::alloc::Global;
 
 // The work for a link.
@@ -24,12 +25,14 @@ const ACROSS: u32 = 30;
 
 const CROSSED: u32 = 10;
 
+// The work for each node after which the search ends, if no perturbation changed the length.
+const STILL: u64 = 4000;
+
 /// A search over some chains.
 #[derive(Drop)]
 pub(crate) struct Climb {
     pub tours: Tours,
-    near_out: Vec<u32>,
-    near_into: Vec<u32>,
+    near: NearUnits,
     queue: Queue,
     // The steps since the last perturbation, and how many there are.
     log: Vec<Step>,
@@ -42,14 +45,12 @@ impl Climb {
     /// A search over chains, with all the room that it needs.
     pub fn new(alloc: Global, tours: Tours) -> Result<Climb, NoMemory> {
         let nodes = count(tours.nodes.as_slice());
-        let near_out = near_units(alloc, &tours, Side::Out)?;
-        let near_into = near_units(alloc, &tours, Side::Into)?;
+        let near = NearUnits::of(alloc, &tours)?;
         let queue = Queue::new(alloc, nodes)?;
         let log = vec![in alloc; Step::Stay; STEPS as usize]?;
         Ok(Climb {
             tours,
-            near_out,
-            near_into,
+            near,
             queue,
             log,
             logged: 0,
@@ -62,74 +63,81 @@ impl Climb {
         self.work = self.work.saturating_sub(work);
     }
 
-    // Finds the best step that makes a link.
-    fn try_link(&mut self, link: &Link, reach: Reach, best: &mut Change) {
+    // Finds the best step that makes a link, which is tried from its first node or from its second one.
+    fn try_link(&mut self, link: &Link, reach: Reach, is_out: bool, best: &mut Change) {
         self.spend(LINK);
         if link.stands() {
             return;
         }
+        if reach.thirds {
+            let thirds = self.try_thirds(link, reach, is_out, best);
+            self.spend(thirds);
+        }
         let tours = &self.tours;
         let within = link.is_within_chain();
-        if within {
+        if within && !(reach.thirds && tours.is_plain) {
             tours.try_reversals(link, reach, best);
         }
-        tours.try_runs_from_q(link, best);
-        tours.try_turned_runs_to_q(link, best);
-        tours.try_runs_to_p(link, best);
-        tours.try_turned_runs_from_p(link, best);
+        if !reach.thirds {
+            tours.try_runs_from_q(link, best);
+            tours.try_runs_to_p(link, best);
+        }
+        if !(reach.thirds && tours.is_plain) {
+            tours.try_turned_runs_to_q(link, best);
+            tours.try_turned_runs_from_p(link, best);
+        }
         if !within {
-            tours.try_rests(link, best);
+            let rests = tours.try_rests(link, best);
             let behind = tours.try_runs_behind(link, reach, best);
             let before = tours.try_runs_before(link, reach, best);
-            self.spend(behind.wrapping_add(before));
+            self.spend(rests.wrapping_add(behind).wrapping_add(before));
         }
     }
 
-    // The first gain among the links from a node.
-    fn gain_out(&mut self, node: u32, reach: Reach) -> Change {
-        let mut best = Change::NONE;
-        if self.tours.is_stop(node) {
-            return best;
+    // Finds the best step that makes a link and another one besides; answers how many were tried.
+    fn try_thirds(&self, link: &Link, reach: Reach, is_out: bool, best: &mut Change) -> u64 {
+        let tours = &self.tours;
+        let near = self.near.beside(tours.node(link.loose(is_out)), is_out);
+        if !link.is_within_chain() {
+            return try_carries(tours, link, reach, is_out, near, best);
         }
-        let now = self.tours.way(node, self.tours.next(node));
-        for k in 0..KEPT {
-            let other = item(
-                self.near_out.as_slice(),
-                node.wrapping_mul(KEPT).wrapping_add(k),
-                NONE,
-            );
-            let made = self.tours.way(node, other);
-            if other == NONE || made >= now {
-                return best;
-            }
-            let link = Link::of(&self.tours, node, other, made);
-            self.try_link(&link, reach, &mut best);
-            if best.longer < 0 {
-                return best;
-            }
+        let rotations = tours.try_rotations(link, reach, is_out, near, best);
+        if !tours.is_plain {
+            return rotations;
         }
-        best
+        let Some(turn) = Turn::of(tours, link, reach, is_out) else {
+            return rotations;
+        };
+        let near = self.near.beside(turn.loose(tours), !turn.is_before);
+        rotations.wrapping_add(tours.try_turns(link, &turn, reach, near, best))
     }
 
-    // The first gain among the links to a node.
-    fn gain_into(&mut self, node: u32, reach: Reach) -> Change {
+    // The first gain among the links from a node, or to it.
+    fn gain_at(&mut self, node: u32, reach: Reach, is_out: bool) -> Change {
         let mut best = Change::NONE;
-        if self.tours.is_start(node) {
+        let is_end = if is_out {
+            self.tours.is_stop(node)
+        } else {
+            self.tours.is_start(node)
+        };
+        if is_end {
             return best;
         }
-        let now = self.tours.way(self.tours.previous(node), node);
+        let place = self.tours.place(node);
+        let before = if is_out { place } else { place.wrapping_sub(1) };
+        let now = self.tours.link_at(before);
         for k in 0..KEPT {
-            let other = item(
-                self.near_into.as_slice(),
-                node.wrapping_mul(KEPT).wrapping_add(k),
-                NONE,
-            );
-            let made = self.tours.way(other, node);
-            if other == NONE || made >= now {
+            let near = self.near.one(node, is_out, k);
+            let made = i64::from(near.way);
+            if made >= now {
                 return best;
             }
-            let link = Link::of(&self.tours, other, node, made);
-            self.try_link(&link, reach, &mut best);
+            let link = if is_out {
+                Link::of(&self.tours, node, near.node, made)
+            } else {
+                Link::of(&self.tours, near.node, node, made)
+            };
+            self.try_link(&link, reach, is_out, &mut best);
             if best.longer < 0 {
                 return best;
             }
@@ -202,9 +210,9 @@ impl Climb {
                 break;
             };
             self.spend(1);
-            let mut change = self.gain_out(node, reach);
+            let mut change = self.gain_at(node, reach, true);
             if change.longer >= 0 {
-                change = self.gain_into(node, reach);
+                change = self.gain_at(node, reach, false);
             }
             if change.longer < 0 {
                 longer = longer.wrapping_add(change.longer);
@@ -219,8 +227,36 @@ impl Climb {
         longer
     }
 
-    // Exchanges two neighbouring runs at a random place; answers how much longer the chain became, if there was one.
-    fn shake(&mut self) -> Option<i64> {
+    // Exchanges two neighbouring runs of a chain, and answers how much longer it became.
+    fn rotate(&mut self, chain: u32, from: u32, one: u32, other: u32) -> i64 {
+        let tours = &self.tours;
+        let first = tours.first(chain).wrapping_add(from);
+        let middle = first.wrapping_add(one);
+        let end = middle.wrapping_add(other);
+        let before = first.wrapping_sub(1);
+        let last = end.wrapping_sub(1);
+        let inner = middle.wrapping_sub(1);
+        let made = tours
+            .between(before, middle)
+            .wrapping_add(tours.between(last, first))
+            .wrapping_add(tours.between(inner, end));
+        let lost = tours
+            .link_at(before)
+            .wrapping_add(tours.link_at(inner))
+            .wrapping_add(tours.link_at(last));
+        let run = Run {
+            chain,
+            from,
+            nodes: one.wrapping_add(other),
+        };
+        self.take(Step::Rotate(run, one));
+        self.wake_all(Step::Rotate(run, one));
+        made.wrapping_sub(lost)
+    }
+
+    // Exchanges a run from a random unit on with the next one, or where steps open third links, which would take that back at once, with
+    // the next but one; answers how much longer the chain became, if it has three units.
+    fn shake(&mut self, reach: Reach) -> Option<i64> {
         let unit = self.random.below(self.tours.units);
         let chain = self.tours.chain(unit);
         let tour = self.tours.tour(chain);
@@ -228,36 +264,22 @@ impl Climb {
         if units < 3 {
             return None;
         }
-        let most = SHAKEN.min(units / 2);
+        let most = SHAKEN.min(units / if reach.thirds { 3 } else { 2 });
         let one = self.random.below(most).wrapping_add(1);
         let other = self.random.below(most).wrapping_add(1);
-        let both = one.wrapping_add(other);
-        let last = units.wrapping_add(1).wrapping_sub(both);
-        let from = self.tours.place(unit).wrapping_sub(tour.first).min(last);
-        let place = tour.first.wrapping_add(from);
-        let tours = &self.tours;
-        let x = tours.node(place.wrapping_sub(1));
-        let y = tours.node(place);
-        let z = tours.node(place.wrapping_add(one).wrapping_sub(1));
-        let v = tours.node(place.wrapping_add(one));
-        let w = tours.node(place.wrapping_add(both).wrapping_sub(1));
-        let s = tours.node(place.wrapping_add(both));
-        let made = tours
-            .way(x, v)
-            .wrapping_add(tours.way(w, y))
-            .wrapping_add(tours.way(z, s));
-        let lost = tours
-            .way(x, y)
-            .wrapping_add(tours.way(z, v))
-            .wrapping_add(tours.way(w, s));
-        let run = Run {
-            chain,
-            from,
-            nodes: both,
+        let middle = if reach.thirds {
+            self.random.below(most).wrapping_add(1)
+        } else {
+            0
         };
-        self.take(Step::Rotate(run, one));
-        self.wake_all(Step::Rotate(run, one));
-        Some(made.wrapping_sub(lost))
+        let behind = middle.wrapping_add(other);
+        let last = units.wrapping_add(1).wrapping_sub(one).wrapping_sub(behind);
+        let from = self.tours.place(unit).wrapping_sub(tour.first).min(last);
+        let longer = self.rotate(chain, from, one, behind);
+        if middle == 0 {
+            return Some(longer);
+        }
+        Some(longer.wrapping_add(self.rotate(chain, from, middle, other)))
     }
 
     // A near unit of another chain, or none.
@@ -266,16 +288,12 @@ impl Climb {
         let from = self.random.below(KEPT);
         for k in 0..KEPT {
             let kept = from.wrapping_add(k) % KEPT;
-            let other = item(
-                self.near_out.as_slice(),
-                unit.wrapping_mul(KEPT).wrapping_add(kept),
-                NONE,
-            );
+            let other = self.near.one(unit, true, kept).node;
             if self.tours.is_unit(other) && self.tours.chain(other) != chain {
                 return other;
             }
         }
-        NONE
+        Near::NONE.node
     }
 
     // The run of so many units, as far as its chain goes, from a unit on.
@@ -295,7 +313,7 @@ impl Climb {
     fn shake_across(&mut self) -> Option<i64> {
         let unit = self.random.below(self.tours.units);
         let near = self.near_of_another(unit);
-        if near == NONE {
+        if near == Near::NONE.node {
             return None;
         }
         let others_most = self.run_from(near, CROSSED).nodes;
@@ -323,11 +341,11 @@ impl Climb {
     }
 
     // Perturbs a chain, or two where there are more.
-    fn perturb_once(&mut self) -> Option<i64> {
+    fn perturb_once(&mut self, reach: Reach) -> Option<i64> {
         if self.has_long_chains() && self.random.below(100) < ACROSS {
             self.shake_across()
         } else {
-            self.shake()
+            self.shake(reach)
         }
     }
 
@@ -357,13 +375,22 @@ impl Climb {
         drawn.wrapping_mul(self.random.up_to(1023)) / 1024
     }
 
-    /// Perturbs, repairs and keeps or undoes until the work is used up. At first the chains may become longer by as much as
-    /// is said.
+    // Whether the chains are as short as can be, or stayed as long as they are over much work.
+    fn is_done(&self, length: i64, least: i64, changed: u64) -> bool {
+        let nodes = u64::from(count(self.tours.nodes.as_slice()));
+        length <= least || changed.wrapping_sub(self.work) > STILL.wrapping_mul(nodes)
+    }
+
+    /// Perturbs, repairs and keeps or undoes until the work is used up or nothing changes any more. At first the chains may become longer
+    /// by as much as is said.
     pub fn perturb<P: Progress>(&mut self, reach: Reach, most: i64, work: u64, told: &Told<'_, P>) {
         self.work = work;
+        let least = self.tours.least_length();
+        let mut length = self.tours.length();
+        let mut changed = work;
         let mut left = work;
         for _ in 0..work {
-            if self.work == 0 {
+            if self.work == 0 || self.is_done(length, least, changed) {
                 break;
             }
             self.spend(LINK);
@@ -372,13 +399,16 @@ impl Climb {
                 told.tell(work.wrapping_sub(left));
             }
             self.logged = 0;
-            let Some(more) = self.perturb_once() else {
+            let Some(more) = self.perturb_once(reach) else {
                 continue;
             };
             let longer = more.wrapping_add(self.repair(reach, true));
             if longer > self.leave(most, work) {
                 self.take_back();
                 self.empty_queue();
+            } else if longer != 0 {
+                length = length.wrapping_add(longer);
+                changed = self.work;
             }
         }
         self.empty_queue();
@@ -391,12 +421,8 @@ impl Climb {
         let mut ways = 0i64;
         let mut found = 0i64;
         for unit in 0..self.tours.units {
-            let other = item(
-                self.near_out.as_slice(),
-                unit.wrapping_mul(KEPT).wrapping_add(3),
-                NONE,
-            );
-            if other != NONE {
+            let other = self.near.one(unit, true, 3).node;
+            if other != Near::NONE.node {
                 ways = ways.wrapping_add(self.tours.way(unit, other));
                 found = found.wrapping_add(1);
             }

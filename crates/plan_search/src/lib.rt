@@ -6,6 +6,7 @@
 #![tactic(auto)]
 
 mod best;
+mod carries;
 mod climb;
 mod group;
 mod halving;

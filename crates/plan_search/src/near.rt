@@ -1,20 +1,17 @@
 //! The nearest nodes of each node, found over a grid.
 use base_types::NoMemory;
-use chain_tours::{Node, Tours, at, count, filled, item, put};
+use chain_tours::{Near, Node, Tours, at, count, filled, item, part, put};
 use std::alloc::Global;
 
 /// How many near nodes are kept for each.
 pub(crate) const KEPT: u32 = 8;
-
-/// No node.
-pub(crate) const NONE: u32 = 4294967295;
 
 // How many rings of cells are searched though a nearer node may stand in the next.
 const RINGS: u32 = 3;
 
 /// Which ways are measured: from a node's exit to the entries of others, or from their exits to its entry.
 #[derive(Clone, Copy, PartialEq, Eq)]
-pub(crate) enum Side {
+enum Side {
     Out,
     Into,
 }
@@ -111,12 +108,20 @@ struct Nearest {
 
 impl Nearest {
     const NONE: Nearest = Nearest {
-        units: [NONE; 8],
+        units: [Near::NONE.node; 8],
         ways: [i64::MAX; 8],
     };
 
     fn farthest(&self) -> i64 {
         self.ways[7]
+    }
+
+    // One of them; ways of this search are below 2^31.
+    fn near(&self, k: u32) -> Near {
+        Near {
+            node: item(&self.units, k, Near::NONE.node),
+            way: (item(&self.ways, k, 0).min(4294967295) & 0xffff_ffff) as u32,
+        }
     }
 
     // Puts a unit in at its way.
@@ -145,6 +150,9 @@ impl Grid {
         let from = at(self.begins.as_slice(), cell);
         let to = at(self.begins.as_slice(), cell.wrapping_add(1));
         for place in from..to {
+            if nearest.farthest() == 0 {
+                break;
+            }
             let unit = at(self.units.as_slice(), place);
             if unit != node {
                 let length = match side {
@@ -195,12 +203,42 @@ impl Grid {
     }
 }
 
-/// For each node the nearest units on one side, `KEPT` at most; behind the last one stands `NONE`.
-pub(crate) fn near_units(alloc: Global, tours: &Tours, side: Side) -> Result<Vec<u32>, NoMemory> {
+/// For each node the nearest units: those it may go before, and those it may go behind.
+#[derive(Drop)]
+pub(crate) struct NearUnits {
+    out: Vec<Near>,
+    into: Vec<Near>,
+}
+
+impl NearUnits {
+    /// Found once for all nodes.
+    pub fn of(alloc: Global, tours: &Tours) -> Result<NearUnits, NoMemory> {
+        Ok(NearUnits {
+            out: near_units(alloc, tours, Side::Out)?,
+            into: near_units(alloc, tours, Side::Into)?,
+        })
+    }
+
+    /// Those of a node on one side, the nearest first; behind the last one stands `Near::NONE`.
+    #[inline(always)]
+    pub fn beside(&self, node: u32, is_out: bool) -> &[Near] {
+        let from = node.wrapping_mul(KEPT);
+        let list = if is_out { &self.out } else { &self.into };
+        part(list.as_slice(), from, from.wrapping_add(KEPT))
+    }
+
+    /// One of them, counted from the nearest.
+    pub fn one(&self, node: u32, is_out: bool, k: u32) -> Near {
+        item(self.beside(node, is_out), k, Near::NONE)
+    }
+}
+
+// For each node the nearest units on one side, `KEPT` at most; behind the last one stands `Near::NONE`.
+fn near_units(alloc: Global, tours: &Tours, side: Side) -> Result<Vec<Near>, NoMemory> {
     let mut grid = Grid::empty(alloc, tours, side)?;
     grid.fill(tours, side);
     let nodes = count(tours.nodes.as_slice());
-    let mut near = filled(alloc, nodes.wrapping_mul(KEPT), NONE)?;
+    let mut near = vec![in alloc; Near::NONE; nodes.wrapping_mul(KEPT) as usize]?;
     for node in 0..nodes {
         let is_idle = match side {
             Side::Out => tours.is_stop(node),
@@ -211,11 +249,10 @@ pub(crate) fn near_units(alloc: Global, tours: &Tours, side: Side) -> Result<Vec
         }
         let nearest = grid.nearest_to(tours, node, side);
         for k in 0..KEPT {
-            let unit = item(&nearest.units, k, NONE);
             put(
                 near.as_mut_slice(),
                 node.wrapping_mul(KEPT).wrapping_add(k),
-                unit,
+                nearest.near(k),
             );
         }
     }

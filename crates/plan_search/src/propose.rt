@@ -11,22 +11,18 @@ use order_search::Effort;
 use std::alloc::Global;
 use wire_cost::Ends;
 
-// The work for each unit, as if there were so many more units, and the most for each of few units.
+// The work for each unit, and the least for all together.
 const WORK: u64 = 9000;
 
-const MORE: u64 = 2500;
+const LEAST_WORK: u64 = 400000000;
 
-const MOST_WORK: u64 = 108000;
+// The most for each of few units.
+const MOST_WORK: u64 = 216000;
 
-// From so many units on: the least for all together, and the most for each.
+// From so many units on third links are opened.
 const SOME: u32 = 500;
 
-const SOME_WORK: u64 = 400000000;
-
-const MOST_SOME_WORK: u64 = 216000;
-
-// Up to so many units that is enough work for a search that begins with longer steps back.
-const MOST_SHAKEN: u32 = 8000;
+const FEW_CHAINS: usize = 16;
 
 // The work for each unit of the first improvement.
 const FIRST_WORK: u64 = 20000;
@@ -164,26 +160,26 @@ fn are_loose(climb: &Climb) -> bool {
     open.saturating_mul(units) >= held.saturating_mul(chains).saturating_mul(2)
 }
 
-// How far a search over a group looks: where the bounds are tight, runs are exchanged too.
+// How far a search over a group looks: where the bounds are tight, runs are exchanged too. Third links are opened where there are many units
+// in few chains or in full ones; else it matters more which chain holds a unit than how that is ordered. Where units are left beside their
+// entry, the ways inside a run that is reversed are summed, so that long ones aren't tried.
 fn reach_of(climb: &Climb) -> Reach {
+    let are_loose = are_loose(climb);
+    let are_few = climb.tours.tours.as_slice().len() <= FEW_CHAINS;
     Reach {
-        reversed: 50000,
-        exchanged: if are_loose(climb) { 1 } else { 5 },
+        reversed: if climb.tours.is_plain { 50000 } else { 1000 },
+        thirds: climb.tours.units >= SOME && (are_few || !are_loose),
+        exchanged: if are_loose { 1 } else { 5 },
         uneven: if climb.tours.is_even { 1 } else { 4 },
     }
-}
-
-// Whether so many units get work enough to begin farther from the plan that is found.
-fn is_shaken_long(units: u32) -> bool {
-    units >= SOME && units <= MOST_SHAKEN
 }
 
 // By how many spacings the chains may become longer at first: by more where there is more to be shared out.
 fn spacings_of(climb: &Climb, reach: Reach) -> i64 {
     let chains = climb.tours.tours.as_slice().len();
-    if chains == 1 || reach.exchanged > 1 {
+    if chains == 1 || reach.exchanged > 1 || reach.thirds {
         5
-    } else if chains <= 16 && !is_shaken_long(climb.tours.units) {
+    } else if chains <= FEW_CHAINS {
         10
     } else {
         20
@@ -209,12 +205,7 @@ fn search<P: Progress>(layouts: &mut [Layout], climb: &mut Climb, work: u64, tol
 // The work for each of so many units.
 fn work_for(units: u32) -> u64 {
     let all = u64::from(units).max(1);
-    let work = WORK.wrapping_mul(MORE.wrapping_add(all));
-    if units < SOME {
-        (work / all).min(MOST_WORK)
-    } else {
-        (work.max(SOME_WORK) / all).min(MOST_SOME_WORK)
-    }
+    (LEAST_WORK / all).max(WORK).min(MOST_WORK)
 }
 
 // Searches a group of chains and writes what was found into the plan.
