@@ -5,7 +5,7 @@
 //! `specs/ErasedDef.antt` says is erased. Begin with `text.rt`.
 #![tactic(auto)]
 
-mod alike;
+pub mod alike;
 mod chains;
 mod components;
 mod groups;

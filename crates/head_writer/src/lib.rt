@@ -10,7 +10,7 @@
 
 mod cells;
 mod edits;
-mod fits;
+pub mod fits;
 mod head;
 mod names;
 
