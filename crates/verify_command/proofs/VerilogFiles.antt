@@ -11,7 +11,7 @@ file_of : Fault → FileKind
 file_of f = f.file
 
 form_in : (text : List ℕ) (f : Fault) → IsFormFault text f → f.file ≡ Verilog
-form_in text f (Open open is) = ap file_of is
+form_in text f (Open none is) = ap file_of is
 form_in text f (Empty behind closed is) = ap file_of is
 form_in text f (NoHeader body behind s ss closed are none is) = ap file_of is
 form_in text f (NoStatement body behind s front ss ps closed are front_is none is) = ap file_of is
