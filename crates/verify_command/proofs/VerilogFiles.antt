@@ -7,7 +7,7 @@ use Rattle.verilog_syntax.specs.Module.{IsFormFault, Open, Empty, NoHeader, NoSt
 use Rattle.verilog_checks.specs.Faults.{HoldsInVerilog, Form, Number, Twice, Select}
 
 -- the file of a fault
-file_of : Fault → FileKind
+abbrev file_of : Fault → FileKind
 file_of f = f.file
 
 form_in : (text : List ℕ) (f : Fault) → IsFormFault text f → f.file ≡ Verilog
