@@ -140,13 +140,22 @@ def reached(imports, text):
     return seen
 
 
+def cites(kind, text):
+    """What cites a kind in a file of definitions, by the names under which the file has the kinds; None where it has not this one."""
+    names = re.findall(r"declared\.kind\.Kind\.TheVariants as (\w+)", text)
+    words = [r"\b%s\.%s\b" % (name, kind) for name in names]
+    if re.search(r"declared\.kind\.Kind\.TheVariants\.\{[^}]*\b%s\b" % kind, text):
+        words.append(r"(?<![.\w])%s\b" % kind)
+    return re.compile("|".join(words)) if words else None
+
+
 def deciding(kind):
     """The definitions that say where a fault of the kind holds, of the lowest crates, each with its crate: facts where there are some, else functions; laws only tie these."""
-    cited = re.compile(r"(?<![.\w])(?:kinds\.)?%s\b" % kind)
     facts, others, with_facts = [], [], set()
     for crate in sorted(crates(), key=lambda crate: (depth(crate), crate)):
         for path in sources(crate, "specs", ".antt"):
-            if crate == "base_types" or not re.search(r"declared\.kind\.Kind\.TheVariants(?:\.\{[^}]*\b%s\b| as)" % kind, text_of(path)):
+            cited = cites(kind, text_of(path))
+            if crate == "base_types" or cited is None:
                 continue
             for name, block in spec(crate, module_of(crate, path)).blocks.items():
                 if name.endswith("Law"):
