@@ -8,27 +8,29 @@ use Rattle.std.proofs.lemmas.List.Concat.{flat_map-append}
 use Rattle.std.specs.Str.{bytes_eq}
 use Rattle.token_forms.specs.Parsing.{◌>>=◌}
 use Rattle.token_forms.specs.Forms.{Form, made, many, maybe, ◌&◌, ◌▸◌, ◌◂◌, ◌or◌, gathered, put_all}
-use Rattle.token_forms.specs.Classes.{But, is_in}
+use Rattle.token_forms.specs.Classes.{But, is_among, is_in}
 use Rattle.token_forms.proofs.ClassLemmas.{both}
-use Rattle.def_syntax.specs.Words.{marks, any, name, number, is_number}
+use Rattle.def_syntax.specs.Words.{marks, any, name, cell_name, number, is_number}
 use Rattle.def_syntax.specs.Grammar.{bracket, element, elements, element_list, terminal, partition, common_pins, clause, chain}
-use Rattle.def_syntax.specs.Pieces.{once, some_list, fresh_element, put_bracket, is_terminal, is_floating, fresh_chain, put_clause, chain_of}
+use Rattle.def_syntax.specs.Pieces.{once, some_list, fresh_element, put_bracket, is_floating, fresh_chain, put_clause, chain_of}
 use Rattle.def_syntax.specs.declared.element.Element.{Element}
 use Rattle.def_syntax.specs.declared.element.ElementList.{ElementList}
 use Rattle.def_syntax.specs.declared.element.ElementList.TheVariants as lists
 use Rattle.def_syntax.specs.declared.chain.Terminal.{Terminal}
+use Rattle.def_syntax.specs.declared.chain.Terminal.TheVariants as terminals
 use Rattle.def_syntax.specs.declared.chain.Partition.{Partition}
 use Rattle.def_syntax.specs.declared.chain.CommonPins.{CommonPins}
 use Rattle.def_layout.specs.declared.chains.ElementLayout.{ElementLayout}
 use Rattle.def_layout.specs.declared.chains.TerminalLayout.{TerminalLayout}
+use Rattle.def_layout.specs.declared.chains.TerminalLayout.TheVariants as written
 use Rattle.def_layout.specs.declared.chains.PartitionLayout.{PartitionLayout}
 use Rattle.def_layout.specs.declared.chains.ChainLayout.{ChainLayout}
 use Rattle.def_layout.specs.Words.{is_whole}
-use Rattle.def_layout.specs.Sections.{element_line, list_lines, floating_lines, max_bits_words, partition_lines, terminal_line, chain_lines}
+use Rattle.def_layout.specs.Sections.{element_line, list_lines, floating_lines, max_bits_words, partition_lines, terminal_words, terminal_line, chain_lines}
 use Rattle.def_layout.specs.SectionForms.{is_name, names_element, names_terminal, names_partition, names_list, some_element, is_written_well, element_of, max_bits_of, partition_of, terminal_of, floating_of, read_chain, chain_words}
 use Rattle.def_layout.proofs.NumberWords.{number_name, number_number}
 use Rattle.def_layout.proofs.SectionWords.{well_of}
-use Rattle.def_layout.proofs.Spellings.{Spells, text_spells, only_spells, left_spells, right_spells, none_spells, maybe_spells, many_nil, many_cons, some_spells, before_spells, behind_spells, seq_spells, made_spells, made_if_spells, gathered_spells, each_spells, many_both}
+use Rattle.def_layout.proofs.Spellings.{Spells, text_spells, left_spells, right_spells, none_spells, maybe_spells, many_nil, many_cons, some_spells, before_spells, behind_spells, seq_spells, made_spells, made_if_spells, gathered_spells, each_spells, many_both}
 
 name_spells : (w : List ℕ) → is_name w ≡ true → Spells name w (w ∷ [])
 name_spells w e = text_spells (But marks) any w (both (is_whole w) (is_in (But marks) w) e).1 refl
@@ -111,17 +113,25 @@ ordered_spells es h =
     right_spells (made lists.Floating ("FLOATING" ▸ elements)) (made lists.Ordered ("ORDERED" ▸ elements)) (lists.Ordered (map element_of es)) _
     (made_spells ("ORDERED" ▸ elements) lists.Ordered (map element_of es) _ (before_spells elements "ORDERED" (map element_of es) (flat_map (λ l. l.words) (map element_line es)) (elements_spell es h)))
 
-terminal_spells : (t : TerminalLayout) → names_terminal t ≡ true → Spells terminal (terminal_of t) (t.component ∷ t.pin ∷ [])
-unfolding terminal
-terminal_spells t h =
-    let q = both (is_name t.component) (is_name t.pin) h in
-    only_spells (made (λ p. record { component = p.0; pin = p.1 }) (name & maybe name)) is_terminal (terminal_of t) (t.component ∷ t.pin ∷ []) (or_true (not (bytes_eq t.component (codes "PIN"))))
-    (made_spells (name & maybe name) (λ p. record { component = p.0; pin = p.1 }) (t.component, Some t.pin) (t.component ∷ t.pin ∷ [])
-    (seq_spells name (maybe name) t.component (Some t.pin) (t.component ∷ []) (t.pin ∷ []) (name_spells t.component q.0) (maybe_spells name t.pin (t.pin ∷ []) (name_spells t.pin q.1))))
+cell_spells : (w : List ℕ) → (is_name w && not (bytes_eq w (codes "PIN"))) ≡ true → Spells cell_name w (w ∷ [])
+cell_spells w e =
+    let q = both (is_name w) (not (bytes_eq w (codes "PIN"))) e in
+    text_spells (But (codes "PIN" ∷ marks)) any w (no_more (bytes_eq w (codes "PIN")) (is_among marks w) q.1 (both (is_whole w) (is_in (But marks) w) q.0).1) refl
   where
-    or_true : (a : Bool) → (a || true) ≡ true
-    or_true true = refl
-    or_true false = refl
+    no_more : (a b : Bool) → not a ≡ true → not b ≡ true → not (a || b) ≡ true
+    no_more true b e f = e
+    no_more false b e f = f
+
+terminal_spells : (t : TerminalLayout) → names_terminal t ≡ true → Spells terminal (terminal_of t) (terminal_words t)
+unfolding terminal
+terminal_spells (written.AtPin pin) h =
+    left_spells (made terminals.AtPin ("PIN" ▸ name)) (made (λ p. terminals.AtCell p.0 p.1) (cell_name & maybe name)) (terminals.AtPin pin) (codes "PIN" ∷ pin ∷ [])
+    (made_spells ("PIN" ▸ name) terminals.AtPin pin (codes "PIN" ∷ pin ∷ []) (before_spells name "PIN" pin (pin ∷ []) (name_spells pin h)))
+terminal_spells (written.AtCell component pin) h =
+    let q = both (is_name component && not (bytes_eq component (codes "PIN"))) (is_name pin) h in
+    right_spells (made terminals.AtPin ("PIN" ▸ name)) (made (λ p. terminals.AtCell p.0 p.1) (cell_name & maybe name)) (terminals.AtCell component (Some pin)) (component ∷ pin ∷ [])
+    (made_spells (cell_name & maybe name) (λ p. terminals.AtCell p.0 p.1) (component, Some pin) (component ∷ pin ∷ [])
+    (seq_spells cell_name (maybe name) component (Some pin) (component ∷ []) (pin ∷ []) (cell_spells component q.0) (maybe_spells name pin (pin ∷ []) (name_spells pin q.1))))
 
 max_bits_spells : (n : Option ℕ) → Spells (maybe ("MAXBITS" ▸ number)) (max_bits_of n) (max_bits_words n)
 max_bits_spells None = none_spells ("MAXBITS" ▸ number)
@@ -262,6 +272,7 @@ words_of_chain c =
       flat_map-append (λ l. l.words) (floating_lines c.floating) (ordered ++ stop),
       flat_map-append (λ l. l.words) ordered stop,
       append_assoc pw (aw ++ (fw ++ (ow ++ zw))) (codes ";" ∷ []),
+      append_assoc (terminal_words c.start) (fw ++ (ow ++ zw)) (codes ";" ∷ []),
       append_assoc fw (ow ++ zw) (codes ";" ∷ []),
       append_assoc ow zw (codes ";" ∷ []),
     ) refl
@@ -271,10 +282,10 @@ unfolding chain put_all
 chain_spells c h =
     let w = well_of c h in
     let p = partition_part c.name c.partition w.partition in
-    let a = start_clause (terminal_of c.start) (c.start.component ∷ c.start.pin ∷ []) (terminal_spells c.start w.start) in
+    let a = start_clause (terminal_of c.start) (terminal_words c.start) (terminal_spells c.start w.start) in
     let f = floating_part c.floating w.floating in
     let o = ordered_part c.ordered w.ordered in
-    let z = stop_clause (terminal_of c.stop) (c.stop.component ∷ c.stop.pin ∷ []) (terminal_spells c.stop w.stop) in
+    let z = stop_clause (terminal_of c.stop) (terminal_words c.stop) (terminal_spells c.stop w.stop) in
     let pw = flat_map (λ l. l.words) (partition_lines c.partition) in
     let aw = (terminal_line (codes "START") c.start).words in
     let fw = flat_map (λ l. l.words) (floating_lines c.floating) in
@@ -293,7 +304,7 @@ chain_spells c h =
     many_both clause p.0 (a.0 ∷ (f.0 ++ (o.0 ++ z.0 ∷ []))) pw (aw ++ (fw ++ (ow ++ zw))) p.1
     (many_cons clause a.0 (f.0 ++ (o.0 ++ z.0 ∷ [])) aw (fw ++ (ow ++ zw)) a.1
     (many_both clause f.0 (o.0 ++ z.0 ∷ []) fw (ow ++ zw) f.1
-    (many_both clause o.0 (z.0 ∷ []) ow zw o.1 (many_cons clause z.0 [] zw [] z.1 (many_nil clause)))))
+    (many_both clause o.0 (z.0 ∷ []) ow zw o.1 (subst (Spells (many clause) (z.0 ∷ [])) (append-nil zw) (many_cons clause z.0 [] zw [] z.1 (many_nil clause))))))
     in
     let start = made fresh_chain ("-" ▸ name) in
     let all = gathered start put_clause clause in

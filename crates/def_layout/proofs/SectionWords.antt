@@ -11,6 +11,7 @@ use Rattle.def_tokens.specs.DefSplit.{goes_on}
 use Rattle.def_syntax.specs.Words.{marks}
 use Rattle.def_layout.specs.declared.chains.ElementLayout.{ElementLayout}
 use Rattle.def_layout.specs.declared.chains.TerminalLayout.{TerminalLayout}
+use Rattle.def_layout.specs.declared.chains.TerminalLayout.TheVariants as written
 use Rattle.def_layout.specs.declared.chains.PartitionLayout.{PartitionLayout}
 use Rattle.def_layout.specs.declared.chains.ChainLayout.{ChainLayout}
 use Rattle.def_syntax.specs.Pieces.{some_list}
@@ -120,9 +121,11 @@ partition_part (Some p) h = with_bits p.max_bits
     with_bits (Some n) = rw (part_name p.name h, part_number n) refl
 
 terminal_part : (word : List ℕ) (t : TerminalLayout) → is_part word ≡ true → names_terminal t ≡ true → is_part_line (terminal_line word t) ≡ true
-terminal_part word t e h =
-    let q = both (is_name t.component) (is_name t.pin) h in
-    rw (e, part_name t.component q.0, part_name t.pin q.1) refl
+terminal_part word (written.AtPin pin) e h = rw (e, part_name pin h) refl
+terminal_part word (written.AtCell component pin) e h =
+    let q = both (is_name component && not (bytes_eq component (codes "PIN"))) (is_name pin) h in
+    let r = both (is_name component) (not (bytes_eq component (codes "PIN"))) q.0 in
+    rw (e, part_name component r.0, part_name pin q.1) refl
 
 -- what a chain that is written well has
 pub record Well (c : ChainLayout) : Type 0 where

@@ -6,7 +6,7 @@ use Rattle.token_forms.specs.Tokens.{Token}
 use Rattle.token_forms.specs.Parts.{token_texts}
 use Rattle.token_forms.specs.Classes.{Class, is_in}
 use Rattle.token_forms.proofs.ClassLemmas.{both}
-use Rattle.token_forms.specs.Forms.{Form, word, text, ◌&◌, made, made_if, ◌▸◌, ◌◂◌, ◌only_if◌, ◌or◌, maybe, many, some, put_all, gathered, AreMany}
+use Rattle.token_forms.specs.Forms.{Form, word, text, ◌&◌, made, made_if, ◌▸◌, ◌◂◌, ◌or◌, maybe, many, some, put_all, gathered, AreMany}
 
 -- tokens of these texts spell the value
 abbrev pub Spells : {X : Type 0} → Form X → X → List (List ℕ) → Type 0
@@ -39,9 +39,6 @@ text_spells kind test w is passes (t ∷ []) e = record { token = t; is = refl; 
 text_spells kind test w is passes (t ∷ u ∷ ts) e = absurd cc
 
 module _ {X : Type 0} (a : Form X) where
-  pub only_spells : (test : X → Bool) (x : X) (ws : List (List ℕ)) → test x ≡ true → Spells a x ws → Spells (a only_if test) x ws
-  only_spells test x ws passes f ts e = record { holds = f ts e; passes = passes }
-
   pub left_spells : (b : Form X) (x : X) (ws : List (List ℕ)) → Spells a x ws → Spells (a or b) x ws
   left_spells b x ws f ts e = inl (f ts e)
 

@@ -1,6 +1,7 @@
 -- What the section SCANCHAINS that is written is read as.
-use Rattle.std.specs.Prelude.{◌≡◌, ℕ, Bool, true, ◌&&◌, List, [], ◌∷◌, ◌++◌, map, decimal, Option, Some, None}
+use Rattle.std.specs.Prelude.{◌≡◌, ℕ, Bool, true, ◌&&◌, not, List, [], ◌∷◌, ◌++◌, map, codes, decimal, Option, Some, None}
 use Rattle.std.specs.List.{flat_map, list_all}
+use Rattle.std.specs.Str.{bytes_eq}
 use Rattle.token_forms.specs.Tokens.{Token}
 use Rattle.token_forms.specs.Parts.{token_texts}
 use Rattle.token_forms.specs.Classes.{But, is_in}
@@ -15,10 +16,12 @@ use Rattle.def_syntax.specs.declared.element.Element.{Element}
 use Rattle.def_syntax.specs.declared.element.ElementList.{ElementList}
 use Rattle.def_syntax.specs.declared.element.ElementList.TheVariants as lists
 use Rattle.def_syntax.specs.declared.chain.Terminal.{Terminal}
+use Rattle.def_syntax.specs.declared.chain.Terminal.TheVariants as terminals
 use Rattle.def_syntax.specs.declared.chain.Partition.{Partition}
 use Rattle.def_syntax.specs.declared.chain.Chain.{Chain}
 use Rattle.def_layout.specs.declared.chains.ElementLayout.{ElementLayout}
 use Rattle.def_layout.specs.declared.chains.TerminalLayout.{TerminalLayout}
+use Rattle.def_layout.specs.declared.chains.TerminalLayout.TheVariants as written
 use Rattle.def_layout.specs.declared.chains.PartitionLayout.{PartitionLayout}
 use Rattle.def_layout.specs.declared.chains.ChainLayout.{ChainLayout}
 use Rattle.def_layout.specs.Words.{is_whole, HasWords}
@@ -32,9 +35,10 @@ is_name w = is_whole w && is_in (But marks) w
 abbrev pub names_element : ElementLayout → Bool
 names_element e = is_name e.name && (is_name e.input && is_name e.output)
 
--- so are those of a beginning or an end
+-- so are those of a start or a stop, of which PIN is no component
 abbrev pub names_terminal : TerminalLayout → Bool
-names_terminal t = is_name t.component && is_name t.pin
+names_terminal (written.AtPin pin) = is_name pin
+names_terminal (written.AtCell component pin) = (is_name component && not (bytes_eq component (codes "PIN"))) && is_name pin
 
 -- so is that of a partition
 abbrev pub names_partition : Option PartitionLayout → Bool
@@ -68,9 +72,10 @@ abbrev pub partition_of : Option PartitionLayout → Option Partition
 partition_of None = None
 partition_of (Some p) = Some (record { name = p.name; max_bits = max_bits_of p.max_bits })
 
--- what a beginning or an end is read as
+-- what a start or a stop is read as
 abbrev pub terminal_of : TerminalLayout → Terminal
-terminal_of t = record { component = t.component; pin = Some t.pin }
+terminal_of (written.AtPin pin) = terminals.AtPin pin
+terminal_of (written.AtCell component pin) = terminals.AtCell component (Some pin)
 
 -- the floating list, if there is one
 abbrev pub floating_of : List ElementLayout → List ElementList

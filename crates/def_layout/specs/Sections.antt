@@ -5,6 +5,7 @@ use Rattle.std.proofs.Math.ListN.{replicate}
 use Rattle.def_layout.specs.Words.{joined}
 use Rattle.def_layout.specs.declared.chains.ElementLayout.{ElementLayout}
 use Rattle.def_layout.specs.declared.chains.TerminalLayout.{TerminalLayout}
+use Rattle.def_layout.specs.declared.chains.TerminalLayout.TheVariants as terminals
 use Rattle.def_layout.specs.declared.chains.PartitionLayout.{PartitionLayout}
 use Rattle.def_layout.specs.declared.chains.ChainLayout.{ChainLayout}
 
@@ -44,9 +45,14 @@ abbrev pub partition_lines : Option PartitionLayout → List Line
 partition_lines None = []
 partition_lines (Some p) = record { indent = 2; words = codes "+" ∷ codes "PARTITION" ∷ p.name ∷ max_bits_words p.max_bits } ∷ []
 
--- + START component pin    + STOP component pin
+-- PIN pin    component pin
+abbrev pub terminal_words : TerminalLayout → List (List ℕ)
+terminal_words (terminals.AtPin pin) = codes "PIN" ∷ pin ∷ []
+terminal_words (terminals.AtCell component pin) = component ∷ pin ∷ []
+
+-- + START ..    + STOP ..
 abbrev pub terminal_line : List ℕ → TerminalLayout → Line
-terminal_line word t = record { indent = 2; words = codes "+" ∷ word ∷ t.component ∷ t.pin ∷ [] }
+terminal_line word t = record { indent = 2; words = codes "+" ∷ word ∷ terminal_words t }
 
 -- the lines of a chain
 unfoldable pub chain_lines : ChainLayout → List Line

@@ -11,11 +11,14 @@ pub struct ElementLayout<'a> {
     pub bits: u32,
 }
 
-/// Where a chain begins or ends: a component and its pin, or the word `PIN` and a design pin.
+/// Where a chain starts or stops: at a design pin, or at a component and its pin.
 #[derive(Drop)]
-pub struct TerminalLayout<'a> {
-    pub component: TokenText<'a>,
-    pub pin: TokenText<'a>,
+pub enum TerminalLayout<'a> {
+    AtPin(TokenText<'a>),
+    AtCell {
+        component: TokenText<'a>,
+        pin: TokenText<'a>,
+    },
 }
 
 /// The partition of a chain, with its number where `MAXBITS` is written.

@@ -120,8 +120,16 @@ fn push_terminal(
 {
     out.extend_from_slice(b"\n  +")?;
     push_word(out, word)?;
-    push_word(out, terminal.component.text())?;
-    push_word(out, terminal.pin.text())?;
+    match terminal {
+        TerminalLayout::AtPin(pin) => {
+            push_word(out, b"PIN")?;
+            push_word(out, pin.text())?;
+        }
+        TerminalLayout::AtCell { component, pin } => {
+            push_word(out, component.text())?;
+            push_word(out, pin.text())?;
+        }
+    }
     Ok(())
 }
 

@@ -28,6 +28,7 @@ use Rattle.def_syntax.specs.declared.chain.Chain.{Chain as ChainText}
 use Rattle.def_syntax.specs.declared.chain.CommonPins.{CommonPins}
 use Rattle.def_syntax.specs.declared.chain.Partition.{Partition}
 use Rattle.def_syntax.specs.declared.chain.Terminal.{Terminal}
+use Rattle.def_syntax.specs.declared.chain.Terminal.TheVariants as terminals
 use Rattle.def_reader.specs.declared.design.Component.{Component}
 use Rattle.def_reader.specs.declared.design.DesignPin.{DesignPin}
 use Rattle.def_reader.specs.declared.design.NetPin.{NetPin}
@@ -151,20 +152,11 @@ abbrev pub list_of : Cells → List Component → Option CommonPins → ListText
 list_of cells components common (list_texts.Floating es) = lists.Floating (map (element_of cells components common) es)
 list_of cells components common (list_texts.Ordered es) = lists.Ordered (map (element_of cells components common) es)
 
--- a chain's end at a cell, with a pin or without
-abbrev pub end_at : Side → Cells → List Component → Option CommonPins → List ℕ → Option (List ℕ) → EndText
-end_at side cells components common component pin =
-    ends.Cell (plain_name component) (pin_or side (scan_paths cells components (plain_name component)) (common_of side common) pin)
-
--- a chain's end: `PIN` is a design pin
-abbrev pub end_by : Side → Cells → List Component → Option CommonPins → List ℕ → Option (List ℕ) → EndText
-end_by side cells components common component None = end_at side cells components common component None
-end_by side cells components common component (Some pin) =
-    if bytes_eq component (codes "PIN") then ends.Port (plain_name pin) else end_at side cells components common component (Some pin)
-
--- a chain's end, by its words
+-- a chain's end: at a design pin, or at a cell, with a pin or without
 abbrev pub end_of : Side → Cells → List Component → Option CommonPins → Terminal → EndText
-end_of side cells components common t = end_by side cells components common t.component t.pin
+end_of side cells components common (terminals.AtPin pin) = ends.Port (plain_name pin)
+end_of side cells components common (terminals.AtCell component pin) =
+    ends.Cell (plain_name component) (pin_or side (scan_paths cells components (plain_name component)) (common_of side common) pin)
 
 -- what MAXBITS says
 abbrev pub max_bits_in : Option Partition → Option (List ℕ)

@@ -4,7 +4,7 @@ ghost use Rattle.std.specs.List.{list_any};
 ghost use Rattle.std.specs.Str.{bytes_eq};
 ghost use Rattle.base_types.specs.Names.{plain_name};
 ghost use Rattle.def_reader.specs.Numbers.{bits_of};
-ghost use Rattle.def_reader.specs.Designs.{has_input, has_output, has_pin, common_of, common_pin, pin_or, element_of, list_of, end_at, end_of, max_bits_in, chain_of};
+ghost use Rattle.def_reader.specs.Designs.{has_input, has_output, has_pin, common_of, common_pin, pin_or, element_of, list_of, end_of, max_bits_in, chain_of};
 
 use crate::cells::Cells;
 use crate::design::{Element, ElementList, EndText, ScanChainText};
@@ -180,22 +180,6 @@ fn lists_of(
     Ok(lists)
 }
 
-/// The end of a chain at a cell.
-fn end_at(
-    alloc: Global,
-    side: Side,
-    cells: &Cells<'_>,
-    common: &Option<CommonPins<'_>>,
-    terminal: &Terminal<'_>,
-) -> Result<EndText, NoMemory>
-    ensures value { IfOk result (λ e. e ≡ end_at side cells.now.0 cells.now.1 common.now terminal.now.component terminal.now.pin) }
-{
-    let component = plain(alloc, terminal.component.text())?;
-    let paths = cells.scan_paths(component.bytes());
-    let pin = pin_or(alloc, side, paths, common, &terminal.pin)?;
-    Ok(EndText::Cell { component, pin })
-}
-
 /// The end of a chain: START, which is left by an out pin, or STOP, which is entered by an in pin.
 fn end_of(
     alloc: Global,
@@ -206,11 +190,14 @@ fn end_of(
 ) -> Result<EndText, NoMemory>
     ensures value { IfOk result (λ e. e ≡ end_of side cells.now.0 cells.now.1 common.now terminal.now) }
 {
-    match &terminal.pin {
-        Some(pin) if terminal.component.text() == b"PIN".as_slice() => {
-            Ok(EndText::Port(plain(alloc, pin.text())?))
+    match terminal {
+        Terminal::AtPin(pin) => Ok(EndText::Port(plain(alloc, pin.text())?)),
+        Terminal::AtCell { component, pin } => {
+            let component = plain(alloc, component.text())?;
+            let paths = cells.scan_paths(component.bytes());
+            let pin = pin_or(alloc, side, paths, common, pin)?;
+            Ok(EndText::Cell { component, pin })
         }
-        _ => end_at(alloc, side, cells, common, terminal),
     }
 }
 

@@ -11,6 +11,7 @@ use Rattle.def_syntax.specs.Placements.{orient_of, turned, placement}
 use Rattle.def_syntax.specs.OptionForms.{component_form, component_option, design_pin_form, pin_option}
 use Rattle.def_tokens.specs.declared.orient.Orient.TheVariants as orient
 use Rattle.def_syntax.specs.declared.net.NetStatement.TheVariants as net_statements
+use Rattle.def_syntax.specs.declared.chain.Terminal.TheVariants as terminals
 use Rattle.def_syntax.specs.declared.element.ElementList.TheVariants as lists
 
 -- a token of ten bytes at ten times its number
@@ -107,8 +108,8 @@ one_chain : chain.reads (tokens 0 chain_texts) ≡ Some (
     name = codes "c";
     partition = Some (record { name = codes "g"; max_bits = Some (codes "0") });
     common_pins = None;
-    start = record { component = codes "PIN"; pin = Some (codes "si") };
-    stop = record { component = codes "z"; pin = None };
+    start = terminals.AtPin (codes "si");
+    stop = terminals.AtCell (codes "z") None;
     lists = lists.Ordered (record { name = codes "p"; input = None; output = None; bits = Some (codes "2") } ∷ [])
         ∷ lists.Floating (record { name = codes "a"; input = Some (codes "SI"); output = Some (codes "Q"); bits = None } ∷ record { name = codes "b"; input = None; output = None; bits = None } ∷ []) ∷ [];
   },
@@ -120,3 +121,7 @@ one_chain = refl
 no_stop : chain.reads (tokens 0 ("-" ∷ "c" ∷ "+" ∷ "START" ∷ "PIN" ∷ "si" ∷ "+" ∷ "FLOATING" ∷ "a" ∷ ";" ∷ [])) ≡ None
 unfolding tokens chain clause element_list partition common_pins terminal elements element bracket word_at text_at many_within many_at put_all gathered_at
 no_stop = refl
+
+no_pin_behind : chain.reads (tokens 0 ("-" ∷ "c" ∷ "+" ∷ "START" ∷ "PIN" ∷ "+" ∷ "FLOATING" ∷ "a" ∷ "+" ∷ "STOP" ∷ "z" ∷ ";" ∷ [])) ≡ None
+unfolding tokens chain clause element_list partition common_pins terminal elements element bracket word_at text_at many_within many_at put_all gathered_at
+no_pin_behind = refl

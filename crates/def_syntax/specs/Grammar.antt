@@ -1,11 +1,11 @@
 -- How the statements of DEF are spelled in tokens (LEF/DEF 5.8, in this profile).
 use Rattle.std.specs.Prelude.{Bool, true, false, List, is_some}
-use Rattle.token_forms.specs.Forms.{Form, key, ◌&◌, made, made_if, ◌▸◌, ◌◂◌, ◌only_if◌, ◌or◌, maybe, many, some, passed, at, gathered}
-use Rattle.def_syntax.specs.Words.{in_nets, name, name_place, integer, number, net_name, in_statement}
+use Rattle.token_forms.specs.Forms.{Form, key, ◌&◌, made, made_if, ◌▸◌, ◌◂◌, ◌or◌, maybe, many, some, passed, at, gathered}
+use Rattle.def_syntax.specs.Words.{in_nets, name, name_place, integer, number, net_name, cell_name, in_statement}
 use Rattle.def_syntax.specs.Options.{unread, options}
 use Rattle.def_syntax.specs.OptionForms.{said, component_form, design_pin_form}
 use Rattle.def_syntax.specs.Statements.{IsComponentText, IsPinText}
-use Rattle.def_syntax.specs.Pieces.{fresh_element, put_bracket, no_pins, put_common, is_terminal, fresh_chain, put_clause, chain_of}
+use Rattle.def_syntax.specs.Pieces.{fresh_element, put_bracket, no_pins, put_common, fresh_chain, put_clause, chain_of}
 use Rattle.def_syntax.specs.declared.component.Component.{Component}
 use Rattle.def_syntax.specs.declared.pin.DesignPin.{DesignPin}
 use Rattle.def_syntax.specs.declared.units.Units.{Units}
@@ -21,6 +21,7 @@ use Rattle.def_syntax.specs.declared.element.Element.{Element}
 use Rattle.def_syntax.specs.declared.element.ElementList.{ElementList}
 use Rattle.def_syntax.specs.declared.element.ElementList.TheVariants as lists
 use Rattle.def_syntax.specs.declared.chain.Terminal.{Terminal}
+use Rattle.def_syntax.specs.declared.chain.Terminal.TheVariants as terminals
 use Rattle.def_syntax.specs.declared.chain.Partition.{Partition}
 use Rattle.def_syntax.specs.declared.chain.CommonPins.{CommonPins}
 use Rattle.def_syntax.specs.declared.chain.Clause.{Clause}
@@ -79,9 +80,9 @@ element = gathered (made fresh_element name) put_bracket bracket
 unfoldable pub elements : Form (List Element)
 elements = some element
 
--- component [pin]    PIN pin
+-- PIN pin    component [pin]
 unfoldable pub terminal : Form Terminal
-terminal = made (λ p. record { component = p.0; pin = p.1 }) (name & maybe name) only_if is_terminal
+terminal = made terminals.AtPin ("PIN" ▸ name) or made (λ p. terminals.AtCell p.0 p.1) (cell_name & maybe name)
 
 -- PARTITION p [MAXBITS n]
 unfoldable pub partition : Form Partition

@@ -1,7 +1,6 @@
 -- What the pieces of a value make of it, one after the other.
-use Rattle.std.specs.Prelude.{ℕ, Bool, true, false, ◌&&◌, ◌||◌, not, if◌then◌else◌, List, [], ◌∷◌, ◌++◌, codes, Option, Some, None, is_some}
+use Rattle.std.specs.Prelude.{ℕ, Bool, true, false, ◌&&◌, if◌then◌else◌, List, [], ◌∷◌, ◌++◌, Option, Some, None, is_some}
 use Rattle.std.specs.List.{list_any}
-use Rattle.std.specs.Str.{bytes_eq}
 use Rattle.token_forms.specs.Parsing.{◌>>=◌}
 use Rattle.def_syntax.specs.declared.component.ComponentOption.{ComponentOption}
 use Rattle.def_syntax.specs.declared.component.ComponentOption.TheVariants as component_options
@@ -16,7 +15,6 @@ use Rattle.def_syntax.specs.declared.element.Bracket.TheVariants as brackets
 use Rattle.def_syntax.specs.declared.element.Element.{Element}
 use Rattle.def_syntax.specs.declared.element.ElementList.{ElementList}
 use Rattle.def_syntax.specs.declared.element.ElementList.TheVariants as lists
-use Rattle.def_syntax.specs.declared.chain.Terminal.{Terminal}
 use Rattle.def_syntax.specs.declared.chain.CommonPins.{CommonPins}
 use Rattle.def_syntax.specs.declared.chain.Clause.{Clause}
 use Rattle.def_syntax.specs.declared.chain.Clause.TheVariants as clauses
@@ -80,10 +78,6 @@ abbrev pub put_common : CommonPins → Bracket → Option CommonPins
 put_common c (brackets.In pin) = if is_some c.output then None else once c.input (record c { input = Some pin })
 put_common c (brackets.Out pin) = once c.output (record c { output = Some pin })
 put_common c (brackets.Bits count) = None
-
--- PIN isn't the name of a component: a pin stands behind it
-abbrev pub is_terminal : Terminal → Bool
-is_terminal t = not (bytes_eq t.component (codes "PIN")) || is_some t.pin
 
 -- the list is FLOATING
 abbrev pub is_floating : ElementList → Bool

@@ -62,6 +62,10 @@ placing = text (Only placings) any
 abbrev pub net_name : Form (List ℕ)
 net_name = text (But (codes "MUSTJOIN" ∷ marks)) any
 
+-- a component's name, where PIN is none
+abbrev pub cell_name : Form (List ℕ)
+cell_name = text (But (codes "PIN" ∷ marks)) any
+
 -- anything but a semicolon
 abbrev pub in_statement : Passing
 in_statement = record { outside = But (codes ";" ∷ []); opens = []; closes = []; inside = Only [] }

@@ -6,18 +6,21 @@ ghost use Rattle.token_forms.specs.Forms.{maybe, ◌▸◌};
 ghost use Rattle.token_forms.specs.Laws.{IsStatement};
 ghost use Rattle.def_syntax.specs.Words.{name, number};
 ghost use Rattle.def_syntax.specs.Grammar.{terminal, partition, common_pins, clause, chain};
-ghost use Rattle.def_syntax.specs.Pieces.{put_common, put_clause, is_terminal, is_floating, some_list, chain_of};
+ghost use Rattle.def_syntax.specs.Pieces.{put_common, put_clause, is_floating, some_list, chain_of};
 
 use crate::element::{Bracket, ElementList, element_list};
-use crate::kinds::{Name, Number};
+use crate::kinds::{CellName, Name, Number};
 use base_types::{Rows, Stop};
 use token_forms::{Gather, Parser, Read, Statement, TokenText};
 
-/// `component pin`, where the pin may be left out, or `PIN pin` for a design pin.
+/// Where a chain starts or stops: `PIN pin` for a design pin, or `component pin`, where the pin may be left out.
 #[derive(Drop)]
-pub struct Terminal<'a> {
-    pub component: TokenText<'a>,
-    pub pin: Option<TokenText<'a>>,
+pub enum Terminal<'a> {
+    AtPin(TokenText<'a>),
+    AtCell {
+        component: TokenText<'a>,
+        pin: Option<TokenText<'a>>,
+    },
 }
 
 /// `PARTITION name MAXBITS n`, where `MAXBITS` may be left out. The number is digits of any value, as it is written.
@@ -78,30 +81,23 @@ fn any_name<'a>(parser: &mut Parser<'a, '_>) -> Result<Option<TokenText<'a>>, St
     }
 }
 
-fn is_terminal(terminal: &Terminal<'_>) -> bool
-    ensures value { result ≡ is_terminal terminal.now }
-{
-    terminal.component.text() != b"PIN".as_slice() || terminal.pin.is_some()
-}
-
 impl<'a> Read<'a> for Terminal<'a> {
     ghost form = { terminal };
 
     #[tactic(auto, unfolding(crate::specs::Grammar::terminal))]
     fn begins(parser: &Parser<'a, '_>) -> bool {
-        parser.begins_text::<Name>()
+        parser.begins_word(b"PIN") || parser.begins_text::<CellName>()
     }
 
     #[tactic(auto, unfolding(crate::specs::Grammar::terminal))]
     fn read(parser: &mut Parser<'a, '_>) -> Result<Terminal<'a>, Stop> {
-        let component = parser.text::<Name>()?;
-        let pin = any_name(parser)?;
-        let terminal = Terminal { component, pin };
-        if is_terminal(&terminal) {
-            Ok(terminal)
-        } else {
-            Err(Stop::NoForm)
+        if parser.begins_word(b"PIN") {
+            parser.word(b"PIN")?;
+            return Ok(Terminal::AtPin(parser.text::<Name>()?));
         }
+        let component = parser.text::<CellName>()?;
+        let pin = any_name(parser)?;
+        Ok(Terminal::AtCell { component, pin })
     }
 }
 

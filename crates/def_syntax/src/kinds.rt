@@ -150,6 +150,25 @@ impl Word for NetName {
     }
 }
 
+/// The name of a component, where `PIN` is none.
+pub(crate) struct CellName {}
+
+impl Word for CellName {
+    ghost kind = { But (codes "PIN" ∷ marks) };
+
+    ghost test = { any };
+
+    #[inline(always)]
+    fn is_in(text: &[u8]) -> bool {
+        !(text == b"PIN".as_slice() || is_mark(text))
+    }
+
+    #[inline(always)]
+    fn passes(_text: &[u8]) -> bool {
+        true
+    }
+}
+
 /// Anything but a semicolon.
 pub(crate) struct InStatement {}
 

@@ -9,20 +9,21 @@ use Rattle.token_forms.specs.Tokens.{Token, place_of}
 use Rattle.token_forms.specs.Parts.{token_texts}
 use Rattle.token_forms.specs.Classes.{But, is_in}
 use Rattle.token_forms.specs.Forms.{Form, made, many, maybe, ◌&◌, ◌▸◌, ◌◂◌, ◌or◌, gathered, put_all}
-use Rattle.def_syntax.specs.Words.{marks, any, name, number, is_number}
+use Rattle.def_syntax.specs.Words.{marks, any, name, cell_name, number, is_number}
 use Rattle.def_syntax.specs.Frames.{start_of}
 use Rattle.def_syntax.specs.Grammar.{bracket, element, elements, element_list, terminal, partition, common_pins, clause, chain}
-use Rattle.def_syntax.specs.Pieces.{once, some_list, fresh_element, put_bracket, is_terminal, is_floating, fresh_chain, put_clause, chain_of}
+use Rattle.def_syntax.specs.Pieces.{once, some_list, fresh_element, put_bracket, is_floating, fresh_chain, put_clause, chain_of}
 use Rattle.def_syntax.specs.declared.element.Element.{Element}
 use Rattle.def_syntax.specs.declared.element.ElementList.{ElementList}
 use Rattle.def_syntax.specs.declared.element.ElementList.TheVariants as lists
 use Rattle.def_syntax.specs.declared.chain.Terminal.{Terminal}
+use Rattle.def_syntax.specs.declared.chain.Terminal.TheVariants as terminals
 use Rattle.def_syntax.specs.declared.chain.Partition.{Partition}
 use Rattle.def_syntax.specs.declared.chain.CommonPins.{CommonPins}
 use Rattle.def_syntax.specs.declared.chain.Chain.{Chain}
 use Rattle.def_layout.specs.NetForms.{AreIn}
 use Rattle.def_layout.proofs.NumberWords.{number_number}
-use Rattle.def_layout.proofs.Spellings.{Spells, text_spells, only_spells, left_spells, right_spells, maybe_spells, many_nil, many_cons, some_spells, before_spells, behind_spells, seq_spells, made_spells, made_if_spells, gathered_spells}
+use Rattle.def_layout.proofs.Spellings.{Spells, text_spells, left_spells, right_spells, maybe_spells, many_nil, many_cons, some_spells, before_spells, behind_spells, seq_spells, made_spells, made_if_spells, gathered_spells}
 use Rattle.def_reader.specs.Designs as denoted
 use Rattle.def_reader.specs.Faults.{have_many, has_many_bits}
 use Rattle.def_reader.specs.declared.design.Component.{Component}
@@ -105,14 +106,13 @@ floating_spells k ts h =
 
 -- a design pin
 abbrev port_text : List ℕ → Terminal
-port_text port = record { component = codes "PIN"; pin = Some port }
+port_text port = terminals.AtPin port
 
 port_spells : (port : List ℕ) → is_in (But marks) port ≡ true → Spells terminal (port_text port) (codes "PIN" ∷ port ∷ [])
 unfolding terminal
 port_spells port e =
-    only_spells (made (λ p. record { component = p.0; pin = p.1 }) (name & maybe name)) is_terminal (port_text port) (codes "PIN" ∷ port ∷ []) refl
-    (made_spells (name & maybe name) (λ p. record { component = p.0; pin = p.1 }) (codes "PIN", Some port) (codes "PIN" ∷ port ∷ [])
-    (seq_spells name (maybe name) (codes "PIN") (Some port) (codes "PIN" ∷ []) (port ∷ []) (name_spells (codes "PIN") refl) (maybe_spells name port (port ∷ []) (name_spells port e))))
+    left_spells (made terminals.AtPin ("PIN" ▸ name)) (made (λ p. terminals.AtCell p.0 p.1) (cell_name & maybe name)) (port_text port) (codes "PIN" ∷ port ∷ [])
+    (made_spells ("PIN" ▸ name) terminals.AtPin port (codes "PIN" ∷ port ∷ []) (before_spells name "PIN" port (port ∷ []) (name_spells port e)))
 
 abbrev partition_text : ℕ → ℕ → Partition
 partition_text n k = record { name = partition_name (k / 4); max_bits = Some (decimal (max_bits n)) }
