@@ -41,20 +41,19 @@ chain_names : (cells : Cells) (components : List Component) (cs : List (Located 
 chain_names cells components [] = refl
 chain_names cells components (c ∷ cs) = ap (λ (l : List (List ℕ × ℕ)). (plain_name c.statement.name, c.line) ∷ l) (chain_names cells components cs)
 
-pub twice_least : (text : List ℕ) (cells : Cells) (t : DesignText) (d : Design) (sections : List Section) → d ≡ design_of text cells t → sections ≡ t.sections → (a b c e f g : Option ℕ)
-    → IsLeast (StandsAgain (component_rows d.components)) a → IsLeast (StandsAgain (pin_rows d.pins)) b → IsLeast (StandsAgain (net_rows d.nets)) c
+pub twice_least : (text : List ℕ) (cells : Cells) (t : DesignText) (d : Design) (sections : List Section) → d ≡ design_of text cells t → sections ≡ t.sections → (a c e f g : Option ℕ)
+    → IsLeast (λ line. StandsAgain (component_rows d.components) line ⊎ StandsAgain (pin_rows d.pins) line) a → IsLeast (StandsAgain (net_rows d.nets)) c
     → IsLeast (StandsAgain (map (λ c. (c.name, c.line)) d.chains)) e → IsLeast (StandsAgain (section_rows sections)) f → IsLeast (StandsAgain (connection_rows d.nets)) g
-    → IsLeast (TwiceAt text t) (lesser (lesser (lesser a b) (lesser c e)) (lesser f g))
+    → IsLeast (TwiceAt text t) (lesser (lesser a (lesser c e)) (lesser f g))
 unfolding design_of
-twice_least text cells t d sections is here a b c e f g components pins nets chains again connections =
+twice_least text cells t d sections is here a c e f g named nets chains again connections =
     let C = StandsAgain (component_rows (map component_of t.components)) in
     let P = StandsAgain (pin_rows (map pin_of t.pins)) in
     let N = StandsAgain (net_rows (filter_map (net_of text) t.nets)) in
     let H = StandsAgain (chain_rows t.chains) in
     let S = StandsAgain (section_rows t.sections) in
     let K = StandsAgain (connection_rows (filter_map (net_of text) t.nets)) in
-    let cs : IsLeast C a = subst (λ (x : Design). IsLeast (StandsAgain (component_rows x.components)) a) is components in
-    let ps : IsLeast P b = subst (λ (x : Design). IsLeast (StandsAgain (pin_rows x.pins)) b) is pins in
+    let cs : IsLeast (λ n. C n ⊎ P n) a = subst (λ (x : Design). IsLeast (λ line. StandsAgain (component_rows x.components) line ⊎ StandsAgain (pin_rows x.pins) line) a) is named in
     let ns : IsLeast N c = subst (λ (x : Design). IsLeast (StandsAgain (net_rows x.nets)) c) is nets in
     let hs : IsLeast H e =
     subst (λ (l : List (List ℕ × ℕ)). IsLeast (StandsAgain l) e) (chain_names cells (map component_of t.components) t.chains)
@@ -63,5 +62,5 @@ twice_least text cells t d sections is here a b c e f g components pins nets cha
     let ks : IsLeast K g = subst (λ (x : Design). IsLeast (StandsAgain (connection_rows x.nets)) g) is connections in
     same_least (Twice text t) (TwiceAt text t) _ (there text t) (back text t)
     (either (λ n. (C n ⊎ P n) ⊎ (N n ⊎ H n)) (λ n. S n ⊎ K n) _ _
-    (either (λ n. C n ⊎ P n) (λ n. N n ⊎ H n) _ _ (either C P a b cs ps) (either N H c e ns hs))
+    (either (λ n. C n ⊎ P n) (λ n. N n ⊎ H n) _ _ cs (either N H c e ns hs))
     (either S K f g ss ks))

@@ -2,6 +2,7 @@ pub mod Again
 pub mod Agreeing
 pub mod AgreementFaults
 pub mod AllTwice
+pub mod Chained
 pub mod DesignFaults
 pub mod Finding
 pub mod LeastLines
@@ -9,6 +10,7 @@ pub mod Members
 pub mod NetClasses
 pub mod Noted
 pub mod PinKeys
+pub mod Places
 pub mod PlainNames
 pub mod RowsMore
 pub mod SoundDesigns

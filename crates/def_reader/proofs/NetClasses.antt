@@ -1,5 +1,6 @@
 -- Nets of a design and the classes of their pins, as one net more is looked at.
-use Rattle.std.proofs.Common.{◌≡◌, ℕ, zero, suc, ◌+◌, ◌<◌, ◌≤◌, ◌⊎◌, inl, inr, Bool, true, ◌||◌, List, [], ◌∷◌, ◌++◌, length, get_or, take, Option, None, Contains, refl, sym, ap, ◌∙◌, subst, append_assoc, arith}
+use Rattle.std.proofs.Common.{◌≡◌, ℕ, zero, suc, ◌+◌, ◌<◌, ◌≤◌, ◌⊎◌, inl, inr, Bool, true, ◌||◌, List, [], ◌∷◌, ◌++◌, length, get_or, take, Bor, Option, Some, None, Contains, refl, sym, ap, ◌∙◌, subst, append_assoc, arith}
+use Rattle.std.specs.Prelude.{is_none, option_map}
 use Rattle.std.specs.List.{list_any, flat_map}
 use Rattle.std.proofs.lemmas.List.{take_all}
 use Rattle.std.proofs.lemmas.List.Elements.{Contains-append_left, Contains-append_right, Contains-append_cases}
@@ -93,3 +94,13 @@ fails_empty bad = λ n h. absurd (omega (arith, h.there.1))
 
 pub fails_whole : (bad : Instance → Bool) (rows : List Instance) (i : ℕ) (r : Option ℕ) → length rows ≤ i → IsLeast (FailsOn bad (take i rows)) r → IsLeast (FailsOn bad rows) r
 fails_whole bad rows i r le least = subst (λ (l : List Instance). IsLeast (FailsOn bad l) r) (take_all i rows le) least
+
+-- by the answer of a test
+pub fails_by : (bad : Instance → Bool) (rows : List Instance) (i : ℕ) (row : Instance) (r : Option ℕ) (now : Bool) → i < length rows → row ≡ get_or rows i row → now ≡ bad row → IsLeast (FailsOn bad (take i rows)) r
+    → IsLeast (FailsOn bad (take (i + 1) rows)) (lesser r (line_if now row.line))
+fails_by bad rows i row r now lt is same least =
+    subst (λ (b : Bool). IsLeast (FailsOn bad (take (i + 1) rows)) (lesser r (line_if b row.line))) (sym same) (fails_next bad rows i row r lt is least)
+
+pub none_mapped : (o : Option (Bor (List ℕ))) → is_none o ≡ is_none (option_map (λ x. x.now) o)
+none_mapped None = refl
+none_mapped (Some x) = refl

@@ -1,6 +1,6 @@
 -- Places by name, as one more is looked at.
 use Rattle.std.proofs.Common.{◌≡◌, ℕ, ◌+◌, ◌<◌, Bool, true, false, cond, List, [], ◌∷◌, length, get_or, take, Bor, Option, Some, None, refl, sym, ap, ◌∙◌, arith}
-use Rattle.std.specs.Prelude.{option_and_then, slice_get, is_some}
+use Rattle.std.specs.Prelude.{option_and_then, slice_get}
 use Rattle.std.specs.HashMap.{HashMap, get}
 use Rattle.std.specs.List.{find}
 use Rattle.std.specs.Option.{option_or}
@@ -66,16 +66,6 @@ module _ {X S : Type 0} (key : X → List ℕ) (places : HashMap (Bor (List ℕ)
 
   pub found_nowhere : get (λ x y. bytes_eq x.now y.now) places q ≡ None → None ≡ find (λ x. bytes_eq (key x) q.now) xs
   found_nowhere there = sym (ap (option_and_then (λ place. slice_get xs place)) there) ∙ in_all
-
--- whether a name has a place
-abbrev pub has_place : {S : Type 0} → HashMap (Bor (List ℕ)) ℕ S → Bor (List ℕ) → Bool
-has_place places q = is_some (get (λ x y. bytes_eq x.now y.now) places q)
-
-pub place_added : (old : Option ℕ) (t : Bool) (n : ℕ) → is_some (option_or old (cond t (Some n) None)) ≡ cond t true (is_some old)
-place_added None true n = refl
-place_added None false n = refl
-place_added (Some p) true n = refl
-place_added (Some p) false n = refl
 
 -- a port by its plain name
 pub port_more : {S : Type 0} (nets : List NetName) (old new : HashMap (Bor (List ℕ)) ℕ S) (ports : List Port) (n : ℕ) (d : Port) (name : List ℕ) → n < length ports → name ≡ plain_of nets (get_or ports n d).net

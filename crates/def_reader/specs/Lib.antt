@@ -3,9 +3,9 @@ pub mod Classes
 pub mod Denoted
 pub mod Designs
 pub mod Faults
+pub mod NamedRows
 pub mod Numbers
 pub mod Places
-pub mod Seen
 pub mod SeenConnections
 pub mod Sound
 pub mod Steps

@@ -29,14 +29,6 @@ pub record IsSeen {Q K : Type 0} (name : Q → K) (has : Q → Bool) (found : Op
   pub kept : (q : Q) → Contains (names_in rows) (name q) → has q ≡ true
   pub least : IsLeast (StandsAgain rows) found
 
--- whether a set of names has one
-abbrev pub has_name : {S : Type 0} → HashSet (Bor (List ℕ)) S → Bor (List ℕ) → Bool
-has_name set q = contains (λ x y. bytes_eq x.now y.now) set q
-
--- the bytes of a lent name
-abbrev pub text_of : Bor (List ℕ) → List ℕ
-text_of q = q.now
-
 -- a connection by its component, or none at a design pin, and its pin
 abbrev pub PinKey : Type 0
 PinKey = Option (Bor (List ℕ)) × Bor (List ℕ)

@@ -1,81 +1,46 @@
 //! Whether a netlist and a placed design agree.
-ghost use Rattle.std.specs.Prelude.{◌≡◌, ◌++◌, [], ℕ, List, Some, None, length, option_map, option_and_then, slice_get, IfOk, OnOk};
+ghost use Rattle.std.specs.Prelude.{◌≡◌, ◌++◌, [], ℕ, List, option_map, option_and_then, IfOk, OnOk};
 ghost use Rattle.std.specs.List.{list_any, cons_option};
-ghost use Rattle.def_reader.specs.Places.{AreNoted};
 ghost use Rattle.base_types.specs.declared.fault.Fault.{Fault as ghost_fault};
 ghost use Rattle.base_types.specs.Faults.{at_line};
 ghost use Rattle.base_types.specs.declared.fault.FileKind.TheVariants.{Def as def_file, Verilog as verilog_file};
 ghost use Rattle.base_types.specs.declared.fault.ReadFault.TheVariants.{Fault as refused};
 ghost use Rattle.base_types.specs.FirstFault.{IfFault, IsFirstFault};
-ghost use Rattle.netlist_core.specs.Netlists.{plain_of, net_at, IsNetlist};
+ghost use Rattle.netlist_core.specs.Netlists.{net_at, IsNetlist};
 ghost use Rattle.netlist_core.specs.Joining.{AreClassesOf};
 ghost use Rattle.def_reader.specs.Agreement.{instance_named, port_named, net_of_pin, Agree, HoldsInAgreement};
-ghost use Rattle.def_reader.specs.Classes.{class_of, net_classes, is_split, has_in, HasClasses, is_missing, has_other_cell, FailsOn, IsBadNet};
+ghost use Rattle.def_reader.specs.Classes.{class_of, net_classes, is_split, has_in, HasClasses, is_missing, differs, has_other_cell, FailsOn, IsBadNet};
 ghost use Rattle.def_reader.specs.Steps.{IsLeast};
 
-use crate::by_name::{add_place, places_by_name};
-use crate::cells::Components;
-use crate::design::{Design, Net, NetPin};
+use crate::cells::cell_of;
+use crate::design::{Component, Design, Net, NetPin};
 use crate::least::{lesser, line_if};
+use crate::named_rows::{ByName, NamedRows};
+use crate::ports::Ports;
 use base_types::{Fault, FileKind, Kind, Name, NoMemory, ReadFault};
-use netlist_core::{Classes, Instance, NetId, NetName, Netlist, Port, net_of};
+use netlist_core::{Classes, Instance, NetId, Netlist, net_of};
 use std::alloc::Global;
-use std::collections::{HashMap, HashSet};
+use std::collections::HashSet;
 use std::marker::Model;
 
 /// The instances and ports of a netlist by name. Contracts see the netlist.
 #[derive(Drop)]
 struct Pins<'n> {
     netlist: &'n Netlist,
-    instances: HashMap<&'n [u8], usize>,
-    ports: HashMap<&'n [u8], usize>,
+    instances: ByName<'n, Instance>,
+    ports: Ports<'n>,
 }
 
 impl<'n> Model for Pins<'n> {
-    ghost use Rattle.std.specs.Prelude.{length};
+    ghost use Rattle.std.specs.Prelude.{◌≡◌};
     ghost use Rattle.netlist_core.specs.declared.netlist.Netlist.{Netlist};
-    ghost use Rattle.netlist_core.specs.Netlists.{plain_of, IsNetlist};
-    ghost use Rattle.def_reader.specs.Places.{AreNoted};
+    ghost use Rattle.netlist_core.specs.Netlists.{IsNetlist};
 
     ghost Value = { Netlist };
 
     ghost view = { λ p. p.netlist.now };
 
-    ghost invariant = { λ p. IsNetlist p.netlist.now × AreNoted (λ i. i.name) p.instances p.netlist.now.instances (length p.netlist.now.instances) × AreNoted (λ port. plain_of p.netlist.now.nets port.net) p.ports p.netlist.now.ports (length p.netlist.now.ports) };
-}
-
-/// The plain name of a net; empty where there is no such net.
-fn plain_of(nets: &[NetName], net: NetId) -> &[u8]
-    ensures value { result.now ≡ plain_of nets.now net }
-{
-    match nets.get(net.0 as usize) {
-        Some(name) => name.plain.bytes(),
-        None => &[],
-    }
-}
-
-/// The places of the port bits by their plain names.
-fn ports_by_name<'n>(
-    alloc: Global,
-    nets: &'n [NetName],
-    ports: &[Port],
-) -> Result<HashMap<&'n [u8], usize>, NoMemory>
-    ensures value { IfOk result (λ places. AreNoted (λ port. plain_of nets.now port.net) places ports.now (length ports.now)) }
-{
-    let mut places = HashMap::new(alloc);
-    for (place, port) in ports.iter().enumerate() {
-        add_place(&mut places, plain_of(nets, port.net), place)?;
-    }
-    Ok(places)
-}
-
-fn net_at(ports: &[Port], place: usize) -> Option<NetId>
-    ensures value { result ≡ option_map (λ p. p.net) (slice_get ports.now place) }
-{
-    match ports.get(place) {
-        Some(port) => Some(port.net),
-        None => None,
-    }
+    ghost invariant = { λ p. IsNetlist p.netlist.now × (p.instances ≡ p.netlist.now.instances) × (p.ports ≡ p.netlist.now) };
 }
 
 /// Puts a number behind the others, where there is one.
@@ -95,8 +60,8 @@ impl<'n> Pins<'n> {
     {
         Ok(Pins {
             netlist,
-            instances: places_by_name(alloc, netlist.instances.as_slice())?,
-            ports: ports_by_name(alloc, netlist.nets.as_slice(), netlist.ports.as_slice())?,
+            instances: ByName::of(alloc, netlist.instances.as_slice())?,
+            ports: Ports::of(alloc, netlist)?,
         })
     }
 
@@ -104,8 +69,8 @@ impl<'n> Pins<'n> {
     fn port(&self, name: &[u8]) -> Option<NetId>
         ensures value { result ≡ option_map (λ p. p.net) (port_named self.now name.now) }
     {
-        match self.ports.get(&name) {
-            Some(place) => net_at(self.netlist.ports.as_slice(), *place),
+        match self.ports.named(name) {
+            Some(port) => Some(port.net),
             None => None,
         }
     }
@@ -114,8 +79,8 @@ impl<'n> Pins<'n> {
     fn pin(&self, instance: &[u8], pin: &Name) -> Option<NetId>
         ensures value { result ≡ option_and_then (net_at pin.now) (instance_named self.now instance.now) }
     {
-        match self.instances.get(&instance) {
-            Some(place) => net_of(self.netlist, *place as u32, pin),
+        match self.instances.place(instance) {
+            Some(place) => net_of(self.netlist, place as u32, pin),
             None => None,
         }
     }
@@ -214,47 +179,35 @@ fn least_bad_net(
     Ok(least)
 }
 
-fn is_missing(components: &Components<'_>, instance: &Instance) -> bool
-    ensures value { result ≡ is_missing components.now instance.now }
+/// Whether the cell of a component is another one than that of the instance.
+fn has_other_cell(cell: Option<&Name>, instance: &Instance) -> bool
+    ensures value { result ≡ differs instance.now.cell (option_map (λ cell. cell.now) cell.entry) }
 {
-    components.cell_of(instance.name.bytes()).is_none()
-}
-
-fn has_other_cell(components: &Components<'_>, instance: &Instance) -> bool
-    ensures value { result ≡ has_other_cell components.now instance.now }
-{
-    match components.cell_of(instance.name.bytes()) {
+    match cell {
         Some(cell) => cell.bytes() != instance.cell.bytes(),
         None => false,
     }
 }
 
-/// The least line of an instance without a component.
-fn least_missing(components: &Components<'_>, instances: &[Instance]) -> Option<u64>
-    ensures value { IsLeast (FailsOn (is_missing components.now) instances.now) result }
+/// The least line of an instance without a component, and that of one whose component is of another cell.
+fn least_apart(
+    components: &NamedRows<Component>,
+    instances: &[Instance],
+) -> (Option<u64>, Option<u64>)
+    ensures missing { IsLeast (FailsOn (is_missing components.now) instances.now) result.0 }
+    ensures other { IsLeast (FailsOn (has_other_cell components.now) instances.now) result.1 }
 {
-    let mut least = None;
+    let mut missing = None;
+    let mut other = None;
     for instance in instances {
-        least = lesser(
-            least,
-            line_if(is_missing(components, instance), instance.line),
+        let cell = cell_of(components, instance.name.bytes());
+        missing = lesser(missing, line_if(cell.is_none(), instance.line));
+        other = lesser(
+            other,
+            line_if(has_other_cell(cell, instance), instance.line),
         );
     }
-    least
-}
-
-/// The least line of an instance whose component is of another cell.
-fn least_other_cell(components: &Components<'_>, instances: &[Instance]) -> Option<u64>
-    ensures value { IsLeast (FailsOn (has_other_cell components.now) instances.now) result }
-{
-    let mut least = None;
-    for instance in instances {
-        least = lesser(
-            least,
-            line_if(has_other_cell(components, instance), instance.line),
-        );
-    }
-    least
+    (missing, other)
 }
 
 fn in_verilog(kind: Kind, line: u64) -> ReadFault
@@ -286,12 +239,11 @@ pub fn agree(
     ensures fault { IfFault result (IsFirstFault (HoldsInAgreement netlist.now design.now)) }
     ensures differ { IfFault result (λ _. Agree netlist.now design.now → ⊥) }
 {
-    let components = Components::of(alloc, design.components.as_slice())?;
-    let instances = netlist.instances.as_slice();
-    if let Some(line) = least_missing(&components, instances) {
+    let (missing, other) = least_apart(&design.components, netlist.instances.as_slice());
+    if let Some(line) = missing {
         return Err(in_verilog(Kind::InstanceMissing, line));
     }
-    if let Some(line) = least_other_cell(&components, instances) {
+    if let Some(line) = other {
         return Err(in_verilog(Kind::CellDiffers, line));
     }
     let pins = Pins::of(alloc, netlist)?;

@@ -1,4 +1,5 @@
 //! A placed design.
+use crate::named_rows::NamedRows;
 use base_types::{Name, Point, Rows, Span};
 use def_tokens::Orient;
 
@@ -88,8 +89,8 @@ pub struct ScanChainText {
 pub struct Design {
     /// The database units of a micron, 1 to 100000.
     pub units: i64,
-    pub components: Rows<Component>,
-    pub pins: Rows<DesignPin>,
+    pub components: NamedRows<Component>,
+    pub pins: NamedRows<DesignPin>,
     pub nets: Rows<Net>,
     pub chains: Rows<ScanChainText>,
     /// From the first token of the SCANCHAINS section to the token behind its `END`.

@@ -3,7 +3,7 @@ ghost use Rattle.std.specs.Prelude.{◌≡◌};
 ghost use Rattle.def_reader.specs.Steps.{lesser, line_if};
 
 /// The lesser of two lines, as far as there are any.
-pub(crate) fn lesser(a: Option<u64>, b: Option<u64>) -> Option<u64>
+pub fn lesser(a: Option<u64>, b: Option<u64>) -> Option<u64>
     ensures value { result ≡ lesser a b }
 {
     match (a, b) {
@@ -14,7 +14,7 @@ pub(crate) fn lesser(a: Option<u64>, b: Option<u64>) -> Option<u64>
 }
 
 /// The line, where it counts.
-pub(crate) fn line_if(counts: bool, line: u64) -> Option<u64>
+pub fn line_if(counts: bool, line: u64) -> Option<u64>
     ensures value { result ≡ line_if counts line }
 {
     if counts { Some(line) } else { None }

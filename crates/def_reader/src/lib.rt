@@ -13,18 +13,25 @@ mod chains;
 mod connections;
 mod convert;
 mod design;
+mod index;
 mod judge;
 mod least;
+mod named;
+mod named_rows;
 mod names;
 mod numbers;
+mod ports;
 mod reading;
 mod side;
-mod twice;
 
 pub use agreement::agree;
-pub use by_name::{add_place, places_by_name};
+pub use by_name::add_place;
+pub use connections::count_connections;
 pub use design::{
     Component, Design, DesignPin, Element, ElementList, EndText, Net, NetPin, ScanChainText,
 };
+pub use least::{lesser, line_if};
+pub use named::Named;
+pub use named_rows::{ByName, NamedRows};
+pub use ports::Ports;
 pub use reading::read_design;
-pub use twice::Named;

@@ -1,5 +1,5 @@
 //! The design of a text.
-ghost use Rattle.std.specs.Prelude.{◌≡◌, ◌<◌, ◌^◌, map, length, ℕ, List, option_map, IfOk, OnOk};
+ghost use Rattle.std.specs.Prelude.{◌≡◌, ◌<◌, ◌^◌, ◌⊎◌, length, ℕ, List, option_map, IfOk, OnOk};
 ghost use Rattle.std.specs.List.{find};
 ghost use Rattle.base_types.specs.Faults.{at_line};
 ghost use Rattle.base_types.specs.declared.fault.Fault.{Fault as ghost_fault};
@@ -9,8 +9,8 @@ ghost use Rattle.base_types.specs.FirstFault.{IfFault, IsFirstFault};
 ghost use Rattle.cell_table.specs.Cells.{Cells as ghost_cells};
 ghost use Rattle.def_syntax.specs.declared.design.DesignText.{DesignText as ghost_text};
 ghost use Rattle.def_reader.specs.declared.design.Design.{Design as ghost_design};
-ghost use Rattle.def_reader.specs.Designs.{is_chains, chains_span, chain_of, design_of};
-ghost use Rattle.def_reader.specs.Faults.{StandsAgain, component_rows, TwiceAt, HoldsInDesign};
+ghost use Rattle.def_reader.specs.Designs.{is_chains, chains_span, design_of};
+ghost use Rattle.def_reader.specs.Faults.{StandsAgain, component_rows, pin_rows, TwiceAt, HoldsInDesign};
 ghost use Rattle.def_reader.specs.Denoted.{DenotesDesign};
 ghost use Rattle.def_reader.specs.Sound.{IsSound};
 ghost use Rattle.def_reader.specs.Steps.{IsLeast};
@@ -19,14 +19,15 @@ use crate::cells::Cells;
 use crate::chains::chains_of;
 use crate::connections::least_connection;
 use crate::convert::{components_of, nets_of, pins_of};
-use crate::design::{Component, Design, ScanChainText};
+use crate::design::Design;
+use crate::index::Index;
 use crate::judge::bad_number;
 use crate::least::lesser;
+use crate::named_rows::NamedRows;
 use crate::numbers::units;
-use crate::twice::least_again;
 use base_types::{Fault, FileKind, Kind, NoMemory, ReadFault, Rows, Span};
 use cell_table::CellTable;
-use def_syntax::{Chain, DesignText, Located, Section, SectionKind, read_design_text};
+use def_syntax::{DesignText, Section, SectionKind, read_design_text};
 use std::alloc::Global;
 
 fn is_chains(kind: SectionKind) -> bool
@@ -48,23 +49,8 @@ fn chains_span(sections: &[Section]) -> Option<Span>
     }
 }
 
-/// The chains of their statements, beside the components and the table; and the least line at which a component's name stands
-/// that stood before.
-fn chains_beside(
-    alloc: Global,
-    table: &CellTable,
-    components: &[Component],
-    statements: Rows<Located<Chain<'_>>>,
-) -> Result<(Rows<ScanChainText>, Option<u64>), NoMemory>
-    ensures value { IfOk result (λ r. r.0 ≡ map (chain_of table.now components.now) statements.entry) }
-    ensures least { IfOk result (λ r. IsLeast (StandsAgain (component_rows components.now)) r.1) }
-{
-    let (cells, least) = Cells::of(alloc, table, components)?;
-    Ok((chains_of(alloc, &cells, statements)?, least))
-}
-
-/// The design that statements make, which are let go but for the sections; and the least line at which a component's name
-/// stands that stood before.
+/// The design that statements make, which are let go but for the sections; and the least line at which a component's or a
+/// design pin's name stands that stood before.
 #[tactic(auto, unfolding(crate::specs::Designs::design_of))]
 fn design_of(
     alloc: Global,
@@ -74,13 +60,13 @@ fn design_of(
 ) -> Result<(Design, Rows<Section>, Option<u64>), NoMemory>
     ensures value { IfOk result (λ r. r.0 ≡ design_of bytes.now table.now text.entry) }
     ensures sections { IfOk result (λ r. r.1 ≡ text.entry.sections) }
-    ensures least { IfOk result (λ r. IsLeast (StandsAgain (component_rows r.0.components)) r.2) }
+    ensures least { IfOk result (λ r. IsLeast (λ line. StandsAgain (component_rows r.0.components) line ⊎ StandsAgain (pin_rows r.0.pins) line) r.2) }
 {
     let units = units(text.units.statement.number.text()).unwrap_or(0);
-    let components = components_of(alloc, text.components)?;
-    let pins = pins_of(alloc, text.pins)?;
+    let (components, component) = NamedRows::of(alloc, components_of(alloc, text.components)?)?;
+    let (pins, pin) = NamedRows::of(alloc, pins_of(alloc, text.pins)?)?;
     let nets = nets_of(alloc, bytes, text.nets)?;
-    let (chains, least) = chains_beside(alloc, table, components.as_slice(), text.chains)?;
+    let chains = chains_of(alloc, &Cells::of(table, &components), text.chains)?;
     let design = Design {
         units: i64::from(units),
         components,
@@ -89,25 +75,24 @@ fn design_of(
         chains,
         chains_span: chains_span(text.sections.as_slice()),
     };
-    Ok((design, text.sections, least))
+    Ok((design, text.sections, lesser(component, pin)))
 }
 
-/// The least line at which something of a design stands a second time; of its components it is given.
+/// The least line at which something of a design stands a second time; of its components and design pins it is given.
 fn least_twice(
     alloc: Global,
     design: &Design,
     sections: &[Section],
-    components: Option<u64>,
+    named: Option<u64>,
 ) -> Result<Option<u64>, NoMemory>
-    requires components { IsLeast (StandsAgain (component_rows design.now.components)) components }
+    requires named { IsLeast (λ line. StandsAgain (component_rows design.now.components) line ⊎ StandsAgain (pin_rows design.now.pins) line) named }
     ensures value { IfOk result (λ least. (text : List ℕ) (cells : ghost_cells) (t : ghost_text) → design.now ≡ design_of text cells t → sections.now ≡ t.sections → IsLeast (TwiceAt text t) least) }
 {
-    let pins = least_again(alloc, design.pins.as_slice())?;
-    let nets = least_again(alloc, design.nets.as_slice())?;
-    let chains = least_again(alloc, design.chains.as_slice())?;
-    let again = least_again(alloc, sections)?;
+    let (_, nets) = Index::of(alloc, design.nets.as_slice())?;
+    let (_, chains) = Index::of(alloc, design.chains.as_slice())?;
+    let (_, again) = Index::of(alloc, sections)?;
     let connections = least_connection(alloc, design.nets.as_slice())?;
-    let named = lesser(lesser(components, pins), lesser(nets, chains));
+    let named = lesser(named, lesser(nets, chains));
     Ok(lesser(named, lesser(again, connections)))
 }
 
@@ -136,8 +121,8 @@ pub fn read_design(alloc: Global, bytes: &[u8], table: &CellTable) -> Result<Des
     if let Some(line) = bad_number(&text) {
         return Err(fault_at(Kind::DefNumber, line));
     }
-    let (design, sections, components) = design_of(alloc, bytes, table, text)?;
-    if let Some(line) = least_twice(alloc, &design, sections.as_slice(), components)? {
+    let (design, sections, named) = design_of(alloc, bytes, table, text)?;
+    if let Some(line) = least_twice(alloc, &design, sections.as_slice(), named)? {
         return Err(fault_at(Kind::DefTwice, line));
     }
     Ok(design)

@@ -1,53 +1,61 @@
-use Rattle.std.proofs.Common.{ℕ, Option, Some, None, ◌∙◌, subst}
+use Rattle.std.proofs.Common.{ℕ, Option, refl, subst}
+use Rattle.def_reader.specs.Agreement.{IsMissing, HasOtherCell}
 use Rattle.def_reader.specs.Steps.{IsLeast}
 use Rattle.def_reader.proofs.Agreeing.{NetFault, missing_here, other_here, nets_here, nets_agree, nets_differ}
-use Rattle.def_reader.proofs.AgreementFaults.{missing_first, other_first, net_first, no_fault, agrees, missing_differ, other_differ}
+use Rattle.def_reader.proofs.AgreementFaults.{missing_first, other_first, net_first, no_fault, agrees}
 use Rattle.def_reader.proofs.agreement.agree.Goals as goal
 
-pub returns-in-Some : goal.returns-in-Some
-returns-in-Some c =
+pub returns-in-Some-clause-fault : goal.returns-in-Some-clause-fault
+returns-in-Some-clause-fault c =
     let n = c.args.netlist.now in
     let d = c.args.design.now in
-    let least = missing_here n d c.in_ok-components.components c.as_slice-instances.result.now (Some c.in-Some.line) (c.in_ok-components.ensures.value ∙ c.as_slice.ensures.value) c.as_slice-instances.ensures.value c.in-Some.ensures.value in
-    record { agree = tt; no_fault = tt; fault = rw c.in_verilog.ensures.value (missing_first n d c.in-Some.line least); differ = rw c.in_verilog.ensures.value (missing_differ n d c.in-Some.line least.0) }
+    let least = missing_here n d d.components c.as_slice.result.now _ refl c.as_slice.ensures.value c.least_apart-missing.ensures.missing in
+    rw c.in_verilog.ensures.value (missing_first n d c.in-Some.line (subst (λ (r : Option ℕ). IsLeast (IsMissing n d) r) c.in-Some.is least))
 
-pub returns-in-Some-least_other_cell : goal.returns-in-Some-least_other_cell
-returns-in-Some-least_other_cell c =
+pub returns-in-Some-other-clause-fault : goal.returns-in-Some-other-clause-fault
+returns-in-Some-other-clause-fault c =
     let n = c.args.netlist.now in
     let d = c.args.design.now in
-    let of = c.in_ok-components.ensures.value ∙ c.as_slice.ensures.value in
-    let none = missing_here n d c.in_ok-components.components c.as_slice-instances.result.now None of c.as_slice-instances.ensures.value c.in_default.ensures.value in
-    let least = other_here n d c.in_ok-components.components c.as_slice-instances.result.now (Some c.in-Some-least_other_cell.line) of c.as_slice-instances.ensures.value c.in-Some-least_other_cell.ensures.value in
-    record {
-      agree = tt;
-      no_fault = tt;
-      fault = rw c.in_verilog-in-Some-least_other_cell.ensures.value (other_first n d c.in-Some-least_other_cell.line none least);
-      differ = rw c.in_verilog-in-Some-least_other_cell.ensures.value (other_differ n d c.in-Some-least_other_cell.line least.0);
-    }
+    let none = missing_here n d d.components c.as_slice.result.now _ refl c.as_slice.ensures.value c.least_apart-missing.ensures.missing in
+    let least = other_here n d d.components c.as_slice.result.now _ refl c.as_slice.ensures.value c.least_apart-missing.ensures.other in
+    rw c.in_verilog-in-Some-other.ensures.value
+    (other_first n d c.in-Some-other.line (subst (λ (r : Option ℕ). IsLeast (IsMissing n d) r) c.in_default.is none) (subst (λ (r : Option ℕ). IsLeast (HasOtherCell n d) r) c.in-Some-other.is least))
 
-pub returns-in-Some-2 : goal.returns-in-Some-2
-returns-in-Some-2 c =
+pub returns-in-Some-2-clause-fault : goal.returns-in-Some-2-clause-fault
+returns-in-Some-2-clause-fault c =
     let n = c.args.netlist.now in
     let d = c.args.design.now in
-    let of = c.in_ok-components.ensures.value ∙ c.as_slice.ensures.value in
-    let none = missing_here n d c.in_ok-components.components c.as_slice-instances.result.now None of c.as_slice-instances.ensures.value c.in_default.ensures.value in
-    let same = other_here n d c.in_ok-components.components c.as_slice-instances.result.now None of c.as_slice-instances.ensures.value c.in_default-least_other_cell.ensures.value in
+    let none = missing_here n d d.components c.as_slice.result.now _ refl c.as_slice.ensures.value c.least_apart-missing.ensures.missing in
+    let same = other_here n d d.components c.as_slice.result.now _ refl c.as_slice.ensures.value c.least_apart-missing.ensures.other in
+    let nets = nets_here n c.args.classes.now d c.requires.netlist c.requires.classes c.in_ok-pins.pins c.as_slice-2.result.now c.in_ok-line.field-0 c.in_ok-pins.ensures.value c.as_slice-2.ensures.value c.in_ok-line.ensures.value in
+    rw c.in_def.ensures.value
+    (net_first n d c.in-Some-2.line (subst (λ (r : Option ℕ). IsLeast (IsMissing n d) r) c.in_default.is none) (subst (λ (r : Option ℕ). IsLeast (HasOtherCell n d) r) c.in_default-other.is same)
+    (subst (λ (r : Option ℕ). IsLeast (NetFault n d) r) c.in-Some-2.is nets))
+
+pub returns-in-Some-2-clause-differ : goal.returns-in-Some-2-clause-differ
+returns-in-Some-2-clause-differ c =
+    let n = c.args.netlist.now in
+    let d = c.args.design.now in
     let nets = nets_here n c.args.classes.now d c.requires.netlist c.requires.classes c.in_ok-pins.pins c.as_slice-2.result.now c.in_ok-line.field-0 c.in_ok-pins.ensures.value c.as_slice-2.ensures.value c.in_ok-line.ensures.value in
     let least = subst (λ (r : Option ℕ). IsLeast (NetFault n d) r) c.in-Some-2.is nets in
-    record {
-      agree = tt;
-      no_fault = tt;
-      fault = rw c.in_def.ensures.value (net_first n d c.in-Some-2.line none same least);
-      differ = rw c.in_def.ensures.value (λ agree. nets_differ n c.args.classes.now d c.requires.netlist c.requires.classes c.in-Some-2.line least.0 agree.nets);
-    }
+    rw c.in_def.ensures.value (λ agree. nets_differ n c.args.classes.now d c.requires.netlist c.requires.classes c.in-Some-2.line least.0 agree.nets)
 
-pub returns : goal.returns
-returns c =
+pub returns-clause-agree : goal.returns-clause-agree
+returns-clause-agree c =
     let n = c.args.netlist.now in
     let d = c.args.design.now in
-    let of = c.in_ok-components.ensures.value ∙ c.as_slice.ensures.value in
-    let none = missing_here n d c.in_ok-components.components c.as_slice-instances.result.now None of c.as_slice-instances.ensures.value c.in_default.ensures.value in
-    let same = other_here n d c.in_ok-components.components c.as_slice-instances.result.now None of c.as_slice-instances.ensures.value c.in_default-least_other_cell.ensures.value in
+    let none = missing_here n d d.components c.as_slice.result.now _ refl c.as_slice.ensures.value c.least_apart-missing.ensures.missing in
+    let same = other_here n d d.components c.as_slice.result.now _ refl c.as_slice.ensures.value c.least_apart-missing.ensures.other in
     let nets = nets_here n c.args.classes.now d c.requires.netlist c.requires.classes c.in_ok-pins.pins c.as_slice-2.result.now c.in_ok-line.field-0 c.in_ok-pins.ensures.value c.as_slice-2.ensures.value c.in_ok-line.ensures.value in
-    let least = subst (λ (r : Option ℕ). IsLeast (NetFault n d) r) c.in_default-2.is nets in
-    record { agree = agrees n d none same (nets_agree n c.args.classes.now d c.requires.netlist c.requires.classes least); no_fault = no_fault n d none same least; fault = tt; differ = tt }
+    agrees n d (subst (λ (r : Option ℕ). IsLeast (IsMissing n d) r) c.in_default.is none) (subst (λ (r : Option ℕ). IsLeast (HasOtherCell n d) r) c.in_default-other.is same)
+    (nets_agree n c.args.classes.now d c.requires.netlist c.requires.classes (subst (λ (r : Option ℕ). IsLeast (NetFault n d) r) c.in_default-2.is nets))
+
+pub returns-clause-no_fault : goal.returns-clause-no_fault
+returns-clause-no_fault c =
+    let n = c.args.netlist.now in
+    let d = c.args.design.now in
+    let none = missing_here n d d.components c.as_slice.result.now _ refl c.as_slice.ensures.value c.least_apart-missing.ensures.missing in
+    let same = other_here n d d.components c.as_slice.result.now _ refl c.as_slice.ensures.value c.least_apart-missing.ensures.other in
+    let nets = nets_here n c.args.classes.now d c.requires.netlist c.requires.classes c.in_ok-pins.pins c.as_slice-2.result.now c.in_ok-line.field-0 c.in_ok-pins.ensures.value c.as_slice-2.ensures.value c.in_ok-line.ensures.value in
+    no_fault n d (subst (λ (r : Option ℕ). IsLeast (IsMissing n d) r) c.in_default.is none) (subst (λ (r : Option ℕ). IsLeast (HasOtherCell n d) r) c.in_default-other.is same)
+    (subst (λ (r : Option ℕ). IsLeast (NetFault n d) r) c.in_default-2.is nets)
