@@ -1,6 +1,6 @@
 -- What the chains that are written are read as.
 use Rattle.std.proofs.Common.{◌≡◌, ℕ, ◌≤◌, ◌<◌, Bool, true, false, cond, List, [], ◌∷◌, length, map, decimal, Option, Some, None, refl, sym, ap, ◌∙◌, arith}
-use Rattle.std.specs.Prelude.{option_map, option_and_then, unwrap_or, is_some, nat_le, ◌&&◌, not, ◌||◌, ℤ, pos, negsuc}
+use Rattle.std.specs.Prelude.{option_map, option_and_then, unwrap_or, is_some, nat_le, ◌&&◌, ℤ, pos, negsuc}
 use Rattle.std.specs.List.{find, AllByRecursion as Each}
 use Rattle.std.specs.Str.{bytes_eq}
 use Rattle.std.proofs.lemmas.Bool.Decides.{nat_tests}
@@ -8,22 +8,21 @@ use Rattle.std.proofs.lemmas.List.{map-append}
 use Rattle.base_types.specs.Names.{plain_name}
 use Rattle.cell_table.specs.Cells.{Cells}
 use Rattle.def_tokens.specs.Numbers.{integer_of}
-use Rattle.def_syntax.specs.Pieces.{is_terminal}
 use Rattle.def_syntax.specs.declared.design.Located.{Located}
 use Rattle.def_syntax.specs.declared.element.ElementList.TheVariants as list_texts
 use Rattle.def_syntax.specs.declared.chain.Chain.{Chain}
 use Rattle.def_syntax.specs.declared.chain.CommonPins.{CommonPins}
 use Rattle.def_syntax.specs.declared.chain.Partition.{Partition}
 use Rattle.def_syntax.specs.declared.chain.Terminal.{Terminal}
+use Rattle.def_syntax.specs.declared.chain.Terminal.TheVariants as terminals
 use Rattle.def_reader.specs.declared.design.Component.{Component}
 use Rattle.def_reader.specs.declared.design.Design.{Design}
 use Rattle.def_reader.specs.declared.design.Element.{Element}
 use Rattle.def_reader.specs.declared.design.ElementList.TheVariants as lists
-use Rattle.def_reader.specs.declared.design.EndText.{EndText}
 use Rattle.def_reader.specs.declared.design.EndText.TheVariants as ends
 use Rattle.def_reader.specs.Numbers.{between, bits_of}
-use Rattle.def_reader.specs.Designs.{element_of, list_of, end_by, end_at, max_bits_in, chain_of}
-use Rattle.def_layout.specs.SectionForms.{partition_of, max_bits_of, floating_of}
+use Rattle.def_reader.specs.Designs.{element_of, list_of, end_of, max_bits_in, chain_of}
+use Rattle.def_layout.specs.SectionForms.{partition_of, max_bits_of, terminal_of, floating_of}
 use Rattle.def_layout.specs.SectionForms.{element_of as read_element}
 use Rattle.def_layout.proofs.NumberWords.{number_number}
 use Rattle.def_edit.specs.Alike.Fields.{chain_fields, chain_read}
@@ -31,14 +30,14 @@ use Rattle.def_edit.proofs.alike.Denoting.{few_bits}
 use Rattle.def_edit.specs.declared.chains.NewElement.{NewElement}
 use Rattle.def_edit.specs.declared.chains.NewChain.{NewChain}
 use Rattle.def_edit.specs.Words.{word_for, end_word}
-use Rattle.def_edit.specs.NewChains.{element_layout, max_bits, partition_layout, chain_layout, chain_layouts, new_element, floating_list, new_end, new_chain, new_chains_of, IsNewElement, IsNewChain, AreNewChains}
-use Rattle.def_edit.proofs.MovedWords.{ArePlain, port, word_plain, found_plain, end_plain, end_no_port, end_port}
+use Rattle.def_edit.specs.NewChains.{element_layout, terminal_layout, max_bits, partition_layout, chain_layout, chain_layouts, new_element, floating_list, new_end, new_chain, new_chains_of, IsNewElement, IsNewChain, AreNewChains}
+use Rattle.def_edit.proofs.MovedWords.{ArePlain, word_plain, found_plain, end_plain}
 
 abbrev pub argument_type : {A B : Type 0} → (A → B) → Type 0
 argument_type {A} f = A
 
 abbrev pub Side : Type 0
-Side = argument_type end_at
+Side = argument_type end_of
 
 -- a number of bits is small
 pub few_most : (o : Option ℤ) → unwrap_or (between 0 262144 o) 0 ≤ 262144
@@ -82,41 +81,12 @@ partition_name : (p : Option Partition) → option_map (λ (x : Partition). plai
 partition_name None = refl
 partition_name (Some p) = ap Some (word_plain p.name)
 
--- PIN has a pin
-pin_behind : (t : Terminal) → is_terminal t ≡ true → bytes_eq t.component port ≡ true → is_some t.pin ≡ true
-pin_behind t good e = let h : (not true || is_some t.pin) ≡ true = ap (λ (b : Bool). not b || is_some t.pin) (sym e) ∙ good in h
-
-pub other : (b : Bool) (x y : EndText) → b ≡ false → cond b x y ≡ y
-other true x y e = absurd cc
-other false x y e = refl
-
 module _ (cells : Cells) (cs : List Component) (plain : ArePlain cs) where
-  of_cell : (side : Side) (w pin : List ℕ) → bytes_eq w port ≡ false → end_by side cells cs None (word_for (end_word cs w)) (Some (word_for pin)) ≡ ends.Cell (plain_name w) (Some (plain_name pin))
-  of_cell side w pin e =
-      let u = word_for (end_word cs w) in
-      other (bytes_eq u port) (ends.Port (plain_name (word_for pin))) (end_at side cells cs None u (Some (word_for pin))) (end_no_port cs w e)
-      ∙ ap (λ (n : List ℕ). ends.Cell n (Some (plain_name (word_for pin)))) (word_plain (end_word cs w) ∙ end_plain cs plain w) ∙ ap (λ (n : List ℕ). ends.Cell (plain_name w) (Some n)) (word_plain pin)
-
-  -- an end is read back
-  at_cell : (side : Side) (common : Option CommonPins) (w : List ℕ) (was : Option (List ℕ)) (pin : List ℕ) → bytes_eq w port ≡ false
-      → end_by side cells cs None (word_for (end_word cs w)) (Some (word_for pin)) ≡ new_end (end_by side cells cs common w was) pin
-  at_cell side common w None pin e = of_cell side w pin e
-  at_cell side common w (Some q) pin e =
-      of_cell side w pin e ∙ sym (ap (λ (x : EndText). new_end x pin) (other (bytes_eq w port) (ends.Port (plain_name q)) (end_at side cells cs common w (Some q)) e))
-
-  at_port : (side : Side) (common : Option CommonPins) (w : List ℕ) (was : Option (List ℕ)) (pin : List ℕ) → bytes_eq w port ≡ true → is_some was ≡ true
-      → end_by side cells cs None (word_for (end_word cs w)) (Some (word_for (unwrap_or was []))) ≡ new_end (end_by side cells cs common w was) pin
-  at_port side common w None pin e h = absurd cc
-  at_port side common w (Some q) pin e h = rw (end_port cs w e, e) (ap (λ (n : List ℕ). ends.Port n) (word_plain q))
-
-  pub end_back : (side : Side) (common : Option CommonPins) (t : Terminal) (pin : List ℕ) → is_terminal t ≡ true
-      → end_by side cells cs None (word_for (end_word cs t.component)) (Some (word_for (cond (bytes_eq t.component port) (unwrap_or t.pin []) pin))) ≡ new_end (end_by side cells cs common t.component t.pin) pin
-  end_back side common t pin good = step (bytes_eq t.component port) refl
-    where
-      step : (b : Bool) → bytes_eq t.component port ≡ b
-          → end_by side cells cs None (word_for (end_word cs t.component)) (Some (word_for (cond b (unwrap_or t.pin []) pin))) ≡ new_end (end_by side cells cs common t.component t.pin) pin
-      step true e = at_port side common t.component t.pin pin e (pin_behind t good e)
-      step false e = at_cell side common t.component t.pin pin e
+  -- a start or a stop is read back
+  end_back : (side : Side) (common : Option CommonPins) (t : Terminal) (pin : List ℕ) → end_of side cells cs None (terminal_of (terminal_layout cs t pin)) ≡ new_end (end_of side cells cs common t) pin
+  end_back side common (terminals.AtPin name) pin = ap ends.Port (word_plain name)
+  end_back side common (terminals.AtCell w was) pin =
+      ap (λ (n : List ℕ). ends.Cell n (Some (plain_name (word_for pin)))) (word_plain (end_word cs w) ∙ end_plain cs plain w) ∙ ap (λ (n : List ℕ). ends.Cell (plain_name w) (Some n)) (word_plain pin)
 
   module _ (d : Design) (components : d.components ≡ cs) where
     -- so are the elements
@@ -138,19 +108,18 @@ module _ (cells : Cells) (cs : List Component) (plain : ArePlain cs) where
     ordered_back (es ∷ ess) h = rw (elements_back es h.0.1, ordered_back ess h.1) refl
 
     -- a chain is read back as the one with the other elements
-    chain_back : (c : Located Chain) (new : NewChain) → is_terminal c.statement.start ≡ true → is_terminal c.statement.stop ≡ true → IsNewChain d (chain_of cells cs c) new
-        → chain_read cells cs (chain_layout cs c.statement new) ≡ chain_fields (new_chain (chain_of cells cs c) new)
-    chain_back c new start stop is =
+    chain_back : (c : Located Chain) (new : NewChain) → IsNewChain d (chain_of cells cs c) new → chain_read cells cs (chain_layout cs c.statement new) ≡ chain_fields (new_chain (chain_of cells cs c) new)
+    chain_back c new is =
         let common = c.statement.common_pins in
         let f = floating_back new.floating is.floating in
         let o = ordered_back new.ordered is.ordered in
         let l = map-append (list_of cells cs None) (floating_of (map (element_layout cs) new.floating)) (map (λ es. list_texts.Ordered (map read_element es)) (map (map (element_layout cs)) new.ordered)) in
-        rw (l, f, o, end_back _ common c.statement.start new.start start, end_back _ common c.statement.stop new.stop stop, partition_name c.statement.partition, partition_most c.statement.partition, partition_has c.statement.partition) refl
+        rw (l, f, o, end_back _ common c.statement.start new.start, end_back _ common c.statement.stop new.stop, partition_name c.statement.partition, partition_most c.statement.partition, partition_has c.statement.partition) refl
 
-    pub chains_back : (chains : List (Located Chain)) (news : List NewChain) → Each (λ (c : Located Chain). (is_terminal c.statement.start ≡ true) × (is_terminal c.statement.stop ≡ true)) chains
+    pub chains_back : (chains : List (Located Chain)) (news : List NewChain)
         → AreNewChains d (map (chain_of cells cs) chains) news → map (chain_read cells cs) (chain_layouts cs chains news) ≡ map chain_fields (new_chains_of (map (chain_of cells cs) chains) news)
     unfolding chain_layouts
-    chains_back [] [] good is = refl
-    chains_back [] (new ∷ news) good is = absurd is
-    chains_back (c ∷ chains) [] good is = absurd is
-    chains_back (c ∷ chains) (new ∷ news) good is = rw (chain_back c new good.0.0 good.0.1 is.0, chains_back chains news good.1 is.1) refl
+    chains_back [] [] is = refl
+    chains_back [] (new ∷ news) is = absurd is
+    chains_back (c ∷ chains) [] is = absurd is
+    chains_back (c ∷ chains) (new ∷ news) is = rw (chain_back c new is.0, chains_back chains news is.1) refl

@@ -1,14 +1,10 @@
 -- What a text with the changes of moves and new chains denotes.
 use Rattle.std.proofs.Common.{◌≡◌, ℕ, true, List, [], ◌∷◌, map, Option, refl, sym, ap, ◌∙◌}
 use Rattle.std.specs.Prelude.{ℤ, option_map}
-use Rattle.std.specs.List.{AllByRecursion as Each}
 use Rattle.base_types.specs.declared.span.Span.{Span}
 use Rattle.cell_table.specs.Cells.{Cells}
 use Rattle.token_forms.specs.Parts.{token_texts}
-use Rattle.def_syntax.specs.Pieces.{is_terminal}
 use Rattle.def_syntax.specs.Designs.{statements_of}
-use Rattle.def_syntax.specs.declared.design.Located.{Located}
-use Rattle.def_syntax.specs.declared.chain.Chain.{Chain}
 use Rattle.def_reader.specs.declared.design.Component.{Component}
 use Rattle.def_reader.specs.declared.design.Design.{Design}
 use Rattle.def_reader.specs.declared.design.DesignPin.{DesignPin}
@@ -31,8 +27,7 @@ use Rattle.def_edit.specs.NewChains.{chain_layouts, new_chains_of, AreNewChains}
 use Rattle.def_edit.specs.MovedText.{changes_of, moved_design, DenotesMoved}
 use Rattle.def_edit.proofs.MovedPins.{pins_moved}
 use Rattle.def_edit.proofs.MovedChains.{chains_back}
-use Rattle.def_edit.proofs.MovedRead.{IsChain}
-use Rattle.def_edit.proofs.MovedFit.{components_are, chains_are, plain_components, seen_chains, rows_are, chains_new, fit, nets_moved, sound}
+use Rattle.def_edit.proofs.MovedFit.{components_are, chains_are, plain_components, rows_are, chains_new, fit, nets_moved, sound}
 
 abbrev design_with : ℤ → List Component → List DesignPin → List Net → List ScanChainText → Option Span → Design
 design_with a cs ps ns hs s = record { units = a; components = cs; pins = ps; nets = ns; chains = hs; chains_span = s }
@@ -40,10 +35,6 @@ design_with a cs ps ns hs s = record { units = a; components = cs; pins = ps; ne
 same_design : (a b : ℤ) (cs ds : List Component) (ps qs : List DesignPin) (ns ms : List Net) (hs ks : List ScanChainText) (s r : Option Span) → a ≡ b → cs ≡ ds → ps ≡ qs → ns ≡ ms → hs ≡ ks → s ≡ r
     → design_with a cs ps ns hs s ≡ design_with b ds qs ms ks r
 same_design a b cs ds ps qs ns ms hs ks s r e f g h i j = rw (e, f, g, h, i, j) refl
-
-good_ends : (chains : List (Located Chain)) → Each (λ (c : Located Chain). IsChain c.statement) chains → Each (λ (c : Located Chain). (is_terminal c.statement.start ≡ true) × (is_terminal c.statement.stop ≡ true)) chains
-good_ends [] h = tt
-good_ends (c ∷ chains) h = ((h.0.start.good, h.0.stop.good), good_ends chains h.1)
 
 module _ (text : List ℕ) (cells : Cells) (d : Design) (h : DenotesDesign text cells d) where
   pub pins_are : d.pins ≡ map pin_of h.statements.pins
@@ -59,7 +50,7 @@ module _ (text : List ℕ) (cells : Cells) (d : Design) (h : DenotesDesign text 
     chains_same =
         let cs = map component_of h.statements.components in
         ap (λ (l : List Component). map (chain_read cells cs) (chain_layouts l h.statements.chains news)) (components_are text cells d h)
-        ∙ chains_back cells cs (plain_components text cells d h) d (components_are text cells d h) h.statements.chains news (good_ends h.statements.chains (seen_chains text cells d h)) (chains_new text cells d h moves news are new)
+        ∙ chains_back cells cs (plain_components text cells d h) d (components_are text cells d h) h.statements.chains news (chains_new text cells d h moves news are new)
         ∙ ap (λ (l : List ScanChainText). map chain_fields (new_chains_of l news)) (sym (chains_are text cells d h))
 
     -- the design with the changes is the design behind the moves

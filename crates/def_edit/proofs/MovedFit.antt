@@ -1,6 +1,6 @@
 -- The changes of moves and new chains fit a text and are sound.
-use Rattle.std.proofs.Common.{◌≡◌, ℕ, suc, ◌+◌, ◌<◌, Bool, true, false, cond, ◌&&◌, List, [], ◌∷◌, ◌++◌, length, map, Option, Some, None, refl, sym, ap, ◌∙◌, subst, arith}
-use Rattle.std.specs.Prelude.{option_map, unwrap_or}
+use Rattle.std.proofs.Common.{◌≡◌, ℕ, suc, ◌+◌, ◌<◌, Bool, true, false, ◌&&◌, List, [], ◌∷◌, ◌++◌, length, map, Option, Some, None, refl, sym, ap, ◌∙◌, subst, arith}
+use Rattle.std.specs.Prelude.{option_map, not}
 use Rattle.std.specs.List.{find, flat_map, filter_map, list_all, AllByRecursion as Each}
 use Rattle.std.specs.Str.{bytes_eq}
 use Rattle.base_types.specs.Names.{plain_name}
@@ -17,6 +17,7 @@ use Rattle.def_syntax.specs.declared.chain.Chain.{Chain}
 use Rattle.def_syntax.specs.declared.chain.CommonPins.{CommonPins}
 use Rattle.def_syntax.specs.declared.chain.Partition.{Partition}
 use Rattle.def_syntax.specs.declared.chain.Terminal.{Terminal}
+use Rattle.def_syntax.specs.declared.chain.Terminal.TheVariants as terminals
 use Rattle.def_syntax.specs.declared.component.Component.{Component as ComponentText}
 use Rattle.def_syntax.specs.declared.pin.DesignPin.{DesignPin as PinText}
 use Rattle.def_syntax.specs.declared.net.NetStatement.{NetStatement}
@@ -27,7 +28,7 @@ use Rattle.def_reader.specs.declared.design.EndText.{EndText}
 use Rattle.def_reader.specs.declared.design.EndText.TheVariants as ends
 use Rattle.def_reader.specs.declared.design.Net.{Net}
 use Rattle.def_reader.specs.declared.design.ScanChainText.{ScanChainText}
-use Rattle.def_reader.specs.Designs.{component_of, net_of, end_at, end_by, chain_of, design_of}
+use Rattle.def_reader.specs.Designs.{component_of, net_of, end_of, chain_of, design_of}
 use Rattle.def_reader.specs.Denoted.{DenotesDesign}
 use Rattle.def_reader.specs.Faults.{StandsAgain, connection_rows}
 use Rattle.def_layout.specs.declared.chains.ChainLayout.{ChainLayout}
@@ -47,10 +48,10 @@ use Rattle.def_edit.specs.NetChanges.{net_rows, net_changes_from, new_word}
 use Rattle.def_edit.specs.NewChains.{element_layout, terminal_layout, max_bits, partition_layout, chain_layout, chain_layouts, is_plain, IsNewElement, IsNewEnd, IsNewChain, AreNewChains}
 use Rattle.def_edit.specs.MovedText.{changes_of}
 use Rattle.def_edit.proofs.MovedNets.{nets_same, rows_same, moved_same}
-use Rattle.def_edit.proofs.MovedWords.{ArePlain, port, reads_same}
-use Rattle.def_edit.proofs.MovedChains.{Side, other, few_most}
+use Rattle.def_edit.proofs.MovedWords.{ArePlain, port, reads_same, end_no_port}
+use Rattle.def_edit.proofs.MovedChains.{Side, few_most}
 use Rattle.def_edit.proofs.MovedOnce.{once_law, none_again}
-use Rattle.def_edit.proofs.MovedRead.{IsSeen, body_seen, located_each, IsWordIf, IsEnd, IsPartIf, IsChain, chain_seen, component_seen}
+use Rattle.def_edit.proofs.MovedRead.{IsSeen, body_seen, located_each, IsEnd, IsPartIf, IsChain, chain_seen, component_seen}
 use Rattle.def_edit.proofs.MovedNames.{word_name, read_plain, name_plain, AreNamed, found_has, end_has, IsRow, IsRowIf, net_row, rows_all, changes_named, word_named}
 
 both_true : (a b : Bool) → a ≡ true → b ≡ true → (a && b) ≡ true
@@ -102,37 +103,36 @@ abbrev is_cell : EndText → Bool
 is_cell (ends.Port name) = false
 is_cell (ends.Cell c pin) = true
 
+abbrev at_cell : Terminal → Bool
+at_cell (terminals.AtPin pin) = false
+at_cell (terminals.AtCell component pin) = true
+
 plain_end : (x : EndText) (pin : List ℕ) → is_cell x ≡ true → IsNewEnd x pin → is_plain pin ≡ true
 plain_end (ends.Port name) pin e h = absurd cc
 plain_end (ends.Cell c q) pin e h = h
-
-pin_plain : (o : Option (List ℕ)) → IsWordIf o → is_plain (unwrap_or o []) ≡ true
-pin_plain None h = refl
-pin_plain (Some w) h = read_plain w h
 
 module _ (cells : Cells) (d : Design) (named : AreNamed d.components) where
   plain : (cs : List Component) → AreNamed cs → Each (λ (c : Component). is_plain c.text ≡ true) cs
   plain cs h = each_weaker (λ (c : Component). is_name c.text ≡ true) (λ (c : Component). is_plain c.text ≡ true) (λ c e. name_plain c.text e) cs h
 
-  cell_is : (cs : List Component) (side : Side) (common : Option CommonPins) (w : List ℕ) (was : Option (List ℕ)) → bytes_eq w port ≡ false → end_by side cells cs common w was ≡ end_at side cells cs common w was
-  cell_is cs side common w None e = refl
-  cell_is cs side common w (Some q) e = other (bytes_eq w port) (ends.Port (plain_name q)) (end_at side cells cs common w (Some q)) e
+  cell_same : (cs : List Component) (side : Side) (common : Option CommonPins) (t : Terminal) → is_cell (end_of side cells cs common t) ≡ at_cell t
+  cell_same cs side common (terminals.AtPin name) = refl
+  cell_same cs side common (terminals.AtCell w was) = refl
 
-  start_cell : (cs : List Component) (c : Located Chain) → bytes_eq c.statement.start.component port ≡ false → is_cell (chain_of cells cs c).start ≡ true
-  start_cell cs c e = rw (cell_is cs _ c.statement.common_pins c.statement.start.component c.statement.start.pin e) refl
+  start_cell : (cs : List Component) (c : Located Chain) → at_cell c.statement.start ≡ true → is_cell (chain_of cells cs c).start ≡ true
+  start_cell cs c e = rw (cell_same cs _ c.statement.common_pins c.statement.start) e
 
-  stop_cell : (cs : List Component) (c : Located Chain) → bytes_eq c.statement.stop.component port ≡ false → is_cell (chain_of cells cs c).stop ≡ true
-  stop_cell cs c e = rw (cell_is cs _ c.statement.common_pins c.statement.stop.component c.statement.stop.pin e) refl
+  stop_cell : (cs : List Component) (c : Located Chain) → at_cell c.statement.stop ≡ true → is_cell (chain_of cells cs c).stop ≡ true
+  stop_cell cs c e = rw (cell_same cs _ c.statement.common_pins c.statement.stop) e
 
-  terminal_named : (t : Terminal) (pin : List ℕ) → IsEnd t → (bytes_eq t.component port ≡ false → is_plain pin ≡ true) → names_terminal (terminal_layout d.components t pin) ≡ true
-  terminal_named t pin good h =
-      both_true (is_name (word_for (end_word d.components t.component))) (is_name (word_for (cond (bytes_eq t.component port) (unwrap_or t.pin []) pin)))
-      (word_name (end_word d.components t.component) (end_has (λ w. is_plain w ≡ true) d.components (plain d.components named) t.component (read_plain t.component good.component)))
-      (step (bytes_eq t.component port) refl)
-    where
-      step : (b : Bool) → bytes_eq t.component port ≡ b → is_name (word_for (cond b (unwrap_or t.pin []) pin)) ≡ true
-      step true e = word_name (unwrap_or t.pin []) (pin_plain t.pin good.pin)
-      step false e = word_name pin (h e)
+  terminal_named : (t : Terminal) (pin : List ℕ) → IsEnd t → (at_cell t ≡ true → is_plain pin ≡ true) → names_terminal (terminal_layout d.components t pin) ≡ true
+  terminal_named (terminals.AtPin name) pin good h = word_name name (read_plain name good)
+  terminal_named (terminals.AtCell w was) pin good h =
+      let u = word_for (end_word d.components w) in
+      both_true (is_name u && not (bytes_eq u port)) (is_name (word_for pin))
+      (both_true (is_name u) (not (bytes_eq u port)) (word_name (end_word d.components w) (end_has (λ w. is_plain w ≡ true) d.components (plain d.components named) w (read_plain w good.0)))
+      (ap not (end_no_port d.components w good.1)))
+      (word_name pin (h refl))
 
   element_named : (e : NewElement) → IsNewElement d e → names_element (element_layout d.components e) ≡ true
   element_named e is =

@@ -5,18 +5,18 @@ use Rattle.std.specs.Str.{bytes_eq}
 use Rattle.token_forms.specs.Tokens.{Token}
 use Rattle.token_forms.specs.Parts.{token_texts}
 use Rattle.token_forms.specs.Parsing.{◌>>=◌}
-use Rattle.token_forms.specs.Classes.{But, is_in}
+use Rattle.token_forms.specs.Classes.{But, is_among, is_in}
 use Rattle.token_forms.specs.Forms.{Form, AreMany, IsMaybe, put_all}
 use Rattle.token_forms.proofs.ClassLemmas.{both}
 use Rattle.def_tokens.specs.DefTokens.{is_black, has_end, tokens_in}
 use Rattle.def_tokens.specs.DefSplit.{begins_run}
 use Rattle.def_tokens.specs.DefStatements.{IsStatementSplit}
 use Rattle.def_tokens.proofs.DefCuts.{statements_law}
-use Rattle.def_syntax.specs.Words.{marks, name}
+use Rattle.def_syntax.specs.Words.{marks, name, cell_name}
 use Rattle.def_syntax.specs.Grammar.{component, chain, clause, partition, terminal}
 use Rattle.def_syntax.specs.OptionForms.{component_form, component_option}
 use Rattle.def_syntax.proofs.OptionWords.{component_law}
-use Rattle.def_syntax.specs.Pieces.{once, put_component, fresh_chain, put_clause, is_terminal, some_list}
+use Rattle.def_syntax.specs.Pieces.{once, put_component, fresh_chain, put_clause, some_list}
 use Rattle.def_syntax.specs.Pieces.{component_of as component_made, chain_of as chain_made}
 use Rattle.def_syntax.specs.Options.{and_last}
 use Rattle.def_syntax.specs.Frames.{statements_in}
@@ -26,6 +26,7 @@ use Rattle.def_syntax.specs.declared.design.Located.{Located}
 use Rattle.def_syntax.specs.declared.chain.Chain.{Chain}
 use Rattle.def_syntax.specs.declared.chain.Partition.{Partition}
 use Rattle.def_syntax.specs.declared.chain.Terminal.{Terminal}
+use Rattle.def_syntax.specs.declared.chain.Terminal.TheVariants as terminals
 use Rattle.def_syntax.specs.declared.component.Component.{Component}
 use Rattle.def_syntax.proofs.FrameLaws.{each_append, each_front, each_behind}
 use Rattle.def_layout.specs.Words.{is_whole, is_cut, are_standing}
@@ -116,10 +117,6 @@ located_each form text P Q tell (s ∷ ss) (x ∷ xs) all h = (tell x.statement 
 abbrev pub IsWord : List ℕ → Type 0
 IsWord w = (is_in (But marks) w ≡ true) × IsRead w
 
-abbrev pub IsWordIf : Option (List ℕ) → Type 0
-IsWordIf None = Unit {0}
-IsWordIf (Some w) = IsWord w
-
 name_read : (w : List ℕ) (ts : List Token) → AreRead ts → name.spells w ts → IsWord w
 name_read w ts all h = (h.kind_is, subst IsRead h.text (subst AreRead h.is all).0)
 
@@ -129,16 +126,24 @@ front_read ts a b e all = each_front (λ (t : Token). IsRead t.text) a b (subst 
 back_read : (ts a b : List Token) → ts ≡ a ++ b → AreRead ts → AreRead b
 back_read ts a b e all = each_behind (λ (t : Token). IsRead t.text) a b (subst AreRead e all)
 
-maybe_read : (o : Option (List ℕ)) (ts : List Token) → AreRead ts → IsMaybe name.spells o ts → IsWordIf o
-maybe_read None ts all h = tt
-maybe_read (Some w) ts all h = name_read w ts all h
+-- a component's name is no PIN
+abbrev pub IsCellWord : List ℕ → Type 0
+IsCellWord w = IsWord w × (bytes_eq w (codes "PIN") ≡ false)
+
+cell_read : (w : List ℕ) (ts : List Token) → AreRead ts → cell_name.spells w ts → IsCellWord w
+cell_read w ts all h =
+    let n = neither (bytes_eq w (codes "PIN")) (is_among marks w) h.kind_is in
+    ((n.1, subst IsRead h.text (subst AreRead h.is all).0), n.0)
+  where
+    neither : (a b : Bool) → not (a || b) ≡ true → (a ≡ false) × (not b ≡ true)
+    neither true b e = absurd cc
+    neither false b e = (refl, e)
 
 -- the pieces of a chain
 
-pub record IsEnd (t : Terminal) : Type 0 where
-  pub component : IsWord t.component
-  pub pin : IsWordIf t.pin
-  pub good : is_terminal t ≡ true
+abbrev pub IsEnd : Terminal → Type 0
+IsEnd (terminals.AtPin pin) = IsWord pin
+IsEnd (terminals.AtCell component pin) = IsCellWord component
 
 abbrev pub IsEndIf : Option Terminal → Type 0
 IsEndIf None = Unit {0}
@@ -150,14 +155,15 @@ IsPartIf (Some p) = IsWord p.name
 
 terminal_read : (t : Terminal) (ts : List Token) → AreRead ts → terminal.spells t ts → IsEnd t
 unfolding terminal
-terminal_read t ts all h =
-    let m = h.holds in
-    let s = m.holds in
-    record {
-      component = subst (λ (x : Terminal). IsWord x.component) m.is (name_read m.parts.0 s.front (front_read ts s.front s.back s.is all) s.first);
-      pin = subst (λ (x : Terminal). IsWordIf x.pin) m.is (maybe_read m.parts.1 s.back (back_read ts s.front s.back s.is all) s.second);
-      good = h.passes;
-    }
+terminal_read t ts all h = elim h [
+  | inl m ↦
+      let k = m.holds in
+      let s = k.holds in
+      subst IsEnd (ap terminals.AtPin k.is ∙ m.is) (name_read k.parts.1 s.back (back_read ts s.front s.back s.is all) s.second)
+  | inr m ↦
+      let s = m.holds in
+      subst IsEnd m.is (cell_read m.parts.0 s.front (front_read ts s.front s.back s.is all) s.first)
+]
 
 partition_read : (p : Partition) (ts : List Token) → AreRead ts → partition.spells p ts → IsWord p.name
 unfolding partition

@@ -117,13 +117,3 @@ no_port u e = step (is_name u) u e
 
 pub end_no_port : (cs : List Component) (w : List ℕ) → bytes_eq w port ≡ false → bytes_eq (word_for (end_word cs w)) port ≡ false
 end_no_port cs w e = no_port (end_word cs w) (no_port_there cs w e)
-
-chosen : (b : Bool) (x y : List ℕ) → b ≡ true → cond b x y ≡ x
-chosen true x y e = refl
-chosen false x y e = absurd cc
-
--- PIN stays
-pub end_port : (cs : List Component) (w : List ℕ) → bytes_eq w port ≡ true → word_for (end_word cs w) ≡ w
-end_port cs w e =
-    let is : w ≡ port = (bytes_eq-Decides w port).0 e in
-    ap word_for (chosen (bytes_eq w port) w (unless_mark (component_word cs (plain_name w) w) w) e) ∙ chosen (is_name w) w (escaped w) (ap is_name is)

@@ -3,9 +3,11 @@ use Rattle.std.specs.Prelude.{List, map, option_map}
 use Rattle.def_layout.specs.declared.chains.ElementLayout.{ElementLayout}
 use Rattle.def_layout.specs.declared.chains.PartitionLayout.{PartitionLayout}
 use Rattle.def_layout.specs.declared.chains.TerminalLayout.{TerminalLayout}
+use Rattle.def_layout.specs.declared.chains.TerminalLayout.TheVariants as written
 use Rattle.def_layout.specs.declared.chains.ChainLayout.{ChainLayout}
 use Rattle.def_edit.specs.declared.layouts.ElementWords.{ElementWords}
 use Rattle.def_edit.specs.declared.layouts.TerminalWords.{TerminalWords}
+use Rattle.def_edit.specs.declared.layouts.TerminalWords.TheVariants as words
 use Rattle.def_edit.specs.declared.layouts.PartitionWords.{PartitionWords}
 use Rattle.def_edit.specs.declared.layouts.ChainWords.{ChainWords}
 
@@ -17,9 +19,10 @@ laid_element e = record { name = e.name.now; input = e.input; output = e.output;
 abbrev pub laid_list : List ElementWords → List ElementLayout
 laid_list es = map laid_element es
 
--- a beginning or an end
+-- a start or a stop
 abbrev pub laid_terminal : TerminalWords → TerminalLayout
-laid_terminal t = record { component = t.component; pin = t.pin }
+laid_terminal (words.AtPin pin) = written.AtPin pin
+laid_terminal (words.AtCell component pin) = written.AtCell component pin
 
 -- a partition
 abbrev pub laid_partition : PartitionWords → PartitionLayout

@@ -1,11 +1,12 @@
 -- How chains with other elements are laid out (LEF/DEF 5.8, SCANCHAINS).
-use Rattle.std.specs.Prelude.{◌≡◌, ℕ, ◌+◌, ◌<◌, ◌≤◌, Bool, true, ◌||◌, if◌then◌else◌, List, [], ◌∷◌, ◌++◌, length, map, codes, Option, Some, None, option_map, unwrap_or}
+use Rattle.std.specs.Prelude.{◌≡◌, ℕ, ◌+◌, ◌<◌, ◌≤◌, Bool, true, ◌||◌, List, [], ◌∷◌, ◌++◌, length, map, Option, Some, None, option_map, unwrap_or}
 use Rattle.std.specs.List.{find, list_all, AllByRecursion as Each}
 use Rattle.std.specs.Str.{bytes_eq}
 use Rattle.base_types.specs.Names.{plain_name}
 use Rattle.def_tokens.specs.DefTokens.{is_black}
 use Rattle.def_syntax.specs.declared.chain.Chain.{Chain}
 use Rattle.def_syntax.specs.declared.chain.Terminal.{Terminal}
+use Rattle.def_syntax.specs.declared.chain.Terminal.TheVariants as terminals
 use Rattle.def_syntax.specs.declared.chain.Partition.{Partition}
 use Rattle.def_syntax.specs.declared.design.Located.{Located}
 use Rattle.def_reader.specs.declared.design.Component.{Component}
@@ -19,6 +20,7 @@ use Rattle.def_reader.specs.declared.design.ScanChainText.{ScanChainText}
 use Rattle.def_reader.specs.Numbers.{bits_of}
 use Rattle.def_layout.specs.declared.chains.ElementLayout.{ElementLayout}
 use Rattle.def_layout.specs.declared.chains.TerminalLayout.{TerminalLayout}
+use Rattle.def_layout.specs.declared.chains.TerminalLayout.TheVariants as written
 use Rattle.def_layout.specs.declared.chains.PartitionLayout.{PartitionLayout}
 use Rattle.def_layout.specs.declared.chains.ChainLayout.{ChainLayout}
 use Rattle.def_layout.specs.SectionForms.{is_name}
@@ -33,8 +35,8 @@ element_layout components e = record { name = component_word components e.compon
 -- where a chain starts or stops: at a design pin as the chain's statement wrote it; else at a component, and this pin. A word whose end
 -- would be cut off before a blank is escaped
 abbrev pub terminal_layout : List Component → Terminal → List ℕ → TerminalLayout
-terminal_layout components w pin =
-    record { component = word_for (end_word components w.component); pin = word_for (if bytes_eq w.component (codes "PIN") then unwrap_or w.pin [] else pin) }
+terminal_layout components (terminals.AtPin port) pin = written.AtPin (word_for port)
+terminal_layout components (terminals.AtCell component other) pin = written.AtCell (word_for (end_word components component)) (word_for pin)
 
 -- the number of MAXBITS
 abbrev pub max_bits : Option (List ℕ) → Option ℕ

@@ -1,6 +1,5 @@
 //! Chains in their words.
-ghost use Rattle.std.specs.Prelude.{◌≡◌, [], map, option_map, unwrap_or, length, codes, if◌then◌else◌, IfOk};
-ghost use Rattle.std.specs.Str.{bytes_eq};
+ghost use Rattle.std.specs.Prelude.{◌≡◌, map, option_map, unwrap_or, length, IfOk};
 ghost use Rattle.def_reader.specs.Numbers.{between, bits_of};
 ghost use Rattle.def_edit.specs.NewChains.{element_layout, terminal_layout, max_bits, partition_layout, chain_layout, chain_layouts};
 ghost use Rattle.def_edit.specs.Layouts.{laid_element, laid_list, laid_terminal, laid_partition, laid_chain};
@@ -24,11 +23,11 @@ struct ElementWords<'a> {
     bits: u32,
 }
 
-/// A beginning or an end.
+/// A start or a stop.
 #[derive(Drop)]
-struct TerminalWords {
-    component: Name,
-    pin: Name,
+enum TerminalWords {
+    AtPin(Name),
+    AtCell { component: Name, pin: Name },
 }
 
 /// A partition.
@@ -93,26 +92,7 @@ fn lists_words<'a>(
     Ok(words)
 }
 
-fn written_pin<'a>(terminal: &Terminal<'a>) -> &'a [u8]
-    ensures value { result.now ≡ unwrap_or terminal.now.pin [] }
-{
-    match &terminal.pin {
-        Some(pin) => pin.text(),
-        None => &[],
-    }
-}
-
-/// The pin of a beginning or an end: as it was written at a design pin, else this one.
-fn end_pin<'a>(terminal: &Terminal<'a>, pin: &'a [u8]) -> &'a [u8]
-    ensures value { result.now ≡ (if bytes_eq terminal.now.component (codes "PIN") then unwrap_or terminal.now.pin [] else pin.now) }
-{
-    if terminal.component.text() == b"PIN".as_slice() {
-        written_pin(terminal)
-    } else {
-        pin
-    }
-}
-
+/// A start or a stop: at a design pin as it was written, at a component with this pin.
 fn terminal_words(
     alloc: Global,
     components: &Components<'_>,
@@ -121,11 +101,16 @@ fn terminal_words(
 ) -> Result<TerminalWords, NoMemory>
     ensures value { IfOk result (λ words. laid_terminal words ≡ terminal_layout components.now terminal.now pin.now) }
 {
-    let component = components.end_word(alloc, terminal.component.text())?;
-    Ok(TerminalWords {
-        component: word_for(alloc, component)?,
-        pin: word_for(alloc, end_pin(terminal, pin))?,
-    })
+    match terminal {
+        Terminal::AtPin(port) => Ok(TerminalWords::AtPin(word_for(alloc, port.text())?)),
+        Terminal::AtCell { component, .. } => {
+            let component = components.end_word(alloc, component.text())?;
+            Ok(TerminalWords::AtCell {
+                component: word_for(alloc, component)?,
+                pin: word_for(alloc, pin)?,
+            })
+        }
+    }
 }
 
 /// An integer of 0 to 262144.
@@ -246,9 +231,12 @@ fn lists_layout<'w>(
 fn terminal_layout<'w>(terminal: &'w TerminalWords) -> TerminalLayout<'w>
     ensures value { result ≡ laid_terminal terminal.now }
 {
-    TerminalLayout {
-        component: TokenText::of(terminal.component.bytes()),
-        pin: TokenText::of(terminal.pin.bytes()),
+    match terminal {
+        TerminalWords::AtPin(pin) => TerminalLayout::AtPin(TokenText::of(pin.bytes())),
+        TerminalWords::AtCell { component, pin } => TerminalLayout::AtCell {
+            component: TokenText::of(component.bytes()),
+            pin: TokenText::of(pin.bytes()),
+        },
     }
 }
 

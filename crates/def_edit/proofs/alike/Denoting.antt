@@ -21,9 +21,11 @@ use Rattle.def_syntax.specs.declared.element.ElementList.{ElementList as ListTex
 use Rattle.def_syntax.specs.declared.element.ElementList.TheVariants as list_texts
 use Rattle.def_syntax.specs.declared.chain.Chain.{Chain}
 use Rattle.def_syntax.specs.declared.chain.CommonPins.{CommonPins}
+use Rattle.def_syntax.specs.declared.chain.Terminal.{Terminal}
+use Rattle.def_syntax.specs.declared.chain.Terminal.TheVariants as terminals
 use Rattle.def_reader.specs.declared.design.Component.{Component}
 use Rattle.def_reader.specs.Numbers.{bits_of}
-use Rattle.def_reader.specs.Designs.{cell_of, scan_paths, element_of, list_of, end_at, end_by, chain_of, is_chains, chains_span}
+use Rattle.def_reader.specs.Designs.{cell_of, scan_paths, element_of, list_of, end_of, chain_of, is_chains, chains_span}
 use Rattle.def_reader.specs.Faults.{FailsAt, StandsAgain, names_in}
 use Rattle.def_edit.proofs.alike.Lists.{cut_map, first_map, also_in, map_same}
 
@@ -75,7 +77,7 @@ abbrev argument_type : {A B : Type 0} → (A → B) → Type 0
 argument_type {A} f = A
 
 abbrev Side : Type 0
-Side = argument_type end_at
+Side = argument_type end_of
 
 -- a chain beside other components of the same cells
 module _ (cells : Cells) (cs ds : List Component) (same : (name : List ℕ) → cell_of cs name ≡ cell_of ds name) where
@@ -89,18 +91,15 @@ module _ (cells : Cells) (cs ds : List Component) (same : (name : List ℕ) → 
   list_same common (list_texts.Floating es) = rw (map_same (element_of cells cs common) (element_of cells ds common) es (element_same common)) refl
   list_same common (list_texts.Ordered es) = rw (map_same (element_of cells cs common) (element_of cells ds common) es (element_same common)) refl
 
-  at_same : (side : Side) (common : Option CommonPins) (component : List ℕ) (pin : Option (List ℕ)) → end_at side cells cs common component pin ≡ end_at side cells ds common component pin
-  at_same side common component pin = rw (paths_same (plain_name component)) refl
-
-  by_same : (side : Side) (common : Option CommonPins) (component : List ℕ) (pin : Option (List ℕ)) → end_by side cells cs common component pin ≡ end_by side cells ds common component pin
-  by_same side common component None = at_same side common component None
-  by_same side common component (Some pin) = rw (at_same side common component (Some pin)) refl
+  end_same : (side : Side) (common : Option CommonPins) (t : Terminal) → end_of side cells cs common t ≡ end_of side cells ds common t
+  end_same side common (terminals.AtPin pin) = refl
+  end_same side common (terminals.AtCell component pin) = rw (paths_same (plain_name component)) refl
 
   pub chain_same : (c : Located Chain) → chain_of cells cs c ≡ chain_of cells ds c
   chain_same c =
       let common = c.statement.common_pins in
       let a = map_same (list_of cells cs common) (list_of cells ds common) c.statement.lists (list_same common) in
-      rw (by_same _ common c.statement.start.component c.statement.start.pin, by_same _ common c.statement.stop.component c.statement.stop.pin, a) refl
+      rw (end_same _ common c.statement.start, end_same _ common c.statement.stop, a) refl
 
 -- whether SCANCHAINS stands hangs on the kinds of the sections
 pub span_same : (nowhere : Span) (us ts : List Section) → map (λ s. s.kind) us ≡ map (λ s. s.kind) ts → option_map (λ s. nowhere) (chains_span us) ≡ option_map (λ s. nowhere) (chains_span ts)
