@@ -180,22 +180,32 @@ impl Tours {
         }
     }
 
-    // Takes a run of p's chain reversed, if that is better.
-    fn take_reversal(&self, link: &Link, from: u32, to: u32, longer: i64, best: &mut Change) {
-        if self.is_hopeful(longer, best, link) {
-            let longer = longer.wrapping_add(self.backwards(from, to));
-            if longer < best.longer {
-                let nodes = to.wrapping_sub(from).wrapping_add(1);
-                best.take(longer, Step::Reverse(link.p_run(from, nodes)), Step::Stay);
-            }
+    // Takes a run of p's chain reversed, if that is better; answers how many nodes were summed.
+    fn take_reversal(
+        &self,
+        link: &Link,
+        from: u32,
+        to: u32,
+        longer: i64,
+        best: &mut Change,
+    ) -> u64 {
+        if !self.is_hopeful(longer, best, link) {
+            return 0;
         }
+        let longer = longer.wrapping_add(self.backwards(from, to));
+        let nodes = to.wrapping_sub(from).wrapping_add(1);
+        if longer < best.longer {
+            best.take(longer, Step::Reverse(link.p_run(from, nodes)), Step::Stay);
+        }
+        if self.is_plain { 0 } else { u64::from(nodes) }
     }
 
-    /// Runs of one chain reversed, so that q follows p before it.
-    pub fn try_reversals(&self, link: &Link, reach: Reach, best: &mut Change) {
+    /// Runs of one chain reversed, so that q follows p before it; answers how many nodes were summed.
+    pub fn try_reversals(&self, link: &Link, reach: Reach, best: &mut Change) -> u64 {
         if link.q <= link.p || link.q.wrapping_sub(link.p) > reach.reversed {
-            return;
+            return 0;
         }
+        let mut summed = 0u64;
         let next = link.p.wrapping_add(1);
         let last = link.q.wrapping_sub(1);
         if link.q < link.q_last {
@@ -205,7 +215,7 @@ impl Tours {
                 .wrapping_sub(link.left)
                 .wrapping_add(self.between(next, behind))
                 .wrapping_sub(self.link_at(link.q));
-            self.take_reversal(link, next, link.q, longer, best);
+            summed = summed.wrapping_add(self.take_reversal(link, next, link.q, longer, best));
         }
         if link.p > link.p_first {
             let before = link.p.wrapping_sub(1);
@@ -214,8 +224,9 @@ impl Tours {
                 .wrapping_sub(link.lost)
                 .wrapping_add(self.between(before, last))
                 .wrapping_sub(self.link_at(before));
-            self.take_reversal(link, link.p, last, longer, best);
+            summed = summed.wrapping_add(self.take_reversal(link, link.p, last, longer, best));
         }
+        summed
     }
 
     // Whether a run may leave its chain for another one, or stays in it.

@@ -469,8 +469,17 @@ impl Tours {
         }
     }
 
-    // Brings a run to a place of another chain.
-    fn carry(&mut self, run: Run, chain: u32, to: u32) {
+    // How many nodes of a chain stand on the shorter side of a place.
+    fn beside(&self, chain: u32, from: u32) -> u64 {
+        let behind = self.tour(chain).nodes.wrapping_sub(from);
+        u64::from(from.min(behind))
+    }
+
+    // Brings a run to a place of another chain; answers how many nodes were moved, about.
+    fn carry(&mut self, run: Run, chain: u32, to: u32) -> u64 {
+        let moved = self
+            .beside(run.chain, run.from)
+            .wrapping_add(self.beside(chain, to));
         let from = self.first(run.chain).wrapping_add(run.from);
         for t in 0..self.within(run.nodes) {
             let node = self.node(from.wrapping_add(t));
@@ -488,6 +497,7 @@ impl Tours {
             let node = at(self.spare.as_slice(), t);
             self.set(chain, into.wrapping_add(t), node);
         }
+        moved
     }
 
     // Brings bits from one chain to another.
@@ -498,7 +508,7 @@ impl Tours {
         self.count_in(to, other.first, other.nodes, other.bits.wrapping_add(bits));
     }
 
-    fn exchange(&mut self, one: Run, other: Run) {
+    fn exchange(&mut self, one: Run, other: Run) -> u64 {
         let i = self.first(one.chain).wrapping_add(one.from);
         let j = self.first(other.chain).wrapping_add(other.from);
         let given = self.bits_from(i, one.nodes);
@@ -517,24 +527,35 @@ impl Tours {
                 from: one.from.wrapping_add(both),
                 nodes: one.nodes.wrapping_sub(both),
             };
-            self.carry(rest, other.chain, other.from.wrapping_add(both));
+            self.carry(rest, other.chain, other.from.wrapping_add(both))
         } else if other.nodes > both {
             let rest = Run {
                 chain: other.chain,
                 from: other.from.wrapping_add(both),
                 nodes: other.nodes.wrapping_sub(both),
             };
-            self.carry(rest, one.chain, one.from.wrapping_add(both));
+            self.carry(rest, one.chain, one.from.wrapping_add(both))
+        } else {
+            0
         }
     }
 
-    /// Takes a step.
-    pub fn take(&mut self, step: Step) {
+    /// Takes a step; answers how many nodes it moved, about.
+    pub fn take(&mut self, step: Step) -> u64 {
         match step {
-            Step::Stay => {}
-            Step::Reverse(run) => self.reverse(run),
-            Step::Rotate(run, first) => self.rotate(run, first),
-            Step::Exchange(one, other) => self.exchange(one, other),
+            Step::Stay => 0,
+            Step::Reverse(run) => {
+                self.reverse(run);
+                u64::from(run.nodes)
+            }
+            Step::Rotate(run, first) => {
+                self.rotate(run, first);
+                u64::from(run.nodes).wrapping_mul(2)
+            }
+            Step::Exchange(one, other) => {
+                let nodes = u64::from(one.nodes).wrapping_add(u64::from(other.nodes));
+                nodes.wrapping_add(self.exchange(one, other))
+            }
         }
     }
 

@@ -213,6 +213,49 @@ fn move_one(
     true
 }
 
+// In designs of so many units a chain may lie so that one unit alone can go in each pass.
+const MANY: usize = 500;
+
+/// As `move_one`. In a large design the units that stood beside the one that went are tried next, and so on, as long as one goes: each may
+/// have been kept at its place by the last one alone.
+fn move_on(
+    rules: &Rules,
+    ends: &Ends,
+    plan: &mut Work,
+    blocks: &mut [Block],
+    c: usize,
+    i: usize,
+    d: usize,
+) -> bool
+    requires searchable { AreSearchable rules.now ends.now }
+    requires legal { IsLegal rules.now plan.old.plan }
+    requires kept { IsKept rules.now plan.old }
+    requires chain { c < length plan.old.plan.chains }
+    requires other { d < length plan.old.plan.chains }
+    requires room { length rules.now.units < 32 * length blocks.old }
+    requires blocks { AreBlocks (chain_ends ends.now d) (chain_at plan.old.plan d) blocks.old }
+    ensures legal { IsLegal rules.now plan.new.plan }
+    ensures kept { IsKept rules.now plan.new }
+    ensures shorter { plan_length_of ends.now plan.new.plan + cond result 1 0 ≤ plan_length_of ends.now plan.old.plan }
+    ensures room { length blocks.new ≡ length blocks.old }
+    ensures blocks { AreBlocks (chain_ends ends.now d) (chain_at plan.new.plan d) blocks.new }
+    ensures quiet { ¬ IsTrue result → (plan.new.plan ≡ plan.old.plan) × (i < length (chain_at plan.old.plan c) → NoMoveTo rules.now ends.now plan.old.plan c i d) }
+{
+    if !move_one(rules, ends, plan, blocks, c, i, d) {
+        return false;
+    }
+    let mut place = i;
+    let mut again = rules.units.as_slice().len() >= MANY;
+    'units: while again {
+        if place > 0 && move_one(rules, ends, plan, blocks, c, place - 1, d) {
+            place -= 1;
+        } else {
+            again = move_one(rules, ends, plan, blocks, c, place, d);
+        }
+    }
+    true
+}
+
 /// Moves each unit of chain c once to chain d, where such a move makes the plan shorter, and tells whether one did. The
 /// blocks are those of chain d, before and afterwards.
 fn moves_between(
@@ -242,7 +285,7 @@ fn moves_between(
     }
     let mut again = false;
     for i in 0..plan.chain(c).len() {
-        if move_one(rules, ends, plan, blocks, c, i, d) {
+        if move_on(rules, ends, plan, blocks, c, i, d) {
             again = true;
         }
     }

@@ -1,7 +1,7 @@
 //! The search itself: steps while they gain, then small perturbations that are repaired and kept or undone.
 //!
 //! All of it counts down one number, the work: eight for each link that is tried and each perturbation, one for each pair of
-//! runs. So it ends, and takes the same steps on every machine.
+//! runs, and among very many units one for each eight nodes that are moved or summed. So it ends, and takes the same steps on every machine.
 use crate::carries::try_carries;
 use crate::near::{KEPT, NearUnits};
 use crate::progress::{Progress, Told};
@@ -13,6 +13,11 @@ use std::alloc::Global;
 
 // The work for a link.
 const LINK: u64 = 8;
+
+// How many nodes are moved or summed for one of work, and from how many units on: the runs of fewer are so short that this takes little.
+const NODES: u64 = 8;
+
+const MANY: u32 = 10000;
 
 // The most steps that one perturbation and its repair take.
 const STEPS: u32 = 1024;
@@ -63,6 +68,13 @@ impl Climb {
         self.work = self.work.saturating_sub(work);
     }
 
+    // Spends the work for nodes that were moved or summed.
+    fn spend_nodes(&mut self, nodes: u64) {
+        if self.tours.units >= MANY {
+            self.spend(nodes / NODES);
+        }
+    }
+
     // Finds the best step that makes a link, which is tried from its first node or from its second one.
     fn try_link(&mut self, link: &Link, reach: Reach, is_out: bool, best: &mut Change) {
         self.spend(LINK);
@@ -73,11 +85,12 @@ impl Climb {
             let thirds = self.try_thirds(link, reach, is_out, best);
             self.spend(thirds);
         }
-        let tours = &self.tours;
         let within = link.is_within_chain();
-        if within && !(reach.thirds && tours.is_plain) {
-            tours.try_reversals(link, reach, best);
+        if within && !(reach.thirds && self.tours.is_plain) {
+            let summed = self.tours.try_reversals(link, reach, best);
+            self.spend_nodes(summed);
         }
+        let tours = &self.tours;
         if !reach.thirds {
             tours.try_runs_from_q(link, best);
             tours.try_runs_to_p(link, best);
@@ -173,7 +186,8 @@ impl Climb {
 
     // Takes a step and writes it down.
     fn take(&mut self, step: Step) {
-        self.tours.take(step);
+        let moved = self.tours.take(step);
+        self.spend_nodes(moved);
         put(self.log.as_mut_slice(), self.logged, step);
         self.logged = self.logged.wrapping_add(1);
     }
@@ -183,7 +197,8 @@ impl Climb {
         for k in 0..self.logged {
             let place = self.logged.wrapping_sub(1).wrapping_sub(k);
             let step = item(self.log.as_slice(), place, Step::Stay);
-            self.tours.take(step.undone());
+            let moved = self.tours.take(step.undone());
+            self.spend_nodes(moved);
         }
     }
 
