@@ -1,5 +1,5 @@
-//! The components of a design by their names, and the scan paths that the table gives them.
-ghost use Rattle.std.specs.Prelude.{◌≡◌, option_map, option_and_then, slice_get, IfOk};
+//! The components of a design, and the scan paths that the table gives them.
+ghost use Rattle.std.specs.Prelude.{◌≡◌, option_map, option_and_then};
 ghost use Rattle.std.specs.List.{find};
 ghost use Rattle.std.specs.Str.{bytes_eq};
 ghost use Rattle.cell_table.specs.Table.{paths_at};
@@ -8,64 +8,15 @@ ghost use Rattle.design_elements.specs.CellPins.{path_number, path_named, out_nu
 ghost use Rattle.design_elements.specs.Judging.{pins_at};
 
 use crate::pins::{Pins, out_among, path_among};
-use base_types::NoMemory;
 use cell_table::{CellTable, ScanPath};
-use def_reader::{Component, places_by_name};
-use std::alloc::Global;
-use std::collections::HashMap;
+use def_reader::{Component, NamedRows};
 use std::marker::Model;
-
-/// Components with their places by name. Contracts see the components.
-#[derive(Drop)]
-pub(crate) struct Components<'d> {
-    components: &'d [Component],
-    places: HashMap<&'d [u8], usize>,
-}
-
-impl<'d> Model for Components<'d> {
-    ghost use Rattle.std.specs.Prelude.{List, length};
-    ghost use Rattle.def_reader.specs.declared.design.Component.{Component};
-    ghost use Rattle.def_reader.specs.Places.{AreNoted};
-
-    ghost Value = { List Component };
-
-    ghost view = { λ c. c.components.now };
-
-    ghost invariant = { λ c. AreNoted (λ component. component.name) c.places c.components.now (length c.components.now) };
-}
-
-fn component_at(components: &[Component], place: usize) -> Option<&Component>
-    ensures value { option_map (λ c. c.now) result ≡ slice_get components.now place }
-{
-    components.get(place)
-}
-
-impl<'d> Components<'d> {
-    fn of(alloc: Global, components: &'d [Component]) -> Result<Components<'d>, NoMemory>
-        ensures value { IfOk result (λ c. c ≡ components.now) }
-    {
-        Ok(Components {
-            components,
-            places: places_by_name(alloc, components)?,
-        })
-    }
-
-    /// The first component of a name.
-    fn find(&self, name: &[u8]) -> Option<&'d Component>
-        ensures value { option_map (λ c. c.now) result ≡ find (λ c. bytes_eq c.name name.now) self.now }
-    {
-        match self.places.get(&name) {
-            Some(place) => component_at(self.components, *place),
-            None => None,
-        }
-    }
-}
 
 /// Components beside the table of cells. Contracts see both.
 #[derive(Drop)]
 pub(crate) struct Cells<'d> {
     table: &'d CellTable,
-    components: Components<'d>,
+    components: &'d NamedRows<Component>,
 }
 
 impl<'d> Model for Cells<'d> {
@@ -75,22 +26,15 @@ impl<'d> Model for Cells<'d> {
 
     ghost Value = { Cells × List Component };
 
-    ghost view = { λ c. (c.table.now, c.components) };
+    ghost view = { λ c. (c.table.now, c.components.now) };
 }
 
 impl<'d> Cells<'d> {
     /// The components of a design, beside a table.
-    pub(crate) fn of(
-        alloc: Global,
-        table: &'d CellTable,
-        components: &'d [Component],
-    ) -> Result<Cells<'d>, NoMemory>
-        ensures value { IfOk result (λ cells. cells ≡ (table.now, components.now)) }
+    pub(crate) fn of(table: &'d CellTable, components: &'d NamedRows<Component>) -> Cells<'d>
+        ensures value { result ≡ (table.now, components.now) }
     {
-        Ok(Cells {
-            table,
-            components: Components::of(alloc, components)?,
-        })
+        Cells { table, components }
     }
 
     /// The first component of a name.

@@ -6,9 +6,8 @@ ghost use Rattle.def_reader.specs.Steps.{IsLeast};
 ghost use Rattle.design_elements.specs.Faults.{element_count};
 ghost use Rattle.design_elements.specs.Judging.{IsBadChain};
 
-use crate::least::{lesser, line_if};
 use crate::pins::elements_in;
-use def_reader::{ElementList, ScanChainText};
+use def_reader::{ElementList, ScanChainText, lesser, line_if};
 
 /// Beyond so many elements a count stays as it is.
 const ENOUGH: usize = 65_537;

@@ -40,7 +40,7 @@ pub fn elements_of(
     ensures no_fault { OnOk result ((fault : Fault) → HoldsInElements table.now macros.now design.now fault → ⊥) }
 {
     let chains = design.chains.as_slice();
-    let cells = Cells::of(alloc, table, design.components.as_slice())?;
+    let cells = Cells::of(table, &design.components);
     if let Some(fault) = first_fault(alloc, &cells, macros, chains)? {
         return Err(ReadFault::Fault(fault));
     }

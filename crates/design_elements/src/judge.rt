@@ -8,9 +8,8 @@ ghost use Rattle.design_elements.specs.Faults.{is_unplaced, has_other_bits, has_
 ghost use Rattle.design_elements.specs.Judging.{pins_at, pins_fail, element_fails, chain_fails, IsBadChain};
 
 use crate::cells::Cells;
-use crate::least::{lesser, line_if};
 use crate::pins::{Pins, elements_in, pins_of};
-use def_reader::{Element, ElementList, EndText, ScanChainText};
+use def_reader::{Element, ElementList, EndText, ScanChainText, lesser, line_if};
 use lef_pins::Macros;
 
 /// What is judged of what a chain names.

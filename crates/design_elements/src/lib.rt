@@ -11,11 +11,9 @@ mod elements;
 mod first;
 mod judge;
 mod laws;
-mod least;
 mod numbers;
 mod partitions;
 mod pins;
-mod places;
 mod specs;
 mod twice;
 

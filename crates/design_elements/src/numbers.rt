@@ -1,72 +1,33 @@
 //! The numbers that a netlist gives to instances and to the nets of ports.
-ghost use Rattle.std.specs.Prelude.{◌≡◌, IfOk, length, option_map, slice_get};
-ghost use Rattle.netlist_core.specs.Netlists.{plain_of, IsNetlist};
-ghost use Rattle.def_reader.specs.Places.{AreNoted};
+ghost use Rattle.std.specs.Prelude.{◌≡◌, IfOk, option_map};
+ghost use Rattle.netlist_core.specs.Netlists.{IsNetlist};
 ghost use Rattle.def_reader.specs.Agreement.{port_named};
 ghost use Rattle.design_elements.specs.Elements.{instance_number, port_number};
 
-use crate::places::firsts;
 use base_types::NoMemory;
-use def_reader::add_place;
-use netlist_core::{NetId, NetName, Netlist, Port};
+use def_reader::{ByName, Ports};
+use netlist_core::{Instance, Netlist};
 use std::alloc::Global;
-use std::collections::HashMap;
 use std::marker::Model;
 
 /// The instances and the port bits of a netlist by their names. Contracts see the netlist.
 #[derive(Drop)]
 pub(crate) struct Numbers<'n> {
     netlist: &'n Netlist,
-    instances: HashMap<&'n [u8], usize>,
-    ports: HashMap<&'n [u8], usize>,
+    instances: ByName<'n, Instance>,
+    ports: Ports<'n>,
 }
 
 impl<'n> Model for Numbers<'n> {
-    ghost use Rattle.std.specs.Prelude.{Some, length};
+    ghost use Rattle.std.specs.Prelude.{◌≡◌};
     ghost use Rattle.netlist_core.specs.declared.netlist.Netlist.{Netlist};
-    ghost use Rattle.netlist_core.specs.Netlists.{plain_of, IsNetlist};
-    ghost use Rattle.def_reader.specs.Places.{AreNoted};
-    ghost use Rattle.design_elements.specs.Firsts.{AreFirsts};
+    ghost use Rattle.netlist_core.specs.Netlists.{IsNetlist};
 
     ghost Value = { Netlist };
 
     ghost view = { λ n. n.netlist.now };
 
-    ghost invariant = { λ n. IsNetlist n.netlist.now × AreFirsts (λ i. Some i.name) n.instances n.netlist.now.instances × AreNoted (λ port. plain_of n.netlist.now.nets port.net) n.ports n.netlist.now.ports (length n.netlist.now.ports) };
-}
-
-/// The plain name of a net; empty where there is no such net.
-fn plain_of(nets: &[NetName], net: NetId) -> &[u8]
-    ensures value { result.now ≡ plain_of nets.now net }
-{
-    match nets.get(net.0 as usize) {
-        Some(name) => name.plain.bytes(),
-        None => &[],
-    }
-}
-
-/// The places of the port bits by their plain names.
-fn ports_by_name<'n>(
-    alloc: Global,
-    nets: &'n [NetName],
-    ports: &[Port],
-) -> Result<HashMap<&'n [u8], usize>, NoMemory>
-    ensures value { IfOk result (λ places. AreNoted (λ port. plain_of nets.now port.net) places ports.now (length ports.now)) }
-{
-    let mut places = HashMap::new(alloc);
-    for (place, port) in ports.iter().enumerate() {
-        add_place(&mut places, plain_of(nets, port.net), place)?;
-    }
-    Ok(places)
-}
-
-fn net_at(ports: &[Port], place: usize) -> Option<u32>
-    ensures value { result ≡ option_map (λ p. p.net.0) (slice_get ports.now place) }
-{
-    match ports.get(place) {
-        Some(port) => Some(port.net.0),
-        None => None,
-    }
+    ghost invariant = { λ n. IsNetlist n.netlist.now × (n.instances ≡ n.netlist.now.instances) × (n.ports ≡ n.netlist.now) };
 }
 
 impl<'n> Numbers<'n> {
@@ -77,8 +38,8 @@ impl<'n> Numbers<'n> {
     {
         Ok(Numbers {
             netlist,
-            instances: firsts(alloc, netlist.instances.as_slice())?,
-            ports: ports_by_name(alloc, netlist.nets.as_slice(), netlist.ports.as_slice())?,
+            instances: ByName::of(alloc, netlist.instances.as_slice())?,
+            ports: Ports::of(alloc, netlist)?,
         })
     }
 
@@ -86,8 +47,8 @@ impl<'n> Numbers<'n> {
     pub(crate) fn instance(&self, name: &[u8]) -> u32
         ensures value { result ≡ instance_number self.now name.now }
     {
-        match self.instances.get(&name) {
-            Some(place) => *place as u32,
+        match self.instances.place(name) {
+            Some(place) => place as u32,
             None => self.netlist.instances.as_slice().len() as u32,
         }
     }
@@ -96,8 +57,8 @@ impl<'n> Numbers<'n> {
     fn net_of(&self, name: &[u8]) -> Option<u32>
         ensures value { result ≡ option_map (λ p. p.net.0) (port_named self.now name.now) }
     {
-        match self.ports.get(&name) {
-            Some(place) => net_at(self.netlist.ports.as_slice(), *place),
+        match self.ports.named(name) {
+            Some(port) => Some(port.net.0),
             None => None,
         }
     }

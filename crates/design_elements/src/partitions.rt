@@ -1,10 +1,10 @@
 //! The partitions of chains.
 ghost use Rattle.std.specs.Prelude.{◌≡◌, IfOk};
 ghost use Rattle.design_elements.specs.Elements.{partition_number};
+ghost use Rattle.design_elements.specs.Firsts.{AreFirsts};
 
-use crate::places::firsts;
 use base_types::{Name, NoMemory};
-use def_reader::ScanChainText;
+use def_reader::{ScanChainText, add_place};
 use std::alloc::Global;
 use std::collections::HashMap;
 use std::marker::Model;
@@ -25,7 +25,23 @@ impl<'d> Model for Partitions<'d> {
 
     ghost view = { λ p. p.chains.now };
 
-    ghost invariant = { λ p. AreFirsts (λ c. c.partition) p.firsts p.chains.now };
+    ghost invariant = { λ p. AreFirsts p.firsts p.chains.now };
+}
+
+/// The places of the first chain of each partition.
+fn firsts<'d>(
+    alloc: Global,
+    chains: &'d [ScanChainText],
+) -> Result<HashMap<&'d [u8], usize>, NoMemory>
+    ensures value { IfOk result (λ places. AreFirsts places chains.now) }
+{
+    let mut places = HashMap::new(alloc);
+    for (place, chain) in chains.iter().enumerate() {
+        if let Some(name) = &chain.partition {
+            add_place(&mut places, name.bytes(), place)?;
+        }
+    }
+    Ok(places)
 }
 
 impl<'d> Partitions<'d> {

@@ -8,10 +8,9 @@ ghost use Rattle.design_elements.specs.Faults.{element_rows, all_rows};
 ghost use Rattle.design_elements.specs.Seen.{IsSeenElements, row_of};
 
 use crate::cells::Cells;
-use crate::least::{lesser, line_if};
 use crate::pins::{elements_in, pins_of};
 use base_types::NoMemory;
-use def_reader::{Element, ElementList, ScanChainText};
+use def_reader::{Element, ElementList, ScanChainText, lesser, line_if};
 use std::alloc::Global;
 use std::collections::HashSet;
 

@@ -45,29 +45,21 @@ look_same x q (entry ∷ es) e =
     let test : same_key x entry.0 ≡ same_key q entry.0 = key_is x entry.0 ∙ ap (same_pin (pin_of_key entry.0)) e ∙ sym (key_is q entry.0) in
     ap (λ (t : Bool). cond t (Some entry.1) (lookup (same_key x) es)) test ∙ ap (cond (same_key q entry.0) (Some entry.1)) (look_same x q es e)
 
-is_nothing : (o : Option ℕ) → false ≡ is_some o → o ≡ None
-is_nothing None e = refl
-is_nothing (Some n) e = absurd cc
-
 or_none : (o : Option ℕ) → o ≡ option_or o None
 or_none None = refl
 or_none (Some n) = refl
-
-or_some : (o r : Option ℕ) → true ≡ is_some o → o ≡ option_or o r
-or_some None r e = absurd cc
-or_some (Some n) r e = refl
 
 module _ (key q : PinKey) (es : List (PinKey × ℕ)) (place : ℕ) (pin : NetPin) (named : pin_of_key key ≡ pin) where
   test_is : same_key key q ≡ same_pin (pin_of_key q) pin
   test_is = key_is key q ∙ ap (same_pin (pin_of_key q)) named
 
   -- a pin that has no place yet gets one
-  pub pin_added : (new : Option ℕ) → false ≡ is_some (lookup (same_key key) es) → new ≡ cond (same_key key q) (Some place) (lookup (same_key q) es)
+  pub pin_added : (new : Option ℕ) → None ≡ lookup (same_key key) es → new ≡ cond (same_key key q) (Some place) (lookup (same_key q) es)
       → new ≡ option_or (lookup (same_key q) es) (cond (same_pin (pin_of_key q) pin) (Some place) None)
   pin_added new none is =
       elim (cases_Bool (same_key key q)) [
         | inl same ↦
-            let nothing : lookup (same_key q) es ≡ None = sym (look_same key q es (key_exact key q same)) ∙ is_nothing _ none in
+            let nothing : lookup (same_key q) es ≡ None = sym (none ∙ look_same key q es (key_exact key q same)) in
             is ∙ ap (λ (t : Bool). cond t (Some place) (lookup (same_key q) es)) same
             ∙ sym (ap (λ (o : Option ℕ). option_or o (cond (same_pin (pin_of_key q) pin) (Some place) None)) nothing ∙ ap (λ (t : Bool). cond t (Some place) None) (sym test_is ∙ same))
         | inr other ↦
@@ -75,12 +67,17 @@ module _ (key q : PinKey) (es : List (PinKey × ℕ)) (place : ℕ) (pin : NetPi
             ∙ ap (λ (t : Bool). option_or (lookup (same_key q) es) (cond t (Some place) None)) (sym other ∙ test_is)
       ]
 
-  -- one that has a place keeps it
-  pub pin_kept : true ≡ is_some (lookup (same_key key) es) → lookup (same_key q) es ≡ option_or (lookup (same_key q) es) (cond (same_pin (pin_of_key q) pin) (Some place) None)
-  pin_kept some =
+  -- one that had a place gets it back
+  pub pin_back : (first : ℕ) (mid new : Option ℕ) → Some first ≡ lookup (same_key key) es → mid ≡ cond (same_key key q) (Some place) (lookup (same_key q) es) → new ≡ cond (same_key key q) (Some first) mid
+      → new ≡ option_or (lookup (same_key q) es) (cond (same_pin (pin_of_key q) pin) (Some place) None)
+  pin_back first mid new there was is =
       elim (cases_Bool (same_key key q)) [
-        | inl same ↦ or_some (lookup (same_key q) es) _ (some ∙ ap is_some (look_same key q es (key_exact key q same)))
-        | inr other ↦ or_none (lookup (same_key q) es) ∙ ap (λ (t : Bool). option_or (lookup (same_key q) es) (cond t (Some place) None)) (sym other ∙ test_is)
+        | inl same ↦
+            let found : lookup (same_key q) es ≡ Some first = sym (there ∙ look_same key q es (key_exact key q same)) in
+            is ∙ ap (λ (t : Bool). cond t (Some first) mid) same ∙ sym (ap (λ (o : Option ℕ). option_or o (cond (same_pin (pin_of_key q) pin) (Some place) None)) found)
+        | inr other ↦
+            is ∙ ap (λ (t : Bool). cond t (Some first) mid) other ∙ was ∙ ap (λ (t : Bool). cond t (Some place) (lookup (same_key q) es)) other ∙ or_none (lookup (same_key q) es)
+            ∙ ap (λ (t : Bool). option_or (lookup (same_key q) es) (cond t (Some place) None)) (sym other ∙ test_is)
       ]
 
 or_again : (o : Option ℕ) (a b : Bool) (place : ℕ) → option_or (option_or o (cond a (Some place) None)) (cond b (Some place) None) ≡ option_or o (cond (a || b) (Some place) None)

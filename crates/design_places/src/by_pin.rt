@@ -9,7 +9,7 @@ ghost use Rattle.design_places.specs.NetPins.{same_pin, net_with};
 ghost use Rattle.design_places.specs.PinPlaces.{ArePinsNoted};
 
 use base_types::NoMemory;
-use def_reader::{Net, NetPin};
+use def_reader::{Net, NetPin, count_connections};
 use std::alloc::Global;
 use std::collections::HashMap;
 use std::marker::Model;
@@ -40,10 +40,13 @@ fn add_pin<'d>(
     ensures ok { OnOk result ((q : PinKey) → get same_key places.new q ≡ option_or (get same_key places.old q) (if same_pin (pin_of_key q) pin.now then Some place else None)) }
 {
     let key = key_of(pin);
-    if !places.contains_key(&key) {
-        places.insert(key, place)?;
+    match places.insert(key, place)? {
+        Some(first) => {
+            places.insert(key, first)?;
+            Ok(())
+        }
+        None => Ok(()),
     }
-    Ok(())
 }
 
 /// Notes the place of a net by its pins.
@@ -67,7 +70,7 @@ fn places_by_pin<'d>(
 ) -> Result<HashMap<(Option<&'d [u8]>, &'d [u8]), usize>, NoMemory>
     ensures value { IfOk result (λ places. ArePinsNoted places nets.now (length nets.now)) }
 {
-    let mut places = HashMap::new(alloc);
+    let mut places = HashMap::with_capacity(alloc, count_connections(nets))?;
     for (place, net) in nets.iter().enumerate() {
         add_net(&mut places, net, place)?;
     }

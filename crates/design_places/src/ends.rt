@@ -119,7 +119,7 @@ pub fn ends_of(
     // Every place is near enough to be measured.
     ensures placed { IfOk result ArePlaced }
 {
-    let layout = Layout::of(alloc, netlist, table, macros, design)?;
+    let layout = Layout::of(netlist, table, macros, design);
     let units = rules.units.as_slice();
     let chains = rules.chains.as_slice();
     Ok(Ends {

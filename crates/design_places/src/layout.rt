@@ -1,30 +1,27 @@
 //! A netlist in a placed design: where the pins and the ports of its paths stand.
-ghost use Rattle.std.specs.Prelude.{◌≡◌, ◌+◌, ◌<◌, option_map, IfOk};
+ghost use Rattle.std.specs.Prelude.{◌≡◌, ◌+◌, ◌<◌, option_map};
 ghost use Rattle.wire_cost.specs.Lengths.{IsNearOrNowhere};
 ghost use Rattle.def_reader.specs.Sound.{IsSoundPoint};
 ghost use Rattle.design_places.specs.Ends.{placed_named, placed_at, in_point, out_point, doubled, port_point, source_point, sink_point, source_on, sink_on};
 ghost use Rattle.design_places.specs.Layouts.{IsFit, pin_point};
 
-use crate::cells::{Components, DesignPins};
+use crate::cells::Components;
 use crate::instances::instance_at;
-use base_types::{Name, NoMemory, Point};
+use base_types::{Name, Point};
 use cell_table::CellTable;
 use chain_trace::{Path, Step, out_pin, plain_of, scan_path};
 use def_reader::Design;
 use lef_pins::Macros;
 use netlist_core::{NetId, Netlist};
-use std::alloc::Global;
 use std::marker::Model;
 
-/// A netlist with the table of its cells, and a design with its components and design pins by name and the macros of its cells.
-/// Contracts see netlist, table, macros and design.
+/// A netlist with the table of its cells, and a design with the macros of its cells. Contracts see netlist, table, macros and design.
 #[derive(Drop)]
 pub(crate) struct Layout<'d> {
     netlist: &'d Netlist,
     table: &'d CellTable,
     design: &'d Design,
     components: Components<'d>,
-    pins: DesignPins<'d>,
 }
 
 impl<'d> Model for Layout<'d> {
@@ -35,7 +32,7 @@ impl<'d> Model for Layout<'d> {
 
     ghost view = { λ l. record { netlist = l.netlist.now; cells = l.table.now; macros = l.components.0; design = l.design.now } };
 
-    ghost invariant = { λ l. (l.components.1 ≡ l.design.now.components) × (l.pins ≡ l.design.now.pins) };
+    ghost invariant = { λ l. l.components.1 ≡ l.design.now.components };
 }
 
 /// Twice a point.
@@ -55,21 +52,19 @@ fn doubled(point: Option<Point>) -> Option<Point>
 
 impl<'d> Layout<'d> {
     pub(crate) fn of(
-        alloc: Global,
         netlist: &'d Netlist,
         table: &'d CellTable,
         macros: &'d Macros,
         design: &'d Design,
-    ) -> Result<Layout<'d>, NoMemory>
-        ensures value { IfOk result (λ l. l ≡ record { netlist = netlist.now; cells = table.now; macros = macros.now; design = design.now }) }
+    ) -> Layout<'d>
+        ensures value { result ≡ record { netlist = netlist.now; cells = table.now; macros = macros.now; design = design.now } }
     {
-        Ok(Layout {
+        Layout {
             netlist,
             table,
             design,
-            components: Components::of(alloc, macros, design.components.as_slice())?,
-            pins: DesignPins::of(alloc, design.pins.as_slice())?,
-        })
+            components: Components::of(macros, &design.components),
+        }
     }
 
     /// Where a pin of the component of a name stands.
@@ -129,7 +124,11 @@ impl<'d> Layout<'d> {
         ensures value { result ≡ port_point self.now.netlist self.now.design net }
         ensures near { IsNearOrNowhere result }
     {
-        match self.pins.named(plain_of(self.netlist.nets.as_slice(), net)) {
+        match self
+            .design
+            .pins
+            .find(plain_of(self.netlist.nets.as_slice(), net))
+        {
             Some(pin) => doubled(pin.place),
             None => None,
         }

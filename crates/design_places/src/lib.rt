@@ -12,7 +12,7 @@ mod cells;
 mod ends;
 mod instances;
 mod layout;
-mod least;
+mod lines;
 mod nets;
 mod places;
 

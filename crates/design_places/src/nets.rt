@@ -7,26 +7,23 @@ ghost use Rattle.design_places.specs.NetPins.{is_alone, lacks_in_net, lacks_out_
 ghost use Rattle.design_places.specs.Lines.{ForOne, StepLacks, PortLacks, PathLacks};
 
 use crate::by_pin::Nets;
-use crate::cells::DesignPins;
 use crate::instances::instance_at;
-use crate::least::{in_verilog, lesser, step_line};
+use crate::lines::{in_verilog, step_line};
 use base_types::{Kind, Name, NoMemory, ReadFault};
 use cell_table::CellTable;
 use chain_trace::{Path, Sink, Step, out_pin, plain_of, scan_path, sink_line};
-use def_reader::{Design, DesignPin, Net};
+use def_reader::{Design, DesignPin, Net, lesser};
 use netlist_core::{NetId, Netlist};
 use std::alloc::Global;
 use std::marker::Model;
 
-/// A netlist with the table of its cells, and a design with its nets by their pins and its design pins by name. Contracts see netlist,
-/// table and design.
+/// A netlist with the table of its cells, and a design with its nets by their pins. Contracts see netlist, table and design.
 #[derive(Drop)]
 struct Traced<'d> {
     netlist: &'d Netlist,
     table: &'d CellTable,
     design: &'d Design,
     nets: Nets<'d>,
-    pins: DesignPins<'d>,
 }
 
 impl<'d> Model for Traced<'d> {
@@ -37,7 +34,7 @@ impl<'d> Model for Traced<'d> {
 
     ghost view = { λ t. record { netlist = t.netlist.now; cells = t.table.now; design = t.design.now } };
 
-    ghost invariant = { λ t. (t.nets ≡ t.design.now.nets) × (t.pins ≡ t.design.now.pins) };
+    ghost invariant = { λ t. t.nets ≡ t.design.now.nets };
 }
 
 fn names_other(net: &Net, pin: Option<&DesignPin>) -> bool
@@ -63,7 +60,6 @@ impl<'d> Traced<'d> {
             table,
             design,
             nets: Nets::of(alloc, design.nets.as_slice())?,
-            pins: DesignPins::of(alloc, design.pins.as_slice())?,
         })
     }
 
@@ -106,7 +102,7 @@ impl<'d> Traced<'d> {
     {
         let name = plain_of(self.netlist.nets.as_slice(), net);
         match self.nets.with_port(name) {
-            Some(found) => names_other(found, self.pins.named(name)),
+            Some(found) => names_other(found, self.design.pins.find(name)),
             None => true,
         }
     }

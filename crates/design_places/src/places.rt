@@ -8,11 +8,11 @@ ghost use Rattle.design_places.specs.Lines.{ForOne, nowhere_in, IsNowhere, GoesN
 
 use crate::cells::Components;
 use crate::instances::instance_at;
-use crate::least::{in_verilog, lesser, step_line};
+use crate::lines::{in_verilog, step_line};
 use base_types::{Kind, ReadFault};
 use cell_table::CellTable;
 use chain_trace::{Path, Step};
-use def_reader::Design;
+use def_reader::{Design, lesser};
 use lef_pins::Macros;
 use netlist_core::Netlist;
 use std::alloc::Global;
@@ -59,10 +59,10 @@ fn least_nowhere(components: &Components<'_>, netlist: &Netlist, paths: &[Path])
     least
 }
 
-/// Whether each cell of the paths is placed and has a macro. Else PlaceUnknown at the least line of an instance without; or want of
-/// memory. The table isn't looked at.
+/// Whether each cell of the paths is placed and has a macro. Else PlaceUnknown at the least line of an instance without. The table
+/// isn't looked at, and no memory is taken.
 pub fn check_places(
-    alloc: Global,
+    _alloc: Global,
     netlist: &Netlist,
     _table: &CellTable,
     macros: &Macros,
@@ -72,7 +72,7 @@ pub fn check_places(
     ensures fault { IfFault result (IsFirstFault (HoldsInPlaces netlist.now macros.now design.now paths.now)) }
     ensures no_fault { OnOk result ((fault : Fault) → HoldsInPlaces netlist.now macros.now design.now paths.now fault → ⊥) }
 {
-    let components = Components::of(alloc, macros, design.components.as_slice())?;
+    let components = Components::of(macros, &design.components);
     match least_nowhere(&components, netlist, paths) {
         Some(line) => Err(in_verilog(Kind::PlaceUnknown, line)),
         None => Ok(()),

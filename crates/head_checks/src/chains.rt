@@ -7,9 +7,8 @@ ghost use Rattle.std.specs.Str.{bytes_eq};
 ghost use Rattle.def_reader.specs.Steps.{IsLeast};
 ghost use Rattle.head_checks.specs.Heads.{starts_undeclared, stops_undeclared, is_undeclared, FailsOn, HoldsInChains};
 
-use crate::least::{lesser, line_if};
 use base_types::{Fault, FileKind, Kind};
-use def_reader::{Design, EndText, ScanChainText};
+use def_reader::{Design, EndText, ScanChainText, lesser, line_if};
 use stil_types::{ScanChainDecl, StilHead};
 
 fn has_input(chains: &[ScanChainDecl], name: &[u8]) -> bool

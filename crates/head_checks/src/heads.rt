@@ -9,11 +9,11 @@ ghost use Rattle.std.specs.List.{zip};
 ghost use Rattle.def_reader.specs.Steps.{IsLeast};
 ghost use Rattle.head_checks.specs.Heads.{FailsOn, line_of, HoldsInHeads, are_listed};
 
-use crate::least::{lesser, line_if};
 use crate::tests::{OtherCells, OtherInversion, OtherLength, OtherPort, Test};
 use base_types::{Fault, FileKind, Kind, NoMemory, ReadFault};
 use cell_table::CellTable;
 use chain_trace::Path;
+use def_reader::{lesser, line_if};
 use netlist_core::Netlist;
 use std::alloc::Global;
 use stil_types::{ScanChainDecl, StilHead};

@@ -9,7 +9,6 @@
 mod cells;
 mod chains;
 mod heads;
-mod least;
 mod names;
 mod paths;
 mod tests;

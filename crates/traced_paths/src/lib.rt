@@ -10,7 +10,6 @@ mod asks;
 mod bits;
 mod extras;
 mod free;
-mod least;
 mod numbers;
 mod outputs;
 mod paths;

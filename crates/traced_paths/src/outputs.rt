@@ -6,8 +6,9 @@ ghost use Rattle.traced_paths.specs.Traced.{LacksPort};
 ghost use Rattle.traced_paths.specs.Steps.{told, HaveOutputs, AreOutputs, AreFull, IsTooMany};
 
 use crate::asks::Ask;
-use crate::ports::Ports;
+use crate::ports::output;
 use base_types::{Fault, FileKind, Kind, NoMemory, ReadFault};
+use def_reader::Ports;
 use netlist_core::NetId;
 use std::alloc::Global;
 use std::collections::HashSet;
@@ -35,7 +36,7 @@ fn put_output<'a>(
     if nets.len() == MOST_PATHS {
         return Ok(false);
     }
-    let Some(net) = ports.output(name) else {
+    let Some(net) = output(ports, name) else {
         unreachable!()
     };
     nets.push(net)?;

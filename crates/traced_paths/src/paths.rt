@@ -14,13 +14,13 @@ ghost use Rattle.traced_paths.specs.Steps.{told};
 
 use crate::asks::{Ask, asks_of};
 use crate::outputs::outputs_of;
-use crate::ports::{Ports, least_lacking};
+use crate::ports::least_lacking;
 use crate::shared::least_shared;
 use crate::tracing::trace_all;
 use base_types::{Fault, FileKind, Kind, ReadFault};
 use cell_table::CellTable;
 use chain_trace::{Path, Tracer};
-use def_reader::Design;
+use def_reader::{Design, Ports};
 use netlist_core::{Classes, Netlist};
 use std::alloc::Global;
 use stil_types::StilHead;

@@ -5,9 +5,9 @@ ghost use Rattle.chain_trace.specs.Drivers.{AreMarks};
 ghost use Rattle.def_reader.specs.Steps.{IsLeast};
 ghost use Rattle.traced_paths.specs.Steps.{is_marked, IsMarked, StandsAgain};
 
-use crate::least::{lesser, line_if};
 use base_types::NoMemory;
 use chain_trace::{Path, Sink, Step, sink_line};
+use def_reader::{lesser, line_if};
 use netlist_core::Netlist;
 use std::alloc::Global;
 use std::collections::HashSet;

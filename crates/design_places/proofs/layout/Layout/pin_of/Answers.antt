@@ -13,19 +13,19 @@ use Rattle.design_places.proofs.layout.Layout.pin_of.Goals as goal
 
 pub point-requires-clause-measured : goal.point-requires-clause-measured
 point-requires-clause-measured c =
-    let named = c.in-Some.ensures.value ∙ ap (λ (l : List Component). option_and_then (placed_of c.self.inside.components.0) (find (λ (x : Component). bytes_eq x.name c.args.name.now) l)) c.self.invariant.0 in
+    let named = c.in-Some.ensures.value ∙ ap (λ (l : List Component). option_and_then (placed_of c.self.inside.components.0) (find (λ (x : Component). bytes_eq x.name c.args.name.now) l)) c.self.invariant in
     let fit = subst IsFit (sym c.self.view_is) c.requires.fit in
     (placed_fits c.self.inside.components.0 c.self.inside.design.now fit.design fit.macros c.args.name.now c.in-Some.standing (sym named)).shape
 
 pub point-requires-clause-placed : goal.point-requires-clause-placed
 point-requires-clause-placed c =
-    let named = c.in-Some.ensures.value ∙ ap (λ (l : List Component). option_and_then (placed_of c.self.inside.components.0) (find (λ (x : Component). bytes_eq x.name c.args.name.now) l)) c.self.invariant.0 in
+    let named = c.in-Some.ensures.value ∙ ap (λ (l : List Component). option_and_then (placed_of c.self.inside.components.0) (find (λ (x : Component). bytes_eq x.name c.args.name.now) l)) c.self.invariant in
     let fit = subst IsFit (sym c.self.view_is) c.requires.fit in
     (placed_fits c.self.inside.components.0 c.self.inside.design.now fit.design fit.macros c.args.name.now c.in-Some.standing (sym named)).at
 
 pub returns-in-Some-clause-value : goal.returns-in-Some-clause-value
 returns-in-Some-clause-value c =
-    let named = c.in-Some.ensures.value ∙ ap (λ (l : List Component). option_and_then (placed_of c.self.inside.components.0) (find (λ (x : Component). bytes_eq x.name c.args.name.now) l)) c.self.invariant.0 in
+    let named = c.in-Some.ensures.value ∙ ap (λ (l : List Component). option_and_then (placed_of c.self.inside.components.0) (find (λ (x : Component). bytes_eq x.name c.args.name.now) l)) c.self.invariant in
     let stands : ℤ → Point = λ units. pin_place c.in-Some.standing.shape c.args.pin.now c.in-Some.standing.at c.in-Some.standing.orient units in
     let fit = subst IsFit (sym c.self.view_is) c.requires.fit in
     let some = fit.design.units_some in
