@@ -1,41 +1,27 @@
 //! Components as COMPONENTS writes them.
-ghost use Rattle.std.specs.Prelude.{◌≡◌, IfOk, option_map, slice_get};
+ghost use Rattle.std.specs.Prelude.{◌≡◌, IfOk, option_map};
 ghost use Rattle.std.specs.List.{find};
 ghost use Rattle.std.specs.Str.{bytes_eq};
 ghost use Rattle.def_edit.specs.Words.{component_word, unless_mark, end_word};
 
 use base_types::{NoMemory, plain_name};
-use def_reader::{Component, places_by_name};
+use def_reader::{Component, NamedRows};
 use std::alloc::Global;
-use std::collections::HashMap;
 use std::marker::Model;
 
-/// Components with their places by name. Contracts see the components.
+/// The components of a design. Contracts see these.
 #[derive(Drop)]
 pub(crate) struct Components<'d> {
-    components: &'d [Component],
-    places: HashMap<&'d [u8], usize>,
+    components: &'d NamedRows<Component>,
 }
 
 impl<'d> Model for Components<'d> {
-    ghost use Rattle.std.specs.Prelude.{List, length};
+    ghost use Rattle.std.specs.Prelude.{List};
     ghost use Rattle.def_reader.specs.declared.design.Component.{Component};
-    ghost use Rattle.def_reader.specs.Places.{AreNoted};
 
     ghost Value = { List Component };
 
     ghost view = { λ c. c.components.now };
-
-    ghost invariant = { λ c. AreNoted (λ component. component.name) c.places c.components.now (length c.components.now) };
-}
-
-fn text_at(components: &[Component], place: usize) -> Option<&[u8]>
-    ensures value { option_map (λ text. text.now) result ≡ option_map (λ c. c.text) (slice_get components.now place) }
-{
-    match components.get(place) {
-        Some(component) => Some(component.text.bytes()),
-        None => None,
-    }
 }
 
 /// A word, or another one where it would be read as more than a component: as `PIN` or `*`.
@@ -51,19 +37,18 @@ fn unless_mark<'w>(text: &'w [u8], word: &'w [u8]) -> &'w [u8]
 
 impl<'d> Components<'d> {
     /// The components of a design.
-    pub(crate) fn of(alloc: Global, components: &'d [Component]) -> Result<Components<'d>, NoMemory>
-        ensures value { IfOk result (λ c. c ≡ components.now) }
+    pub(crate) fn of(components: &'d NamedRows<Component>) -> Components<'d>
+        ensures value { result ≡ components.now }
     {
-        let places = places_by_name(alloc, components)?;
-        Ok(Components { components, places })
+        Components { components }
     }
 
     /// How the first component of a plain name is written.
     fn text_of(&self, name: &[u8]) -> Option<&[u8]>
         ensures value { option_map (λ text. text.now) result ≡ option_map (λ c. c.text) (find (λ c. bytes_eq c.name name.now) self.now) }
     {
-        match self.places.get(&name) {
-            Some(place) => text_at(self.components, *place),
+        match self.components.find(name) {
+            Some(component) => Some(component.text.bytes()),
             None => None,
         }
     }

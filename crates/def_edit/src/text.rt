@@ -144,7 +144,7 @@ fn written(
         bytes,
         design,
         moves,
-        components: Components::of(alloc, design.components.as_slice())?,
+        components: Components::of(&design.components),
         nets: nets_of(alloc, text.nets.as_slice())?,
         leaving: moves_from(alloc, moves)?,
         coming: moves_to(alloc, moves)?,
