@@ -3,6 +3,7 @@ use Rattle.std.proofs.Common.{◌≡◌, ℕ, suc, ◌+◌, ◌<◌, Bool, true,
 use Rattle.std.specs.Prelude.{option_map, not}
 use Rattle.std.specs.List.{find, flat_map, filter_map, list_all, AllByRecursion as Each}
 use Rattle.std.specs.Str.{bytes_eq}
+use Rattle.std.proofs.lemmas.Bool.{and_from}
 use Rattle.base_types.specs.Names.{plain_name}
 use Rattle.cell_table.specs.Cells.{Cells}
 use Rattle.def_tokens.specs.Numbers.{integer_of}
@@ -54,10 +55,6 @@ use Rattle.def_edit.proofs.MovedOnce.{once_law, none_again}
 use Rattle.def_edit.proofs.MovedRead.{IsSeen, body_seen, located_each, IsEnd, IsPartIf, IsChain, chain_seen, component_seen}
 use Rattle.def_edit.proofs.MovedNames.{word_name, read_plain, name_plain, AreNamed, found_has, end_has, IsRow, IsRowIf, net_row, rows_all, changes_named, word_named}
 
-both_true : (a b : Bool) → a ≡ true → b ≡ true → (a && b) ≡ true
-both_true true b e f = f
-both_true false b e f = absurd cc
-
 each_map : {X Y : Type 0} (P : Y → Type 0) (f : X → Y) (xs : List X) → Each (λ x. P (f x)) xs → Each P (map f xs)
 each_map P f [] h = tt
 each_map P f (x ∷ xs) h = (h.0, each_map P f xs h.1)
@@ -84,7 +81,7 @@ pins_named : (rows : List NetWords) → Each IsRow rows → (cs : List Component
     → list_all (if_some names_word) (map (λ p. new_word rows nets moves (plain_name p.statement.name)) ps) ≡ true
 pins_named rows all cs named nets moves [] = refl
 pins_named rows all cs named nets moves (p ∷ ps) =
-    both_true (if_some names_word (new_word rows nets moves (plain_name p.statement.name))) _ (word_named cs named rows all (find (λ m. is_port (plain_name p.statement.name) (moving_pin nets m)) moves))
+    and_from (if_some names_word (new_word rows nets moves (plain_name p.statement.name))) _ (word_named cs named rows all (find (λ m. is_port (plain_name p.statement.name) (moving_pin nets m)) moves))
     (pins_named rows all cs named nets moves ps)
 
 partition_named : (o : Option Partition) → IsPartIf o → names_partition (option_map partition_layout o) ≡ true
@@ -129,20 +126,20 @@ module _ (cells : Cells) (d : Design) (named : AreNamed d.components) where
   terminal_named (terminals.AtPin name) pin good h = word_name name (read_plain name good)
   terminal_named (terminals.AtCell w was) pin good h =
       let u = word_for (end_word d.components w) in
-      both_true (is_name u && not (bytes_eq u port)) (is_name (word_for pin))
-      (both_true (is_name u) (not (bytes_eq u port)) (word_name (end_word d.components w) (end_has (λ w. is_plain w ≡ true) d.components (plain d.components named) w (read_plain w good.0)))
+      and_from (is_name u && not (bytes_eq u port)) (is_name (word_for pin))
+      (and_from (is_name u) (not (bytes_eq u port)) (word_name (end_word d.components w) (end_has (λ w. is_plain w ≡ true) d.components (plain d.components named) w (read_plain w good.0)))
       (ap not (end_no_port d.components w good.1)))
       (word_name pin (h refl))
 
   element_named : (e : NewElement) → IsNewElement d e → names_element (element_layout d.components e) ≡ true
   element_named e is =
       let l = element_layout d.components e in
-      both_true (is_name l.name) (is_name l.input && is_name l.output) (found_has (λ w. is_name w ≡ true) d.components named e.component e.component is.component.0 is.component.1)
-      (both_true (is_name l.input) (is_name l.output) (word_name e.input is.input) (word_name e.output is.output))
+      and_from (is_name l.name) (is_name l.input && is_name l.output) (found_has (λ w. is_name w ≡ true) d.components named e.component e.component is.component.0 is.component.1)
+      (and_from (is_name l.input) (is_name l.output) (word_name e.input is.input) (word_name e.output is.output))
 
   elements_named : (es : List NewElement) → Each (IsNewElement d) es → list_all names_element (map (element_layout d.components) es) ≡ true
   elements_named [] h = refl
-  elements_named (e ∷ es) h = both_true (names_element (element_layout d.components e)) _ (element_named e h.0) (elements_named es h.1)
+  elements_named (e ∷ es) h = and_from (names_element (element_layout d.components e)) _ (element_named e h.0) (elements_named es h.1)
 
   some_there : (es : List NewElement) → 0 < length es → some_list (map (element_layout d.components) es) ≡ true
   some_there [] lt = absurd (omega arith)
@@ -151,7 +148,7 @@ module _ (cells : Cells) (d : Design) (named : AreNamed d.components) where
   lists_named : (ess : List (List NewElement)) → Each (λ es. (0 < length es) × Each (IsNewElement d) es) ess → list_all names_list (map (map (element_layout d.components)) ess) ≡ true
   lists_named [] h = refl
   lists_named (es ∷ ess) h =
-      both_true (names_list (map (element_layout d.components) es)) _ (both_true (some_list (map (element_layout d.components) es)) _ (some_there es h.0.0) (elements_named es h.0.1)) (lists_named ess h.1)
+      and_from (names_list (map (element_layout d.components) es)) _ (and_from (some_list (map (element_layout d.components) es)) _ (some_there es h.0.0) (elements_named es h.0.1)) (lists_named ess h.1)
 
   some_in : (es : List NewElement) (ess : List (List NewElement)) → Each (λ es. (0 < length es) × Each (IsNewElement d) es) ess → 0 < length es + length ess
       → some_list (map (element_layout d.components) es ++ flat_map (λ xs. xs) (map (map (element_layout d.components)) ess)) ≡ true
@@ -164,19 +161,19 @@ module _ (cells : Cells) (d : Design) (named : AreNamed d.components) where
   chain_well : (cs : List Component) (c : Located Chain) (new : NewChain) → IsChain c.statement → IsNewChain d (chain_of cells cs c) new → is_written_well (chain_layout d.components c.statement new) ≡ true
   chain_well cs c new good is =
       let l = chain_layout d.components c.statement new in
-      both_true (is_name l.name && names_partition l.partition) _ (both_true (is_name l.name) (names_partition l.partition) good.name (partition_named c.statement.partition good.partition))
-      (both_true (names_terminal l.start && names_terminal l.stop) _
-      (both_true (names_terminal l.start) (names_terminal l.stop) (terminal_named c.statement.start new.start good.start (λ e. plain_end (chain_of cells cs c).start new.start (start_cell cs c e) is.start))
+      and_from (is_name l.name && names_partition l.partition) _ (and_from (is_name l.name) (names_partition l.partition) good.name (partition_named c.statement.partition good.partition))
+      (and_from (names_terminal l.start && names_terminal l.stop) _
+      (and_from (names_terminal l.start) (names_terminal l.stop) (terminal_named c.statement.start new.start good.start (λ e. plain_end (chain_of cells cs c).start new.start (start_cell cs c e) is.start))
       (terminal_named c.statement.stop new.stop good.stop (λ e. plain_end (chain_of cells cs c).stop new.stop (stop_cell cs c e) is.stop)))
-      (both_true (list_all names_element l.floating && list_all names_list l.ordered) _
-      (both_true (list_all names_element l.floating) (list_all names_list l.ordered) (elements_named new.floating is.floating) (lists_named new.ordered is.ordered)) (some_in new.floating new.ordered is.ordered is.some)))
+      (and_from (list_all names_element l.floating && list_all names_list l.ordered) _
+      (and_from (list_all names_element l.floating) (list_all names_list l.ordered) (elements_named new.floating is.floating) (lists_named new.ordered is.ordered)) (some_in new.floating new.ordered is.ordered is.some)))
 
   pub chains_well : (cs : List Component) (chains : List (Located Chain)) (news : List NewChain) → Each (λ (c : Located Chain). IsChain c.statement) chains → AreNewChains d (map (chain_of cells cs) chains) news
       → list_all is_written_well (chain_layouts d.components chains news) ≡ true
   unfolding chain_layouts
   chains_well cs [] news good is = refl
   chains_well cs (c ∷ chains) [] good is = absurd is
-  chains_well cs (c ∷ chains) (new ∷ news) good is = both_true (is_written_well (chain_layout d.components c.statement new)) _ (chain_well cs c new good.0 is.0) (chains_well cs chains news good.1 is.1)
+  chains_well cs (c ∷ chains) (new ∷ news) good is = and_from (is_written_well (chain_layout d.components c.statement new)) _ (chain_well cs c new good.0 is.0) (chains_well cs chains news good.1 is.1)
 
   pub chains_length : (cs : List Component) (chains : List (Located Chain)) (news : List NewChain) → AreNewChains d (map (chain_of cells cs) chains) news → length (chain_layouts d.components chains news) ≡ length chains
   unfolding chain_layouts

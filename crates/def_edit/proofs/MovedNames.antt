@@ -3,6 +3,7 @@ use Rattle.std.proofs.Common.{◌≡◌, ℕ, zero, suc, ◌+◌, ◌-◌, ◌�
 use Rattle.std.specs.Prelude.{nat_le, option_map, option_and_then, unwrap_or}
 use Rattle.std.specs.List.{find, flat_map, filter_map, list_all, slice_get, AllByRecursion as Each}
 use Rattle.std.specs.Str.{bytes_eq}
+use Rattle.std.proofs.lemmas.Bool.{and_from, or_left}
 use Rattle.base_types.specs.Names.{plain_name}
 use Rattle.token_forms.specs.Classes.{But, is_in}
 use Rattle.token_forms.specs.Tokens.{Token}
@@ -58,21 +59,13 @@ no_end b bs =
     let w = escapes (b ∷ bs) in
     no_end_then (nat_le 2 (length w)) (eqb (get_or w (length w - 1) 0) 59) (eqb (get_or w (length w - 2) 0) 92) (ap (λ (x : ℕ). eqb x 92) (before_last b bs))
 
-both_true : (a b : Bool) → a ≡ true → b ≡ true → (a && b) ≡ true
-both_true true b e f = f
-both_true false b e f = absurd cc
-
-or_true : (a b : Bool) → b ≡ true → (a || b) ≡ true
-or_true true b e = refl
-or_true false b e = e
-
 pub escaped_name : (bs : List ℕ) → list_all is_black bs ≡ true → is_name (escaped bs) ≡ true
 escaped_name [] all = refl
 escaped_name (b ∷ bs) all =
     let black = escapes_black (b ∷ bs) all in
     let end = no_end b bs in
     let whole : is_whole (escapes (b ∷ bs)) ≡ true = rw (end, black) refl in
-    both_true (is_whole (escapes (b ∷ bs))) (is_in (But marks) (escapes (b ∷ bs))) whole refl
+    and_from (is_whole (escapes (b ∷ bs))) (is_in (But marks) (escapes (b ∷ bs))) whole refl
 
 -- the word for a plain name is a name
 pub word_name : (name : List ℕ) → is_plain name ≡ true → is_name (word_for name) ≡ true
@@ -94,12 +87,8 @@ read_plain w h = plain_of (is_whole w) (is_in (But marks) w) (list_all is_black 
 name_parts : (w : List ℕ) → is_name w ≡ true → (is_whole w ≡ true) × (is_in (But marks) w ≡ true)
 name_parts w h = both (is_whole w) (is_in (But marks) w) h
 
-or_first : (a b : Bool) → a ≡ true → (a || b) ≡ true
-or_first true b e = refl
-or_first false b e = absurd cc
-
 pub name_plain : (w : List ℕ) → is_name w ≡ true → is_plain w ≡ true
-name_plain w h = or_first (is_name w) (list_all is_black w) h
+name_plain w h = or_left (is_name w) (list_all is_black w) h
 
 -- the words of components are names
 abbrev pub AreNamed : List Component → Type 0
@@ -176,7 +165,7 @@ filter_both p [] all = refl
 filter_both p (c ∷ cs) all = let h = both (names_both c) (list_all names_both cs) all in step (p c) h.0 (filter_both p cs h.1)
   where
     step : (b : Bool) → names_both c ≡ true → list_all names_both (filter p cs) ≡ true → list_all names_both (cond b (c ∷ filter p cs) (filter p cs)) ≡ true
-    step true e more = both_true (names_both c) (list_all names_both (filter p cs)) e more
+    step true e more = and_from (names_both c) (list_all names_both (filter p cs)) e more
     step false e more = more
 
 module _ (cs : List Component) (named : AreNamed cs) (rows : List NetWords) (all : Each IsRow rows) where
@@ -195,11 +184,11 @@ module _ (cs : List Component) (named : AreNamed cs) (rows : List NetWords) (all
   listed_both None h = refl
   listed_both (Some c) h =
       let b = both (names_word c.component) (names_word c.pin) h in
-      both_true (names_both (added_for cs c)) true (both_true (names_word (end_word cs c.component)) (names_word c.pin) (end_has (λ w. names_word w ≡ true) cs (words cs named) c.component b.0) b.1) refl
+      and_from (names_both (added_for cs c)) true (and_from (names_word (end_word cs c.component)) (names_word c.pin) (end_has (λ w. names_word w ≡ true) cs (words cs named) c.component b.0) b.1) refl
 
   both_append : (xs ys : List ConnectionLayout) → list_all names_both xs ≡ true → list_all names_both ys ≡ true → list_all names_both (xs ++ ys) ≡ true
   both_append [] ys e f = f
-  both_append (x ∷ xs) ys e f = let h = both (names_both x) (list_all names_both xs) e in both_true (names_both x) (list_all names_both (xs ++ ys)) h.0 (both_append xs ys h.1 f)
+  both_append (x ∷ xs) ys e f = let h = both (names_both x) (list_all names_both xs) e in and_from (names_both x) (list_all names_both (xs ++ ys)) h.0 (both_append xs ys h.1 f)
 
   added_both : (moves : List PinMove) → list_all names_both (added_with cs rows moves) ≡ true
   added_both [] = refl
@@ -214,7 +203,7 @@ module _ (cs : List Component) (named : AreNamed cs) (rows : List NetWords) (all
     where
       step : (b : Bool) → list_all (if_some (λ (n : NetChange). list_all names_both n.added)) (net_changes_from cs rows moves (k + 1) xs) ≡ true
           → list_all (if_some (λ (n : NetChange). list_all names_both n.added)) (cond b (Some (record { stays = stays_by (leaves moves k) 0 row.connections; added = added_with cs rows (moves_to k moves) })) None ∷ net_changes_from cs rows moves (k + 1) xs) ≡ true
-      step true more = both_true (list_all names_both (added_with cs rows (moves_to k moves))) _ (added_both (moves_to k moves)) more
+      step true more = and_from (list_all names_both (added_with cs rows (moves_to k moves))) _ (added_both (moves_to k moves)) more
       step false more = more
 
   -- so is each net's name

@@ -2,6 +2,7 @@
 use Rattle.std.proofs.Common.{◌≡◌, ℕ, ◌<◌, Bool, true, false, cond, not, ◌&&◌, ◌||◌, List, [], ◌∷◌, ◌++◌, length, codes, Option, Some, None, inl, inr, refl, sym, ap, ◌∙◌, subst, arith, append-nil}
 use Rattle.std.specs.List.{flat_map, list_all, AllByRecursion as Each}
 use Rattle.std.specs.Str.{bytes_eq}
+use Rattle.std.proofs.lemmas.Bool.{and_from}
 use Rattle.token_forms.specs.Tokens.{Token}
 use Rattle.token_forms.specs.Parts.{token_texts}
 use Rattle.token_forms.specs.Parsing.{◌>>=◌}
@@ -47,16 +48,12 @@ pub record IsSeen (s : List Token) : Type 0 where
   pub read : AreRead s
   pub stands : are_standing (token_texts s) ≡ true
 
-both_true : (a b : Bool) → a ≡ true → b ≡ true → (a && b) ≡ true
-both_true true b e f = f
-both_true false b e f = absurd cc
-
 stand_front : (xs ys : List (List ℕ)) → are_standing (xs ++ ys) ≡ true → are_standing xs ≡ true
 stand_front [] ys h = refl
 stand_front (w ∷ []) ys h = refl
 stand_front (w ∷ v ∷ ws) ys h =
     let b = both (is_whole w || (is_cut w && bytes_eq v (codes ";"))) (are_standing (v ∷ (ws ++ ys))) h in
-    both_true (is_whole w || (is_cut w && bytes_eq v (codes ";"))) (are_standing (v ∷ ws)) b.0 (stand_front (v ∷ ws) ys b.1)
+    and_from (is_whole w || (is_cut w && bytes_eq v (codes ";"))) (are_standing (v ∷ ws)) b.0 (stand_front (v ∷ ws) ys b.1)
 
 stand_behind : (xs ys : List (List ℕ)) → are_standing (xs ++ ys) ≡ true → are_standing ys ≡ true
 stand_behind [] ys h = h
@@ -319,7 +316,7 @@ chain_seen c s seen h =
     let off : bytes_eq plus.token.text (codes ";") ≡ false = ap (λ (w : List ℕ). bytes_eq w (codes ";")) plus.text in
     let whole = seen_whole s ds.first.token ds.second.token plus.token (plus.rest ++ sp.back) seen shape off in
     let named : is_name st.parts ≡ true =
-    subst (λ (w : List ℕ). is_name w ≡ true) d.is (both_true (is_whole d.parts.1) (is_in (But marks) d.parts.1) (subst (λ (w : List ℕ). is_whole w ≡ true) ds.second.text whole) ds.second.kind_is)
+    subst (λ (w : List ℕ). is_name w ≡ true) d.is (and_from (is_whole d.parts.1) (is_in (But marks) d.parts.1) (subst (λ (w : List ℕ). is_whole w ≡ true) ds.second.text whole) ds.second.kind_is)
     in
     let start = subst IsSoFar st.is (record { name = named; partition = tt; start = tt; stop = tt }) in
     let all = clauses_read g.parts.1 gs.back (back_read sp.front gs.front gs.back gs.is front) gs.second in
@@ -392,7 +389,7 @@ component_seen_form x s seen h =
     let off = no_semicolon (bytes_eq cell (codes "(")) (bytes_eq cell (codes ")")) (bytes_eq cell (codes "+")) (bytes_eq cell (codes ";")) kind in
     let whole = seen_whole s ds.first.token nn.first.token nn.second.token (gs.back ++ sp.back) seen shape off in
     let named : is_name d.parts.1.0 ≡ true =
-    both_true (is_whole d.parts.1.0) (is_in (But marks) d.parts.1.0) (subst (λ (w : List ℕ). is_whole w ≡ true) nn.first.text whole) nn.first.kind_is
+    and_from (is_whole d.parts.1.0) (is_in (But marks) d.parts.1.0) (subst (λ (w : List ℕ). is_whole w ≡ true) nn.first.text whole) nn.first.kind_is
     in
     let fresh : is_name st.parts.0 ≡ true = subst (λ (w : List ℕ). is_name w ≡ true) (ap (λ (p : List ℕ × List ℕ). p.0) d.is) named in
     let start : IsNamed g.parts.0 = subst IsNamed st.is fresh in

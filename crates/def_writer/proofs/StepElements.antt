@@ -3,7 +3,7 @@ use Rattle.std.proofs.Common.{◌≡◌, ℕ, ◌≤◌, Bool, true, false, cond
 use Rattle.std.specs.Prelude.{All, is_none, sum_by, option_and_then}
 use Rattle.std.specs.List.{list_any, slice_get}
 use Rattle.std.specs.Str.{bytes_eq}
-use Rattle.std.proofs.lemmas.Bool.{cases_Bool, false≢true}
+use Rattle.std.proofs.lemmas.Bool.{cases_Bool, false≢true, false_from_ne_true}
 use Rattle.std.proofs.lemmas.Option.{same_Some, none-some}
 use Rattle.std.proofs.lemmas.List.Sums.{sum_by-cons}
 use Rattle.std.proofs.lemmas.List.Elements.{All-head, All-tail}
@@ -91,10 +91,6 @@ pin_is component pin (Cell c p) e =
       | inr t ↦ absurd (false≢true (sym (ap (λ (b : Bool). b && bytes_eq pin p) t) ∙ e))
     ]
 
-not_true : (b : Bool) → (b ≡ true → ⊥) → b ≡ false
-not_true true f = absurd (f refl)
-not_true false f = refl
-
 module _ (text : List ℕ) (n : Netlist) (cells : Cells) (d : Design) (paths : List Path) (den : DenotesDesign text cells d) (agree : Agree n d) (standing : (fault : Fault) → HoldsInNets n cells d paths fault → ⊥)
     (entries : NameEntries n cells paths) (few : all_bits n cells paths ≤ 262144) where
   -- a pin of a component in a net of the design
@@ -134,7 +130,7 @@ module _ (text : List ℕ) (n : Netlist) (cells : Cells) (d : Design) (paths : L
   in_plain step h =
       let p = path_of step h in
       let e = entry step h in
-      let stands = not_true (lacks_in_net n cells d step) (λ lacks. standing _ (InPin p.member step (contains paths p.member p.there) (contains p.member.steps step p.gives) lacks)) in
+      let stands = false_from_ne_true (lacks_in_net n cells d step) (λ lacks. standing _ (InPin p.member step (contains paths p.member p.there) (contains p.member.steps step p.gives) lacks)) in
       let some : is_none (net_with d.nets (Cell e.placed.name e.path.input)) ≡ false = sym (ap₂ (λ (i : Option Instance) (q : Option ScanPath). in_pin_alone d.nets i q) e.instance_is e.path_is) ∙ stands in
       rw e.path_is (in_net e.placed.name e.path.input (net_with d.nets (Cell e.placed.name e.path.input)) refl some)
 
@@ -142,7 +138,7 @@ module _ (text : List ℕ) (n : Netlist) (cells : Cells) (d : Design) (paths : L
   out_plain step h =
       let p = path_of step h in
       let e = entry step h in
-      let stands = not_true (lacks_out_net n cells d step) (λ lacks. standing _ (OutPin p.member step (contains paths p.member p.there) (contains p.member.steps step p.gives) lacks)) in
+      let stands = false_from_ne_true (lacks_out_net n cells d step) (λ lacks. standing _ (OutPin p.member step (contains paths p.member p.there) (contains p.member.steps step p.gives) lacks)) in
       let some : is_none (net_with d.nets (Cell e.placed.name e.out.pin)) ≡ false = sym (ap₂ (λ (i : Option Instance) (o : Option Out). out_pin_alone d.nets i o) e.instance_is e.out_is) ∙ stands in
       rw e.out_is (in_net e.placed.name e.out.pin (net_with d.nets (Cell e.placed.name e.out.pin)) refl some)
 

@@ -1,8 +1,8 @@
 -- The paths of a design as numbers, as the laws of plans take them, which of their outputs count as free, and that these lie apart.
-use Rattle.std.proofs.Common.{◌≡◌, ◌⊎◌, ℕ, ◌<◌, Bool, true, false, ◌||◌, not, List, [], length, map, get_or, inl, inr, refl, sym, ap, ◌∙◌, subst, arith}
+use Rattle.std.proofs.Common.{◌≡◌, ℕ, ◌<◌, ◌||◌, not, List, [], length, map, get_or, refl, sym, ap, ◌∙◌, subst, arith}
 use Rattle.std.specs.Prelude.{Some}
 use Rattle.std.specs.List.{filter_map}
-use Rattle.std.proofs.lemmas.Bool.{and_parts}
+use Rattle.std.proofs.lemmas.Bool.{and_parts, or_cases}
 use Rattle.std.proofs.lemmas.List.{length-map}
 use Rattle.netlist_core.specs.declared.netlist.NetId.{NetId}
 use Rattle.netlist_core.specs.declared.netlist.Netlist.{Netlist}
@@ -28,14 +28,10 @@ numbers n cells d = record { of_step = step_spec n cells; free = is_free_output 
 pub specs_are : (n : Netlist) (cells : Cells) (d : Design) (paths : List Path) → path_specs n cells (Some d) paths ≡ numbered_paths (numbers n cells d) paths
 specs_are n cells d paths = refl
 
-either : (a b : Bool) → (a || b) ≡ true → (a ≡ true) ⊎ (b ≡ true)
-either true b e = inl refl
-either false b e = inr e
-
 -- an output that counts as free is assigned or direct
 pub free_outputs : (n : Netlist) (cells : Cells) (d : Design) (paths : List Path) → AreFreeOutputs (numbers n cells d) n cells paths
 free_outputs n cells d paths = λ p there free.
-    either (is_free n p.output) (is_direct_from n cells p.output (last_of p)) (and_parts (is_free n p.output || is_direct n cells p) (not (has_extra (Some d) (plain_of n.nets p.output))) free).0
+    or_cases (is_free n p.output) (is_direct_from n cells p.output (last_of p)) (and_parts (is_free n p.output || is_direct n cells p) (not (has_extra (Some d) (plain_of n.nets p.output))) free).0
 
 module _ (n : Netlist) where
   abbrev name_of : Path → List ℕ

@@ -2,7 +2,7 @@
 use Rattle.std.proofs.Common.{◌≡◌, ℕ, suc, ◌≤◌, Bool, true, false, ◌||◌, inl, inr, List, [], ◌∷◌, ◌++◌, length, take, map, is_some, Option, refl, sym, ap, ◌∙◌, subst, arith, length-append}
 use Rattle.std.specs.Prelude.{All, Contains, unwrap_or}
 use Rattle.std.specs.List.{flat_map, list_any, zip, AllByRecursion as Each}
-use Rattle.std.proofs.lemmas.Bool.{false_from_ne_true}
+use Rattle.std.proofs.lemmas.Bool.{false_from_ne_true, or_right}
 use Rattle.std.proofs.lemmas.List.{length-map, take_all}
 use Rattle.std.proofs.lemmas.List.Elements.{All-contains}
 use Rattle.netlist_core.specs.declared.netlist.Netlist.{Netlist}
@@ -46,14 +46,10 @@ aligned_length n cells [] (q ∷ qs) aligned = absurd aligned
 aligned_length n cells (p ∷ ps) [] aligned = absurd aligned
 aligned_length n cells (p ∷ ps) (q ∷ qs) aligned = ap suc (aligned_length n cells ps qs aligned.1)
 
-or_true : (a b : Bool) → b ≡ true → (a || b) ≡ true
-or_true true b e = refl
-or_true false b e = e
-
 pub any_has : {X : Type 0} (test : X → Bool) (xs : List X) (x : X) → Has xs x → test x ≡ true → list_any test xs ≡ true
 any_has test [] x h e = absurd h
 any_has test (y ∷ ys) x (inl same) e = ap (λ (b : Bool). b || list_any test ys) (ap test same ∙ e)
-any_has test (y ∷ ys) x (inr h) e = or_true (test y) (list_any test ys) (any_has test ys x h e)
+any_has test (y ∷ ys) x (inr h) e = or_right (test y) (list_any test ys) (any_has test ys x h e)
 
 -- a part isn't longer than all
 part : {X Y : Type 0} (f : X → List Y) (xs : List X) (x : X) → Has xs x → length (f x) ≤ length (flat_map f xs)

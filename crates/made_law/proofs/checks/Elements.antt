@@ -1,10 +1,11 @@
 -- Nothing is wrong with the elements of a made design.
-use Rattle.std.proofs.Common.{◌≡◌, ℕ, zero, suc, ◌+◌, ◌*◌, ◌/◌, ◌%◌, ◌<◌, ◌≤◌, Bool, true, false, List, [], ◌∷◌, ◌++◌, length, map, drop, Some, Contains, refl, ap, ◌∙◌, subst, arith}
+use Rattle.std.proofs.Common.{◌≡◌, ℕ, zero, suc, ◌+◌, ◌*◌, ◌/◌, ◌%◌, ◌<◌, ◌≤◌, Bool, false, List, [], ◌∷◌, ◌++◌, length, map, drop, Some, Contains, refl, ap, ◌∙◌, subst, arith}
 use Rattle.std.specs.Prelude.{option_map}
 use Rattle.std.specs.List.{flat_map, filter_map, range_with_len, AllByRecursion as Each}
 use Rattle.std.specs.Str.Parse.{digits_value}
 use Rattle.std.proofs.lemmas.List.{append-nil, map-append, length-append}
 use Rattle.std.proofs.lemmas.List.FromFn.{length-map-range_with_len}
+use Rattle.std.proofs.lemmas.Bool.{both_ways}
 use Rattle.cell_table.specs.Table.{small_cells}
 use Rattle.def_syntax.proofs.FrameLaws.{each_append, each_front, each_behind}
 use Rattle.def_reader.specs.declared.design.Element.{Element}
@@ -23,10 +24,6 @@ use Rattle.made_law.proofs.designs.Rising.{Rising, rising_range, never_again, ri
 use Rattle.made_law.specs.Checks.Laws.{ElementsLaw}
 use Rattle.made_law.proofs.checks.Members.{sum_few}
 use Rattle.made_law.proofs.checks.Units.{component_found, unit_pins, unit_within, chain_of, element_of, named_of}
-
-never : (b : Bool) → b ≡ false → b ≡ true → ⊥
-never true e f = absurd cc
-never false e f = absurd cc
 
 module _ (n : ℕ) (some : 8 ≤ n) (most : n ≤ 16384) (at : Places) where
   known : (i : ℕ) → i < n → is_unknown small_cells (made_components at.components n) (unit_pins i) ≡ false
@@ -47,13 +44,13 @@ module _ (n : ℕ) (some : 8 ≤ n) (most : n ≤ 16384) (at : Places) where
   none_fails : (bad : CellPins → Bool) (line : ℕ) → ((i : ℕ) → i < n → bad (unit_pins i) ≡ false) → FailsIn cells_of bad (made_chains at.chains n) line → ⊥
   none_fails bad line good h =
       let r = named_of n at.chains h.chain h.named some h.there h.listed in
-      never (bad h.named) (ap bad r.is ∙ good r.number r.low) h.fails
+      both_ways (bad h.named) (ap bad r.is ∙ good r.number r.low) h.fails
 
   no_bits : (line : ℕ) → FailsIn elements_of (has_other_bits small_cells (made_components at.components n)) (made_chains at.chains n) line → ⊥
   no_bits line h =
       let c = chain_of n at.chains h.chain h.there in
       let e = element_of n c.number c.place h.named (subst (λ (x : ScanChainText). Contains (elements_of x) h.named) c.is h.listed) in
-      never (has_other_bits small_cells (made_components at.components n) h.named) (ap (has_other_bits small_cells (made_components at.components n)) e.is) h.fails
+      both_ways (has_other_bits small_cells (made_components at.components n) h.named) (ap (has_other_bits small_cells (made_components at.components n)) e.is) h.fails
 
   -- at most 2048 elements in a chain
   abbrev IsShort : ScanChainText → Type 0

@@ -77,10 +77,6 @@ number_in_range a zero k h = absurd (none_in k h)
 number_in_range a (suc m) k (zero, lt, is) = (omega (arith, is), omega (arith, is))
 number_in_range a (suc m) k (suc j, lt, is) = let r = number_in_range (a + 1) m k (j, omega arith, is) in let low = r.0 in let high = r.1 in (omega (arith, low), omega (arith, high))
 
-pub not_so : (b : Bool) → (b ≡ true → ⊥) → b ≡ false
-not_so true f = absurd (f refl)
-not_so false f = refl
-
 -- the first that passes a test, among numbers with places
 abbrev Found : {X : Type 0} → (X → Bool) → (Place → ℕ → X) → ℕ → List X → Type 0
 Found test make i xs = (p : Place) × (find test xs ≡ Some (make p i))

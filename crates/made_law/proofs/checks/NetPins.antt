@@ -4,6 +4,7 @@ use Rattle.std.specs.Prelude.{is_none}
 use Rattle.std.specs.List.{list_any, range_with_len, AllByRecursion as Each}
 use Rattle.std.specs.Str.{bytes_eq}
 use Rattle.std.proofs.lemmas.Option.{same_Some}
+use Rattle.std.proofs.lemmas.Bool.{both_ways}
 use Rattle.token_forms.proofs.Spelled.{same_bytes, same_text}
 use Rattle.netlist_core.specs.declared.netlist.NetId.{NetId}
 use Rattle.cell_table.specs.Table.{small_cells}
@@ -32,7 +33,7 @@ use Rattle.made_law.specs.Checks.MadeAsked.{made_paths}
 use Rattle.made_law.specs.Checks.Laws.{NetsLaw}
 use Rattle.made_law.proofs.checks.Members.{of_map, of_placed, to_map, to_placed, number_in_range, each_contains, in_front, in_back, finds}
 use Rattle.made_law.proofs.checks.Units.{unit_same, unit_within}
-use Rattle.made_law.proofs.checks.Placing.{step_of, never}
+use Rattle.made_law.proofs.checks.Placing.{step_of}
 use Rattle.made_law.proofs.checks.Traces.{in_name, out_name}
 use Rattle.made_law.proofs.checks.Rows.{same_member, row_key, rows_rise, pin_key, pins_rise, IsPinOf, IsRowOf, rows_are, in_port_is, out_port_is, in_there, inner_there, out_there}
 
@@ -155,14 +156,14 @@ module _ (n : ℕ) (v : NetlistPlaces) (d : Places) (some : 8 ≤ n) (most : n �
   no_in : (path : Path) (step : Step) → Contains (made_paths n) path → Contains path.steps step → lacks_in_net (made_netlist v n) small_cells (made_design d n) step ≡ true → ⊥
   no_in path step there on h =
       let s = step_of n path step there on in
-      never (lacks_in_net (made_netlist v n) small_cells (made_design d n) step) (ap (lacks_in_net (made_netlist v n) small_cells (made_design d n)) s.is ∙ in_right s.chain s.number (unit_within n s.chain s.number some s.low s.within)) h
+      both_ways (lacks_in_net (made_netlist v n) small_cells (made_design d n) step) (ap (lacks_in_net (made_netlist v n) small_cells (made_design d n)) s.is ∙ in_right s.chain s.number (unit_within n s.chain s.number some s.low s.within)) h
 
   no_out : (path : Path) (step : Step) → Contains (made_paths n) path → Contains path.steps step → lacks_out_net (made_netlist v n) small_cells (made_design d n) step ≡ true → ⊥
   no_out path step there on h =
       let s = step_of n path step there on in
-      never (lacks_out_net (made_netlist v n) small_cells (made_design d n) step) (ap (lacks_out_net (made_netlist v n) small_cells (made_design d n)) s.is ∙ out_right s.chain s.number (unit_within n s.chain s.number some s.low s.within)) h
+      both_ways (lacks_out_net (made_netlist v n) small_cells (made_design d n) step) (ap (lacks_out_net (made_netlist v n) small_cells (made_design d n)) s.is ∙ out_right s.chain s.number (unit_within n s.chain s.number some s.low s.within)) h
 
 pub nets_right : NetsLaw
 nets_right n v d some most _ (InPin path step there on h) = no_in n v d some most path step there on h
 nets_right n v d some most _ (OutPin path step there on h) = no_out n v d some most path step there on h
-nets_right n v d some most _ (AtPort path net there at h) = never (lacks_port (made_netlist v n) (made_design d n) net) (port_of n v d some most path net there at) h
+nets_right n v d some most _ (AtPort path net there at h) = both_ways (lacks_port (made_netlist v n) (made_design d n) net) (port_of n v d some most path net there at) h

@@ -1,5 +1,6 @@
 -- The cells of the paths of a made design are placed.
-use Rattle.std.proofs.Common.{◌≡◌, ℕ, ◌<◌, ◌≤◌, Bool, true, false, Contains, refl, ap, ◌∙◌, subst, arith}
+use Rattle.std.proofs.Common.{◌≡◌, ℕ, ◌<◌, ◌≤◌, false, Contains, refl, ap, ◌∙◌, subst, arith}
+use Rattle.std.proofs.lemmas.Bool.{both_ways}
 use Rattle.chain_trace.specs.declared.path.Step.{Step}
 use Rattle.chain_trace.specs.declared.path.Path.{Path}
 use Rattle.design_places.specs.Ends.{is_nowhere}
@@ -36,14 +37,10 @@ step_of n path step there on =
       is = s.is;
     }
 
-pub never : (b : Bool) → b ≡ false → b ≡ true → ⊥
-never true e f = absurd cc
-never false e f = absurd cc
-
 placed_step : (n : ℕ) (v : NetlistPlaces) (d : Places) (k t : ℕ) → n ≤ 16384 → unit_of k t < n → is_nowhere (made_netlist v n) made_macros (made_design d n) (made_step k t) ≡ false
 placed_step n v d k t most lt = rw (instance_at n v (unit_of k t) lt, (component_found n d.components (unit_of k t) most lt).1) refl
 
 pub places_right : PlacesLaw
 places_right n v d some most fault h =
     let s = step_of n h.path h.step h.there h.on in
-    never (is_nowhere (made_netlist v n) made_macros (made_design d n) h.step) (ap (is_nowhere (made_netlist v n) made_macros (made_design d n)) s.is ∙ placed_step n v d s.chain s.number most (unit_within n s.chain s.number some s.low s.within)) h.nowhere
+    both_ways (is_nowhere (made_netlist v n) made_macros (made_design d n) h.step) (ap (is_nowhere (made_netlist v n) made_macros (made_design d n)) s.is ∙ placed_step n v d s.chain s.number most (unit_within n s.chain s.number some s.low s.within)) h.nowhere

@@ -4,6 +4,7 @@ use Rattle.std.specs.List.{find}
 use Rattle.std.specs.Str.{bytes_eq}
 use Rattle.std.proofs.lemmas.Fmt.{decimal_injective}
 use Rattle.std.proofs.lemmas.List.{append-nil}
+use Rattle.std.proofs.lemmas.Bool.{false_from_ne_true}
 use Rattle.token_forms.proofs.Spelled.{same_bytes, same_text}
 use Rattle.def_reader.specs.declared.design.Component.{Component}
 use Rattle.def_reader.specs.declared.design.Element.{Element}
@@ -14,13 +15,13 @@ use Rattle.made_law.specs.Designs.Names.{unit}
 use Rattle.made_law.specs.Designs.Places.{Place}
 use Rattle.made_law.specs.Designs.MadeComponents.{made_component, made_components}
 use Rattle.made_law.specs.Designs.MadeChains.{chain_numbers, element_numbers, made_element, made_chain, made_chains}
-use Rattle.made_law.proofs.checks.Members.{not_so, of_map, of_placed, number_in_range, find_placed}
+use Rattle.made_law.proofs.checks.Members.{of_map, of_placed, number_in_range, find_placed}
 
 pub unit_same : (i : ℕ) → bytes_eq (unit i) (unit i) ≡ true
 unit_same i = same_text (unit i) (unit i) refl
 
 pub unit_differs : (i j : ℕ) → i < 2 ^ 64 → j < i → bytes_eq (unit j) (unit i) ≡ false
-unit_differs i j small less = not_so (bytes_eq (unit j) (unit i)) (λ e.
+unit_differs i j small less = false_from_ne_true (bytes_eq (unit j) (unit i)) (λ e.
     let names : unit j ≡ unit i = same_bytes (unit j) (unit i) e in
     let digits : decimal j ≡ decimal i = ap (drop 1) names in
     let same = decimal_injective j i (omega arith) small digits in

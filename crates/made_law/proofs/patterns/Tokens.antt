@@ -1,6 +1,6 @@
 -- Tokens by their texts, at any places; and where a statement of them ends.
 use Rattle.std.proofs.Common.{◌≡◌, ℕ, zero, suc, Bool, true, false, not, ◌&&◌, ◌||◌, ◌==◌, if◌then◌else◌, List, [], ◌∷◌, ◌++◌, length, take, drop, refl, sym, ap, ◌∙◌, Option, Some, None, codes, arith, inl, inr}
-use Rattle.std.proofs.lemmas.Bool.{cases_Bool}
+use Rattle.std.proofs.lemmas.Bool.{cases_Bool, or_parts}
 use Rattle.std.proofs.Math.Seq.{drop-append_seam, take-append_seam}
 use Rattle.base_types.specs.declared.span.Span.{Span}
 use Rattle.token_forms.specs.Tokens.{Token}
@@ -78,10 +78,6 @@ pass_ends d e (u ∷ x ∷ us) v ws p = elim (cases_Bool (stops d u)) [
   | inr s ↦ (let q : pass (depth_behind d u) (x ∷ us) ≡ Some e = rw s at p in rw s (pass_ends (depth_behind d u) e (x ∷ us) v ws q))
 ]
 
-split_or : (a b : Bool) → (a || b) ≡ false → (a ≡ false) × (b ≡ false)
-split_or true b e = absurd cc
-split_or false b e = (refl, e)
-
 split_and : (a b : Bool) → (a && not b) ≡ true → (a ≡ true) × (b ≡ false)
 split_and true false e = (refl, refl)
 split_and true true e = absurd cc
@@ -93,7 +89,7 @@ len_ends d at (w ∷ []) rest e = let h = split_and (token_ends d w) (is_only 12
 len_ends d at (w ∷ v ∷ ws) rest e = elim (cases_Bool (stops d w)) [
   | inl s ↦ absurd (let q = rw s at e in cc)
   | inr s ↦ (
-      let h = split_or (token_ends d w) (is_only 125 w && d == 0) s in
+      let h = or_parts (token_ends d w) (is_only 125 w && d == 0) s in
       let q : ends (depth_behind d w) (v ∷ ws) ≡ true = rw s at e in
       let more = len_ends (depth_behind d w) (λ i. at (suc i)) (v ∷ ws) rest q in
       rw h.0 (omega (arith, more)))
@@ -113,7 +109,7 @@ nothing_ends d at (w ∷ []) e = let h = split_and (token_ends d w) (is_only 125
 nothing_ends d at (w ∷ v ∷ ws) e = elim (cases_Bool (stops d w)) [
   | inl s ↦ absurd (let q = rw s at e in cc)
   | inr s ↦ (
-      let h = split_or (token_ends d w) (is_only 125 w && d == 0) s in
+      let h = or_parts (token_ends d w) (is_only 125 w && d == 0) s in
       let q : ends (depth_behind d w) (v ∷ ws) ≡ true = rw s at e in
       rw h.1 (nothing_ends (depth_behind d w) (λ i. at (suc i)) (v ∷ ws) q))
 ]
