@@ -1,5 +1,5 @@
 //! The cells of elements, as they stand.
-ghost use Rattle.std.specs.Prelude.{◌≡◌, ◌++◌, ◌*◌, ◌^◌, ◌≤◌, pos, ◌≤ℤ◌, ◌+ℤ◌, All, option_and_then, option_map, option_to_list, slice_get, unsigned_abs, IfOk, OnOk};
+ghost use Rattle.std.specs.Prelude.{◌≡◌, ◌++◌, ◌*◌, ◌^◌, ◌≤◌, pos, ◌≤ℤ◌, ◌+ℤ◌, All, option_map, option_to_list, unsigned_abs, IfOk, OnOk};
 ghost use Rattle.lef_pins.specs.Places.{IsLength, IsMeasured, IsShort, IsShortPoint, IsWithin, moved, turn, twice};
 ghost use Rattle.def_reader.specs.Sound.{IsIn32Bits, IsSound, elements_in};
 ghost use Rattle.design_places.specs.Ends.{Placed, placed_named, placed_of};
@@ -7,10 +7,9 @@ ghost use Rattle.draw_command.specs.Drawn.{corner_at, corners, element_cells, li
 
 use crate::chain::Segment;
 use base_types::{NoMemory, Point};
-use def_reader::{Component, Design, Element, ElementList, places_by_name};
+use def_reader::{Component, Design, Element, ElementList};
 use lef_pins::{Macro, Macros, Orient, turn};
 use std::alloc::Global;
-use std::collections::HashMap;
 use std::marker::Model;
 
 /// A placed component: its macro, its point in database units, and how it is turned.
@@ -86,62 +85,36 @@ fn standing_of<'d>(macros: &'d Macros, component: &Component) -> Option<Standing
     Some(Standing { shape, at, orient })
 }
 
-/// The macros and the components of a design, with the places of these in their list by name. Contracts see macros and design.
+/// The macros and the components of a design. Contracts see macros and design.
 #[derive(Drop)]
 pub(crate) struct Cells<'d> {
     macros: &'d Macros,
     design: &'d Design,
-    places: HashMap<&'d [u8], usize>,
 }
 
 impl<'d> Model for Cells<'d> {
-    ghost use Rattle.std.specs.Prelude.{length};
     ghost use Rattle.lef_pins.specs.Macros.{NamedMacros};
     ghost use Rattle.def_reader.specs.declared.design.Design.{Design};
-    ghost use Rattle.def_reader.specs.Places.{AreNoted};
 
     ghost Value = { NamedMacros × Design };
 
     ghost view = { λ c. (c.macros.now, c.design.now) };
-
-    ghost invariant = { λ c. AreNoted (λ component. component.name) c.places c.design.now.components (length c.design.now.components) };
-}
-
-fn standing_at<'d>(
-    macros: &'d Macros,
-    components: &[Component],
-    place: usize,
-) -> Option<Standing<'d>>
-    ensures value { result ≡ option_and_then (placed_of macros.now) (slice_get components.now place) }
-{
-    match components.get(place) {
-        Some(component) => standing_of(macros, component),
-        None => None,
-    }
 }
 
 impl<'d> Cells<'d> {
     /// The cells of a design.
-    pub(crate) fn of(
-        alloc: Global,
-        macros: &'d Macros,
-        design: &'d Design,
-    ) -> Result<Cells<'d>, NoMemory>
-        ensures value { IfOk result (λ c. c ≡ (macros.now, design.now)) }
+    pub(crate) fn of(macros: &'d Macros, design: &'d Design) -> Cells<'d>
+        ensures value { result ≡ (macros.now, design.now) }
     {
-        Ok(Cells {
-            macros,
-            design,
-            places: places_by_name(alloc, design.components.as_slice())?,
-        })
+        Cells { macros, design }
     }
 
     /// The component of a name, where it is placed and has a macro.
     fn standing(&self, name: &[u8]) -> Option<Standing<'d>>
         ensures value { result ≡ placed_named self.now.0 self.now.1 name.now }
     {
-        match self.places.get(&name) {
-            Some(place) => standing_at(self.macros, self.design.components.as_slice(), *place),
+        match self.design.components.find(name) {
+            Some(component) => standing_of(self.macros, component),
             None => None,
         }
     }

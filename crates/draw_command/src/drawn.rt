@@ -146,7 +146,7 @@ pub(crate) fn drawn_of(
     ensures value { IfOk result (λ drawn. drawn.items ≡ drawn_from macros.now design.now rules.now ends.now 0 design.now.chains) }
     ensures few { IfOk result (λ drawn. length drawn.items ≤ 65536) }
 {
-    let cells = Cells::of(alloc, macros, design)?;
+    let cells = Cells::of(macros, design);
     let chains = design.chains.as_slice();
     let mut drawn = Vec::with_capacity(alloc, chains.len())?;
     for number in 0..chains.len() {
