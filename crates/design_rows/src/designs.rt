@@ -4,7 +4,7 @@ ghost use Rattle.std.specs.Prelude.{◌<◌, ◌^◌, length};
 use base_types::{NoMemory, ReadFault, Span};
 use def_syntax::{
     Chain, Connection, DesignText, Element, ElementList, NetParts, NetStatement, Placement,
-    SectionKind, read_design_text,
+    SectionKind, Terminal, read_design_text,
 };
 use def_tokens::{Orient, def_tokens};
 use row_forms::{Part, put};
@@ -114,6 +114,20 @@ fn push_pair<'t>(
     put(text, &[Part::Text(kind), first, Part::Text(" "), second])
 }
 
+/// Where a chain starts or stops, behind what it is.
+fn push_terminal<'t>(
+    text: &mut String,
+    kind: &'t str,
+    terminal: &'t Terminal,
+) -> Result<(), NoMemory> {
+    match terminal {
+        Terminal::AtPin(pin) => push_pair(text, kind, Part::Text("PIN"), Part::Word(pin.text())),
+        Terminal::AtCell { component, pin } => {
+            push_pair(text, kind, Part::Word(component.text()), any(pin))
+        }
+    }
+}
+
 fn push_chain(text: &mut String, chain: &Chain) -> Result<(), NoMemory> {
     put(text, &[Part::Word(chain.name.text())])?;
     if let Some(partition) = &chain.partition {
@@ -123,19 +137,8 @@ fn push_chain(text: &mut String, chain: &Chain) -> Result<(), NoMemory> {
     if let Some(pins) = &chain.common_pins {
         push_pair(text, " common ", any(&pins.input), any(&pins.output))?;
     }
-    let (start, stop) = (&chain.start, &chain.stop);
-    push_pair(
-        text,
-        " start ",
-        Part::Word(start.component.text()),
-        any(&start.pin),
-    )?;
-    push_pair(
-        text,
-        " stop ",
-        Part::Word(stop.component.text()),
-        any(&stop.pin),
-    )?;
+    push_terminal(text, " start ", &chain.start)?;
+    push_terminal(text, " stop ", &chain.stop)?;
     for list in chain.lists.as_slice() {
         let (kind, elements) = match list {
             ElementList::Floating(elements) => ("floating", elements),
