@@ -12,6 +12,9 @@ use base_types::NoMemory;
 use std::alloc::Global;
 use std::hash::{DefaultHasher, FoldHasher, Hasher};
 
+// How many buckets there are for a row: of so many few are shared, and each row of another name costs a way to it.
+const BUCKETS: usize = 4;
+
 /// Where rows stand by their names. Of rows of one name only the first is entered.
 ///
 /// The rows of a bucket are a chain. A link is one more than the place of a row, or 0 where there is none: `heads` has a link for each
@@ -98,7 +101,7 @@ impl Index {
         ensures least { IfOk result (λ r. IsLeast (StandsAgain (map (λ row. (T.name_of row, T.line_of row)) rows.now)) r.1) }
     {
         let mut index = Index {
-            heads: vec![in alloc; 0; rows.len().max(1)]?,
+            heads: vec![in alloc; 0; rows.len().saturating_mul(BUCKETS).max(1)]?,
             links: Vec::with_capacity(alloc, rows.len())?,
             key: key_of(rows),
         };
