@@ -1,11 +1,11 @@
 -- What is read as cells is what is written: the functions of Cells and the relations of Entries agree.
-use Rattle.std.proofs.Common.{◌≡◌, ◌≢◌, ◌<◌, ◌≤◌, ◌==◌, ℕ, zero, suc, ℤ, pos, Bool, true, false, ◌&&◌, ◌||◌, not, if◌then◌else◌, List, [], ◌∷◌, ◌++◌, length, Option, Some, None, Result, Ok, Err, refl, sym, ap, ◌∙◌, subst, arith}
+use Rattle.std.proofs.Common.{◌≡◌, ◌≢◌, ◌<◌, ◌≤◌, ◌==◌, ℕ, zero, suc, ℤ, pos, Bool, true, false, not, if◌then◌else◌, List, [], ◌∷◌, ◌++◌, length, Option, Some, None, Result, Ok, Err, refl, sym, ap, ◌∙◌, subst, arith}
 use Rattle.std.specs.Prelude.{nat_le}
 use Rattle.std.specs.List.{list_any, AllByRecursion as Each}
 use Rattle.std.specs.Ordering.{int_eq}
 use Rattle.std.specs.Str.{bytes_eq}
 use Rattle.std.proofs.lemmas.Option.{option_and_then_some, same_Some}
-use Rattle.std.proofs.lemmas.Bool.{ne_eqb}
+use Rattle.std.proofs.lemmas.Bool.{ne_eqb, and_parts, or_parts}
 use Rattle.std.proofs.lemmas.Bool.Decides.{Decides-int_eq, nat_tests}
 use Rattle.std.proofs.lemmas.Slice.Eq.{bytes_eq-Decides}
 use Rattle.base_types.specs.declared.fault.Fault.{Fault}
@@ -18,15 +18,6 @@ use Rattle.cell_table.specs.Entries.{IsBit, AreItems, AreMembers, IsOut, IsPath,
 only_true : (t : Bool) (u : Unit {0}) → only_if t ≡ Some u → t ≡ true
 only_true true u e = refl
 only_true false u e = absurd cc
-
-both : (a b : Bool) → (a && b) ≡ true → (a ≡ true) × (b ≡ true)
-both true true e = (refl, refl)
-both true false e = absurd cc
-both false b e = absurd cc
-
-neither : (a b : Bool) → (a || b) ≡ false → (a ≡ false) × (b ≡ false)
-neither true b e = absurd cc
-neither false b e = (refl, e)
 
 some_of : (n : ℕ) → not (n == 0) ≡ true → 0 < n
 some_of zero e = absurd cc
@@ -114,8 +105,8 @@ record AreSized (input : List ℕ) (bits : Items) (outs : Members) : Type 0 wher
 
 sized : (input : List ℕ) (bits : Items) (outs : Members) → are_sized input bits outs ≡ true → AreSized input bits outs
 sized input bits outs e =
-    let h = both _ _ e in
-    let g = both _ _ h.0 in
+    let h = and_parts _ _ e in
+    let g = and_parts _ _ h.0 in
     let le = g.1 in
     record { named = some_of _ g.0; few = grind (arith, nat_tests, le); some = some_of _ h.1 }
 
@@ -180,7 +171,7 @@ record AreNew (before ns : List (List ℕ)) : Type 0 where
 
 not_among : (before : List (List ℕ)) (n : List ℕ) → list_any (λ m. bytes_eq m n) before ≡ false → Each (λ m. n ≢ m) before
 not_among [] n e = tt
-not_among (m ∷ ms) n e = let h = neither _ _ e in (λ same. bytes_apart m n h.0 (sym same), not_among ms n h.1)
+not_among (m ∷ ms) n e = let h = or_parts _ _ e in (λ same. bytes_apart m n h.0 (sym same), not_among ms n h.1)
 
 among_not : (before : List (List ℕ)) (n : List ℕ) → Each (λ m. n ≢ m) before → list_any (λ m. bytes_eq m n) before ≡ false
 among_not [] n h = refl
@@ -209,7 +200,7 @@ new_from : (before ns : List (List ℕ)) → twice_behind before ns ≡ false �
 unfolding twice_behind
 new_from before [] e = record { apart = tt; distinct = tt }
 new_from before (n ∷ ns) e =
-    let h = neither _ _ e in
+    let h = or_parts _ _ e in
     let r = new_from (before ++ n ∷ []) ns h.1 in
     let s = split_apart before n ns r.apart in
     record { apart = (not_among before n h.0, s.0); distinct = (s.1, r.distinct) }
@@ -283,7 +274,7 @@ pub has_is : (document entries : Members) → named_cells document ≡ Some entr
 unfolding named_cells
 has_is document entries e =
     option_and_then_some _ _ entries e (λ cells at e. option_and_then_some _ _ entries e (λ u sizes e.
-    let h = both (members_len document == 1) (not (members_len cells == 0)) (only_true _ u sizes) in
+    let h = and_parts (members_len document == 1) (not (members_len cells == 0)) (only_true _ u sizes) in
     let one = h.0 in
     subst (HasCells document) (same_Some _ _ e) (record { keys = grind (arith, nat_tests, one); at = at; some = some_of (members_len cells) h.1 })))
 

@@ -1,5 +1,5 @@
 -- A pass over names that looks for one that stood before.
-use Rattle.std.proofs.Common.{◌≡◌, ℕ, zero, suc, arith, ◌+◌, ◌<◌, ◌≤◌, Bool, true, false, cond, not, ◌||◌, List, [], ◌∷◌, ◌++◌, length, get_or, take, drop, map, Bor, refl, sym, ap, ◌∙◌}
+use Rattle.std.proofs.Common.{◌≡◌, ℕ, zero, suc, arith, ◌+◌, ◌<◌, ◌≤◌, Bool, true, false, cond, ◌||◌, List, [], ◌∷◌, ◌++◌, length, get_or, take, drop, map, Bor, refl, sym, ap, ◌∙◌}
 use Rattle.std.specs.List.{list_any}
 use Rattle.std.specs.Str.{bytes_eq}
 use Rattle.std.proofs.lemmas.List.{drop_more, take_more, drop_all, map-append}
@@ -45,14 +45,6 @@ module _ (names : List (Bor (List ℕ))) (i : ℕ) (name : Bor (List ℕ)) (lt :
 pub none_twice : (names : List (Bor (List ℕ))) (i : ℕ) → length names ≤ i → twice_behind (texts (take i names)) (texts (drop i names)) ≡ has_twice (texts names) → has_twice (texts names) ≡ false
 unfolding twice_behind
 none_twice names i le same = sym same ∙ ap (λ (ns : List (Bor (List ℕ))). twice_behind (texts (take i names)) (texts ns)) (drop_all i names le)
-
-pub was_there : (added there : Bool) → added ≡ not there → added ≡ false → there ≡ true
-was_there added true h fact = refl
-was_there added false h fact = sym fact ∙ h
-
-pub was_new : (added there : Bool) → added ≡ not there → added ≡ true → there ≡ false
-was_new added false h fact = refl
-was_new added true h fact = sym fact ∙ h
 
 -- within a list the default doesn't matter
 pub same_at : (names : List (Bor (List ℕ))) (i : ℕ) (d e : Bor (List ℕ)) → i < length names → get_or names i d ≡ get_or names i e

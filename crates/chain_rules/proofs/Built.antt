@@ -7,6 +7,7 @@ use Rattle.std.proofs.lemmas.Bool.{ne_eqb, eqb-true}
 use Rattle.std.proofs.lemmas.Map.Keys.{IsDistinct-from_apart}
 use Rattle.std.proofs.lemmas.Map.Views.{Contains-from_any}
 use Rattle.std.proofs.lemmas.Map.Steps.{length-le_from_distinct_below}
+use Rattle.std.proofs.lemmas.Slice.Zip.{AllZip-long}
 use Rattle.chain_rules.specs.declared.cuts.Cut.{Cut}
 use Rattle.chain_rules.specs.declared.listing.Listing.{Listing}
 use Rattle.chain_rules.specs.declared.stretch.Run.{Run}
@@ -33,12 +34,6 @@ zip_all R P Q f [] [] all z = All-nil Q
 zip_all R P Q f [] (y ∷ ys) all z = absurd z
 zip_all R P Q f (x ∷ xs) [] all z = absurd z
 zip_all R P Q f (x ∷ xs) (y ∷ ys) all z = All-cons Q y ys (f x y (All-head P x xs all) z.0) (zip_all R P Q f xs ys (All-tail P x xs all) z.1)
-
-zip_length : {X Y : Type 0} (R : X → Y → Type 0) (xs : List X) (ys : List Y) → AllZip R xs ys → length ys ≡ length xs
-zip_length R [] [] z = refl
-zip_length R [] (y ∷ ys) z = absurd z
-zip_length R (x ∷ xs) [] z = absurd z
-zip_length R (x ∷ xs) (y ∷ ys) z = ap suc (zip_length R xs ys z.1)
 
 pub cover_of_cuts : (path : PathSpec) (chain : ChainSpec) (run : Run) (last : ℕ) (cuts : List Cut) (us : List MovedUnit) (from to : ℕ) → AllZip (λ c u. IsUnitOfCut path chain run c last u) cuts us → All (λ c. c.first ≤ c.last) cuts → CutsCover cuts from to → Cover us from to
 cover_of_cuts path chain run last [] [] from to z order e = e
@@ -216,7 +211,7 @@ read_chain paths chains named c within l is cuts first last are us zip rule of_r
 
 pub built_count : (paths : List PathSpec) (chain : ChainSpec) (l : Listing) → IsListingOf paths chain l → (cuts : List Cut) (first last : ℕ) → AreCuts (stretch l.run) l.marks.items cuts first last → (us : List MovedUnit) → AllZip (λ k u. IsUnitOfCut (path_at paths l.run.path) chain l.run k last u) cuts us → (0 < length us) × (length us ≤ length (groups_of chain))
 built_count paths chain l is cuts first last are us zip =
-    let long = zip_length (λ k u. IsUnitOfCut (path_at paths l.run.path) chain l.run k last u) cuts us zip in
+    let long = AllZip-long (λ k u. IsUnitOfCut (path_at paths l.run.path) chain l.run k last u) cuts us zip in
     let few = few_cuts (path_at paths l.run.path) (stretch l.run) (groups_of chain) l.marks.items cuts first last is.are_marks are in
     let some = are.some in
     (omega arith, omega arith)

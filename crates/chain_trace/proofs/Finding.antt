@@ -2,10 +2,11 @@
 use Rattle.std.proofs.Common.{◌≡◌, ◌≢◌, ℕ, ◌+◌, ◌==◌, ◌&&◌, ◌||◌, ◌<◌, ◌≤◌, Bool, true, false, cond, List, length, get_or, take, replicate, ◌⊎◌, inl, inr, refl, sym, ap, ◌∙◌, subst, arith}
 use Rattle.std.specs.Prelude.{Option, Some, None, MatchOption}
 use Rattle.std.specs.List.{list_any}
-use Rattle.std.proofs.lemmas.Bool.{cases_lt, cases_eq, eqb-true, eq-eqb, false≢true}
+use Rattle.std.proofs.lemmas.Bool.{cases_lt, cases_eq, eqb-true, eq-eqb, false≢true, or_cases}
 use Rattle.std.proofs.lemmas.Option.{none-some, same_Some, cond_some, slice_get_within}
 use Rattle.std.proofs.lemmas.List.{take_all, get_or-replicate, length-replicate, length-take-le, get_or-take}
 use Rattle.std.proofs.lemmas.List.Folds.{list_any_more, list_any_at, list_any_kept}
+use Rattle.base_types.proofs.TruthValues.{and_first, and_second}
 use Rattle.netlist_core.specs.declared.netlist.NetId.{NetId}
 use Rattle.netlist_core.specs.declared.netlist.Port.{Port}
 use Rattle.netlist_core.specs.declared.netlist.Netlist.{Netlist}
@@ -24,7 +25,7 @@ use Rattle.chain_trace.specs.declared.tally.Tally.TheVariants.{Empty, One, Pair,
 use Rattle.chain_trace.specs.Paths.{drives, has_port, source_net, sink_net, AreApart, Feeds}
 use Rattle.chain_trace.specs.Faults.{HasNoSource}
 use Rattle.chain_trace.specs.Drivers.{StandsOn, Tells, Keeps, AreTwo, AreDrivers, pair_of, whole, IsAdded, IsWithout, IsPut, IsBefore, IsDone, IsAny, Says}
-use Rattle.chain_trace.proofs.Ranges.{and_left, and_right, out_of, source_within, sink_within}
+use Rattle.chain_trace.proofs.Ranges.{out_of, source_within, sink_within}
 use Rattle.chain_trace.proofs.Unique.{same_step, same_port, not_both}
 
 net_same : (a b : NetId) → a.0 ≡ b.0 → a ≡ b
@@ -384,10 +385,6 @@ instance_done n cells classes ports i len drivers few ds =
 abbrev Is : NetId → Port → Bool
 Is net port = port.net.0 == net.0 && drives port.direction
 
-or_cases : (a b : Bool) → (a || b) ≡ true → (a ≡ true) ⊎ (b ≡ true)
-or_cases true b e = inl refl
-or_cases false b e = inr e
-
 or_none : (a b : Bool) → b ≡ false → (a || b) ≡ true → a ≡ true
 or_none true b f e = refl
 or_none false b f e = absurd (false≢true (sym f ∙ e))
@@ -402,7 +399,7 @@ skip_back n k d (sources.Port net) lt off h =
     let port = get_or n.ports k d in
     elim (port_more n k d net lt h) [
       | inl old ↦ old
-      | inr here ↦ absurd (false≢true (sym off ∙ and_right (port.net.0 == net.0) (drives port.direction) here))
+      | inr here ↦ absurd (false≢true (sym off ∙ and_second (port.net.0 == net.0) (drives port.direction) here))
     ]
 
 skip_to : (n : Netlist) (k : ℕ) (x : Source) → IsDone n k 0 0 0 x → IsDone n (k + 1) 0 0 0 x
@@ -436,7 +433,7 @@ put_back n k d (sources.Port net) lt h =
     let port = get_or n.ports k d in
     elim (port_more n k d net lt h) [
       | inl old ↦ inl old
-      | inr here ↦ inr (ap (λ (m : NetId). sources.Port m) (net_same net port.net (sym (eqb-true port.net.0 net.0 (and_left (port.net.0 == net.0) (drives port.direction) here)))))
+      | inr here ↦ inr (ap (λ (m : NetId). sources.Port m) (net_same net port.net (sym (eqb-true port.net.0 net.0 (and_first (port.net.0 == net.0) (drives port.direction) here)))))
     ]
 
 -- a port that drives

@@ -2,7 +2,7 @@
 use Rattle.std.proofs.Common.{◌≡◌, ℕ, zero, suc, ◌<◌, Bool, true, false, ◌&&◌, ◌||◌, eqb, List, [], ◌∷◌, length, get_or, refl, sym, ap, ap₂, ◌∙◌, arith}
 use Rattle.std.specs.List.{list_any}
 use Rattle.std.specs.Str.{bytes_eq}
-use Rattle.std.proofs.lemmas.Bool.{eqb-true}
+use Rattle.std.proofs.lemmas.Bool.{eqb-true, or_parts, and_parts}
 use Rattle.std.proofs.lemmas.Bool.Decides.{nat_tests}
 use Rattle.std.proofs.lemmas.Slice.Eq.{bytes_eq-Decides}
 use Rattle.netlist_core.specs.declared.netlist.NetId.{NetId}
@@ -16,21 +16,13 @@ use Rattle.chain_trace.specs.Named.{IsPortNamed}
 abbrev pub is_port : (Direction → Bool) → List NetName → List ℕ → Port → Bool
 is_port test nets name port = test port.direction && bytes_eq (plain_of nets port.net) name
 
-or_false : (a b : Bool) → (a || b) ≡ false → (a ≡ false) × (b ≡ false)
-or_false true b e = absurd cc
-or_false false b e = (refl, e)
-
-and_true : (a b : Bool) → (a && b) ≡ true → (a ≡ true) × (b ≡ true)
-and_true true b e = (refl, e)
-and_true false b e = absurd cc
-
 same_net : (a b : NetId) → eqb a.0 b.0 ≡ true → a ≡ b
 same_net a b e = ap (λ (k : ℕ). record { 0 = k }) (eqb-true a.0 b.0 e)
 
 none_here : (test : Direction → Bool) (nets : List NetName) (name : List ℕ) (net : NetId) (p : Port) → is_port test nets name p ≡ false → plain_of nets net ≡ name
     → (eqb p.net.0 net.0 && test p.direction) ≡ true → ⊥
 none_here test nets name net p never named has =
-    let both = and_true (eqb p.net.0 net.0) (test p.direction) has in
+    let both = and_parts (eqb p.net.0 net.0) (test p.direction) has in
     let same : plain_of nets p.net ≡ name = ap (plain_of nets) (same_net p.net net both.0) ∙ named in
     let is : bytes_eq (plain_of nets p.net) name ≡ true = (bytes_eq-Decides (plain_of nets p.net) name).1 same in
     let yes : is_port test nets name p ≡ true = ap₂ (λ (a b : Bool). a && b) both.1 is in
@@ -40,7 +32,7 @@ none_named : (test : Direction → Bool) (nets : List NetName) (name : List ℕ)
     → list_any (λ port. eqb port.net.0 net.0 && test port.direction) ports ≡ true → ⊥
 none_named test nets name net [] never named has = absurd cc
 none_named test nets name net (p ∷ ps) never named has =
-    let both = or_false (is_port test nets name p) (list_any (is_port test nets name) ps) never in
+    let both = or_parts (is_port test nets name p) (list_any (is_port test nets name) ps) never in
     let cases : (b : Bool) → (eqb p.net.0 net.0 && test p.direction) ≡ b → ⊥
     = λ b. elim b as (λ b. (eqb p.net.0 net.0 && test p.direction) ≡ b → ⊥) [
       | true ↦ λ e. none_here test nets name net p both.0 named e

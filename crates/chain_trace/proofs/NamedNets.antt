@@ -8,6 +8,7 @@ use Rattle.std.proofs.lemmas.List.{length-map, get_or-map, map-append}
 use Rattle.std.proofs.lemmas.List.Elements.{All-head, All-tail}
 use Rattle.std.proofs.lemmas.Option.{slice_get-map}
 use Rattle.std.proofs.lemmas.Slice.Eq.{bytes_eq-Decides}
+use Rattle.base_types.proofs.TruthValues.{same_truth}
 use Rattle.netlist_core.specs.declared.netlist.NetId.{NetId}
 use Rattle.netlist_core.specs.declared.netlist.Bit.{Bit}
 use Rattle.netlist_core.specs.declared.netlist.Bit.TheVariants.{Net, Zero, One, Unknown}
@@ -74,16 +75,11 @@ is_port_named test name port = bytes_eq port.name name && test port.direction
 abbrev pub has_port_named : (Direction → Bool) → NamedNetlist → List ℕ → Bool
 has_port_named test N name = list_any (is_port_named test name) N.ports
 
-same_tests : (a b : Bool) → (a ≡ true → b ≡ true) → (b ≡ true → a ≡ true) → a ≡ b
-same_tests true b f g = sym (f refl)
-same_tests false true f g = g refl
-same_tests false false f g = refl
-
 by_name : (nets : List NetName) → AreDistinct (map (λ (net : NetName). net.plain) nets) → (a b : NetId) → a.0 < length nets → b.0 < length nets
     → eqb a.0 b.0 ≡ bytes_eq (plain_of nets a) (plain_of nets b)
 by_name nets names a b ha hb =
     let decides = bytes_eq-Decides (plain_of nets a) (plain_of nets b) in
-    same_tests (eqb a.0 b.0) (bytes_eq (plain_of nets a) (plain_of nets b))
+    same_truth (eqb a.0 b.0) (bytes_eq (plain_of nets a) (plain_of nets b))
     (λ e. decides.1 (ap (λ (k : ℕ). plain_of nets (record { 0 = k })) (eqb-true a.0 b.0 e)))
     (λ e. ap (λ (net : NetId). eqb a.0 net.0) (sym (net_tells nets names a b ha hb (decides.0 e))) ∙ eqb_same a.0)
 

@@ -6,6 +6,7 @@ use Rattle.std.specs.Str.{bytes_eq}
 use Rattle.std.proofs.lemmas.List.Elements.{All-head, All-tail}
 use Rattle.std.proofs.lemmas.Option.{none-some, same_Some, cond_some}
 use Rattle.std.proofs.lemmas.Slice.Eq.{bytes_eq-Decides}
+use Rattle.base_types.proofs.TruthValues.{and_first}
 use Rattle.netlist_core.specs.declared.netlist.NetId.{NetId}
 use Rattle.netlist_core.specs.declared.netlist.Direction.{Direction}
 use Rattle.netlist_core.specs.declared.netlist.Port.{Port}
@@ -22,7 +23,7 @@ use Rattle.chain_trace.specs.declared.path.Sink.{Sink}
 use Rattle.chain_trace.specs.declared.path.Sink.TheVariants as sinks
 use Rattle.chain_trace.specs.Paths.{scan_path_at, out_pin_at, pin_net, drives, is_driven, has_port, source_net, sink_net, AreApart, Feeds, IsOnlySource, Leads, IsScanPath}
 use Rattle.chain_trace.specs.Named.{HasSamePath}
-use Rattle.chain_trace.proofs.Ranges.{and_left, port_within, source_within, sink_within}
+use Rattle.chain_trace.proofs.Ranges.{port_within, source_within, sink_within}
 use Rattle.chain_trace.proofs.NamedNets.{IsSameNet, same_wiring, turned_wiring, turned, one_new, one_old, is_port_named, has_port_named, port_by_name, pin_name, pin_by_name, scan_path_named, scan_path_by_name}
 use Rattle.chain_trace.proofs.NamedSides.{joined_there}
 
@@ -78,7 +79,7 @@ named_place : (n : Netlist) (test : Direction → Bool) (name : List ℕ) (ports
 named_place n test name [] all e = absurd cc
 named_place n test name (p ∷ ps) all e =
     let here : is_port_named test name (named_port n.nets p) ≡ true → (net : NetId) × (net.0 < length n.nets) × (plain_of n.nets net ≡ name)
-    = λ t. (p.net, All-head (λ (port : Port). port.net.0 < length n.nets) p ps all, (bytes_eq-Decides (plain_of n.nets p.net) name).0 (and_left (bytes_eq (plain_of n.nets p.net) name) (test p.direction) t)) in
+    = λ t. (p.net, All-head (λ (port : Port). port.net.0 < length n.nets) p ps all, (bytes_eq-Decides (plain_of n.nets p.net) name).0 (and_first (bytes_eq (plain_of n.nets p.net) name) (test p.direction) t)) in
     let rest : list_any (is_port_named test name) (map (named_port n.nets) ps) ≡ true → (net : NetId) × (net.0 < length n.nets) × (plain_of n.nets net ≡ name)
     = λ t. named_place n test name ps (All-tail (λ (port : Port). port.net.0 < length n.nets) p ps all) t in
     or_cases (is_port_named test name (named_port n.nets p)) (list_any (is_port_named test name) (map (named_port n.nets) ps)) here rest e

@@ -3,10 +3,11 @@ use Rattle.std.proofs.Common.{◌≡◌, ℕ, ◌==◌, ◌&&◌, ◌<◌, ◌�
 use Rattle.std.specs.Prelude.{All, Option, Some, None, option_and_then, IfSome}
 use Rattle.std.specs.List.{slice_get, find, HoldsAt}
 use Rattle.std.specs.Str.{bytes_eq}
-use Rattle.std.proofs.lemmas.Bool.{eqb-true, false≢true}
+use Rattle.std.proofs.lemmas.Bool.{eqb-true}
 use Rattle.std.proofs.lemmas.Option.{none-some, same_Some, cond_some, slice_get_within, slice_get-get_or, get_or_from_slice_get}
 use Rattle.std.proofs.lemmas.List.Elements.{All-head, All-tail}
 use Rattle.std.proofs.lemmas.List.Folds.{Any-from_list_any}
+use Rattle.base_types.proofs.TruthValues.{and_first}
 use Rattle.netlist_core.specs.declared.netlist.NetId.{NetId}
 use Rattle.netlist_core.specs.declared.netlist.Bit.{Bit}
 use Rattle.netlist_core.specs.declared.netlist.Bit.TheVariants.{Net, Zero, One, Unknown}
@@ -67,19 +68,11 @@ net_at_within count placed pin net ok e =
     single_within count t.value.expr.bits net
     (find_holds (λ (connection : Connection). All (IsBitWithin count) connection.expr.bits) (λ (connection : Connection). bytes_eq connection.pin pin) placed.connections t.value ok.nets t.is) t.gives
 
-pub and_left : (a b : Bool) → (a && b) ≡ true → a ≡ true
-and_left true b e = refl
-and_left false b e = e
-
-pub and_right : (a b : Bool) → (a && b) ≡ true → b ≡ true
-and_right true b e = e
-and_right false b e = absurd (false≢true e)
-
 pub port_within : (n : Netlist) (test : Direction → Bool) (net : NetId) → IsNetlist n → has_port test n net ≡ true → net.0 < length n.nets
 port_within n test net ok e =
     let any = Any-from_list_any (λ (port : Port). port.net.0 == net.0 && test port.direction) n.ports e in
     let port = any.1 in
-    let same : port.net.0 ≡ net.0 = eqb-true port.net.0 net.0 (and_left (port.net.0 == net.0) (test port.direction) any.4) in
+    let same : port.net.0 ≡ net.0 = eqb-true port.net.0 net.0 (and_first (port.net.0 == net.0) (test port.direction) any.4) in
     let here : port.net.0 < length n.nets = subst (λ (p : Port). p.net.0 < length n.nets) any.3 (ok.port_nets any.0 port any.2) in
     omega arith
 

@@ -3,11 +3,11 @@ use Rattle.std.proofs.Common.{◌≡◌, ℕ, Bool, true, false, not, ◌||◌, 
 use Rattle.std.specs.List.{flat_map, list_all, AllByRecursion as Each}
 use Rattle.std.specs.Str.{bytes_eq}
 use Rattle.std.proofs.lemmas.List.Concat.{flat_map-append}
+use Rattle.std.proofs.lemmas.Bool.{and_parts}
 use Rattle.base_types.specs.declared.span.Span.{Span}
+use Rattle.base_types.proofs.TruthValues.{bytes_are}
 use Rattle.token_forms.specs.Tokens.{Token, place_of, last_end_of}
 use Rattle.token_forms.specs.Parts.{token_texts}
-use Rattle.token_forms.proofs.Spelled.{same_bytes}
-use Rattle.token_forms.proofs.ClassLemmas.{both}
 use Rattle.splice.specs.declared.Edit.{Edit}
 use Rattle.def_tokens.specs.DefTokens.{tokens_in}
 use Rattle.def_syntax.specs.Grammar.{design_pin, net}
@@ -83,8 +83,8 @@ end_tokens : (word : List ℕ) (ts : List Token) → is_end word ts ≡ true →
 end_tokens word [] e = absurd cc
 end_tokens word (t ∷ []) e = absurd cc
 end_tokens word (t ∷ u ∷ []) e =
-    let h = both (bytes_eq t.text (codes "END")) (bytes_eq u.text word) e in
-    record { first = t; second = u; is = refl; ends = same_bytes t.text (codes "END") h.0; named = same_bytes u.text word h.1 }
+    let h = and_parts (bytes_eq t.text (codes "END")) (bytes_eq u.text word) e in
+    record { first = t; second = u; is = refl; ends = bytes_are t.text (codes "END") h.0; named = bytes_are u.text word h.1 }
 end_tokens word (t ∷ u ∷ v ∷ ts) e = absurd cc
 
 end_firm : (word : List ℕ) (ts more : List Token) → is_end word ts ≡ true → is_firm (ts ++ more) ≡ true
@@ -97,7 +97,7 @@ opened_firm kind t e = of (bytes_eq t.text (codes ";")) refl
     of : (b : Bool) → bytes_eq t.text (codes ";") ≡ b → not (bytes_eq t.text (codes ";")) ≡ true
     of false f = rw f refl
     of true f =
-        let is = same_bytes t.text (codes ";") f in
+        let is = bytes_are t.text (codes ";") f in
         let no : None ≡ Some kind = rw is at e in
         absurd cc
 

@@ -5,10 +5,9 @@ use Rattle.std.specs.List.{find, filter_map, cons_option, slice_get, list_all, A
 use Rattle.std.specs.Str.{bytes_eq}
 use Rattle.std.proofs.lemmas.Option.{same_Some}
 use Rattle.std.proofs.lemmas.List.Folds.{list_all-append}
-use Rattle.std.proofs.lemmas.Bool.Decides.{nat_tests}
+use Rattle.std.proofs.lemmas.Bool.{eqb-true, and_from, and_parts}
 use Rattle.base_types.specs.Names.{plain_name}
 use Rattle.token_forms.specs.Tokens.{Token}
-use Rattle.token_forms.proofs.ClassLemmas.{both}
 use Rattle.def_syntax.specs.Grammar.{net}
 use Rattle.def_syntax.specs.Pieces.{some_list}
 use Rattle.def_syntax.specs.Designs.{AreLocated}
@@ -22,7 +21,6 @@ use Rattle.def_layout.specs.SectionForms.{is_name}
 use Rattle.def_layout.specs.Nets.{connection_in}
 use Rattle.def_layout.specs.NetForms.{names_connection}
 use Rattle.def_layout.specs.Slices.{StandIn}
-use Rattle.def_layout.proofs.NetWritten.{true_and}
 use Rattle.def_reader.specs.declared.design.Component.{Component}
 use Rattle.def_reader.specs.declared.design.Net.{Net}
 use Rattle.def_reader.specs.Designs.{net_pins_of, net_at, net_of}
@@ -61,7 +59,7 @@ each_left {X = X} P test (y ∷ ys) h = of (test y) (each_left P test ys h.1)
 
 all_each : {X : Type 0} (test : X → Bool) (xs : List X) → list_all test xs ≡ true → Each (λ x. test x ≡ true) xs
 all_each test [] h = tt
-all_each test (x ∷ xs) h = let a = both (test x) (list_all test xs) h in (a.0, all_each test xs a.1)
+all_each test (x ∷ xs) h = let a = and_parts (test x) (list_all test xs) h in (a.0, all_each test xs a.1)
 
 -- the nets of statements by their words, and as they are read
 abbrev pub rows_of : List ℕ → List (Located NetStatement) → List NetWords
@@ -127,8 +125,8 @@ module _ (components : List Component) (rows : List NetWords) (all : Each (λ (c
   list_named : (o : Option ConnectionLayout) → ((c : ConnectionLayout) → o ≡ Some c → names_connection c ≡ true) → list_all names_connection (added_list components o) ≡ true
   list_named None h = refl
   list_named (Some c) h =
-      let a = both (is_name c.component) (is_name c.pin) (h c refl) in
-      true_and (names_connection (added_for components c)) true (true_and (is_name (end_word components c.component)) (is_name c.pin) (end_named components c.component all a.0) a.1) refl
+      let a = and_parts (is_name c.component) (is_name c.pin) (h c refl) in
+      and_from (names_connection (added_for components c)) true (and_from (is_name (end_word components c.component)) (is_name c.pin) (end_named components c.component all a.0) a.1) refl
 
   moving_named : (m : PinMove) (c : ConnectionLayout) → moving_connection rows m ≡ Some c → names_connection c ≡ true
   moving_named m c e = of (slice_get rows m.from) refl e
@@ -143,7 +141,7 @@ module _ (components : List Component) (rows : List NetWords) (all : Each (λ (c
   added_named [] = refl
   added_named (m ∷ ms) =
       list_all-append names_connection (added_list components (moving_connection rows m)) (added_with components rows ms)
-      ∙ true_and _ _ (list_named (moving_connection rows m) (λ c e. moving_named m c e)) (added_named ms)
+      ∙ and_from _ _ (list_named (moving_connection rows m) (λ c e. moving_named m c e)) (added_named ms)
 
 -- a net that changes has a connection, and names come to it
 abbrev pub IsChangedWell : NetStatement → NetChange → Type 0
@@ -173,17 +171,14 @@ from_pin nets m p e = of (slice_get nets m.from) refl e
     of None f e = absurd cc
     of (Some n) f e = record { net = n; there = f; some = pins_some n.pins m.place p e }
 
-same_number : (i j : ℕ) → eqb i j ≡ true → i ≡ j
-same_number i j e = grind (arith, nat_tests)
-
 -- so has each that a pin leaves or comes to
 touched_pin : (nets : List Net) (moves : List PinMove) (k : ℕ) → Each (IsMoveIn nets) moves → is_touched moves k ≡ true → HasPin nets k
 touched_pin nets [] k h e = absurd cc
 touched_pin nets (m ∷ ms) k h e = of (eqb m.from k) (eqb m.to k) refl refl e (touched_pin nets ms k h.1)
   where
     of : (a b : Bool) → eqb m.from k ≡ a → eqb m.to k ≡ b → ((a || b) || is_touched ms k) ≡ true → (is_touched ms k ≡ true → HasPin nets k) → HasPin nets k
-    of true b f g e more = subst (HasPin nets) (same_number m.from k f) (from_pin nets m h.0.pin h.0.moves)
-    of false true f g e more = subst (HasPin nets) (same_number m.to k g) (record { net = h.0.net; there = h.0.goes; some = h.0.some })
+    of true b f g e more = subst (HasPin nets) (eqb-true m.from k f) (from_pin nets m h.0.pin h.0.moves)
+    of false true f g e more = subst (HasPin nets) (eqb-true m.to k g) (record { net = h.0.net; there = h.0.goes; some = h.0.some })
     of false false f g e more = more e
 
 module _ (text : List ℕ) (components : List Component) (rows : List NetWords) (nets : List Net) (moves : List PinMove) (in_nets : Each (IsMoveIn nets) moves)

@@ -3,6 +3,7 @@ use Rattle.std.proofs.Common.{◌≡◌, ℕ, Bool, true, false, not, ◌&&◌, 
 use Rattle.std.specs.List.{flat_map, list_all, AllByRecursion as Each}
 use Rattle.std.specs.Str.{bytes_eq}
 use Rattle.std.proofs.lemmas.Option.{same_Some}
+use Rattle.std.proofs.lemmas.Bool.{and_from, and_parts}
 use Rattle.token_forms.specs.Tokens.{Token}
 use Rattle.token_forms.specs.Parts.{token_texts}
 use Rattle.token_forms.specs.Parsing.{◌>>=◌}
@@ -10,7 +11,6 @@ use Rattle.token_forms.specs.Classes.{But, is_in}
 use Rattle.token_forms.specs.Forms.{Form, AreMany, IsMaybe, put_all}
 use Rattle.def_syntax.specs.Options.{and_last}
 use Rattle.def_syntax.proofs.FrameLaws.{each_append}
-use Rattle.token_forms.proofs.ClassLemmas.{both}
 use Rattle.def_tokens.specs.DefStatements.{ends_with}
 use Rattle.def_syntax.specs.Words.{marks}
 use Rattle.def_syntax.specs.Grammar.{component, net}
@@ -33,7 +33,7 @@ use Rattle.def_layout.proofs.Closing.{are_closing, are_free}
 use Rattle.def_layout.proofs.Standing.{standing_law}
 use Rattle.def_layout.proofs.Slices.{slice_law}
 use Rattle.def_layout.proofs.NetThere.{is_good, net_there}
-use Rattle.def_layout.proofs.NetWritten.{whole_connection, true_and, closing_of, closing_behind, connections_whole, free_net_name, free_words, all_both}
+use Rattle.def_layout.proofs.NetWritten.{whole_connection, closing_of, closing_behind, connections_whole, free_net_name, free_words, all_both}
 use Rattle.def_edit.specs.Seams.{ends_plain}
 use Rattle.def_edit.proofs.alike.Endings.{free_name}
 use Rattle.def_edit.proofs.alike.SameNets.{stand_in}
@@ -55,20 +55,20 @@ ends_of (t ∷ u ∷ ts) (w ∷ ws) e = let tail : token_texts (u ∷ ts) ≡ ws
 
 -- what is good and whole is a name
 name_both : (w : List ℕ) → is_whole w ≡ true → is_in (But marks) w ≡ true → is_name w ≡ true
-name_both w a b = true_and (is_whole w) (is_in (But marks) w) a b
+name_both w a b = and_from (is_whole w) (is_in (But marks) w) a b
 
 names_both : (cs : List ConnectionLayout) → list_all whole_connection cs ≡ true → list_all is_good cs ≡ true → list_all names_connection cs ≡ true
 names_both [] whole good = refl
 names_both (c ∷ cs) whole good =
-    let a = both (whole_connection c) (list_all whole_connection cs) whole in
-    let b = both (is_good c) (list_all is_good cs) good in
-    let d = both (is_whole c.component) (is_whole c.pin) a.0 in
-    let e = both (is_in (But marks) c.component) (is_in (But marks) c.pin) b.0 in
-    true_and (names_connection c) (list_all names_connection cs) (true_and (is_name c.component) (is_name c.pin) (name_both c.component d.0 e.0) (name_both c.pin d.1 e.1)) (names_both cs a.1 b.1)
+    let a = and_parts (whole_connection c) (list_all whole_connection cs) whole in
+    let b = and_parts (is_good c) (list_all is_good cs) good in
+    let d = and_parts (is_whole c.component) (is_whole c.pin) a.0 in
+    let e = and_parts (is_in (But marks) c.component) (is_in (But marks) c.pin) b.0 in
+    and_from (names_connection c) (list_all names_connection cs) (and_from (is_name c.component) (is_name c.pin) (name_both c.component d.0 e.0) (name_both c.pin d.1 e.1)) (names_both cs a.1 b.1)
 
 name_whole : (text name : List ℕ) (xs : List Connection) (ws : List (List ℕ)) → some_list xs ≡ true → are_closing (name ∷ (flat_map connection_words (map (connection_in text) xs) ++ ws)) ≡ true → is_whole name ≡ true
 name_whole text name [] ws some h = absurd cc
-name_whole text name (x ∷ xs) ws some h = (both (is_whole name) _ h).0
+name_whole text name (x ∷ xs) ws some h = (and_parts (is_whole name) _ h).0
 
 -- the names of a net that stands in a text
 pub record NetNames (text : List ℕ) (s : List Token) (x : Net) : Type 0 where
@@ -85,7 +85,7 @@ net_names text s x stand spelled =
     let words : token_texts s ≡ front ++ codes ";" ∷ [] = there.texts ∙ ap (λ (ws : List (List ℕ)). codes "-" ∷ x.name ∷ ws) (sym (append_assoc (flat_map connection_words cs) there.options (codes ";" ∷ []))) in
     let ends = ends_of s front words in
     let name_free : not (bytes_eq x.name (codes ";")) ≡ true = rw (free_net_name x.name there.named) refl in
-    let free : are_free front ≡ true = true_and (not (bytes_eq x.name (codes ";"))) _ name_free (all_both (λ w. not (bytes_eq w (codes ";"))) (flat_map connection_words cs) there.options (free_words cs there.good) there.free) in
+    let free : are_free front ≡ true = and_from (not (bytes_eq x.name (codes ";"))) _ name_free (all_both (λ w. not (bytes_eq w (codes ";"))) (flat_map connection_words cs) there.options (free_words cs there.good) there.free) in
     let closing = closing_of front free (subst (λ (ws : List (List ℕ)). are_standing ws ≡ true) words (standing text s stand ends.0)) in
     let behind = closing_behind (codes "-") (x.name ∷ (flat_map connection_words cs ++ there.options)) closing in
     let whole = (connections_whole cs there.options (closing_behind x.name (flat_map connection_words cs ++ there.options) behind)).0 in
@@ -133,8 +133,8 @@ put_keeps s (o ∷ os) r h e =
 
 second_whole : (t n c : Token) (rest : List Token) → are_standing (token_texts (t ∷ n ∷ c ∷ rest)) ≡ true → bytes_eq c.text (codes ";") ≡ false → is_whole n.text ≡ true
 second_whole t n c rest h free =
-    let a = (both (is_whole t.text || (is_cut t.text && bytes_eq n.text (codes ";"))) (are_standing (n.text ∷ c.text ∷ token_texts rest)) h).1 in
-    let b = (both (is_whole n.text || (is_cut n.text && bytes_eq c.text (codes ";"))) (are_standing (c.text ∷ token_texts rest)) a).0 in
+    let a = (and_parts (is_whole t.text || (is_cut t.text && bytes_eq n.text (codes ";"))) (are_standing (n.text ∷ c.text ∷ token_texts rest)) h).1 in
+    let b = (and_parts (is_whole n.text || (is_cut n.text && bytes_eq c.text (codes ";"))) (are_standing (c.text ∷ token_texts rest)) a).0 in
     first (is_whole n.text) (is_cut n.text) (bytes_eq c.text (codes ";")) free b
   where
     first : (a b c : Bool) → c ≡ false → (a || (b && c)) ≡ true → a ≡ true

@@ -3,8 +3,8 @@ use Rattle.std.proofs.Common.{◌≡◌, ℕ, true, false, List, [], ◌∷◌, 
 use Rattle.std.specs.List.{flat_map, list_all}
 use Rattle.std.proofs.lemmas.List.Folds.{list_all-append}
 use Rattle.std.proofs.lemmas.List.Concat.{flat_map-append}
+use Rattle.std.proofs.lemmas.Bool.{and_parts}
 use Rattle.token_forms.specs.Classes.{But, is_in}
-use Rattle.token_forms.proofs.ClassLemmas.{both}
 use Rattle.def_tokens.specs.DefSplit.{goes_on}
 use Rattle.def_syntax.specs.Words.{marks}
 use Rattle.def_layout.specs.declared.chains.ChainLayout.{ChainLayout}
@@ -28,13 +28,13 @@ chain_cut c =
 words_whole : (ws : List (List ℕ)) → list_all is_part ws ≡ true → list_all is_whole ws ≡ true
 words_whole [] all = refl
 words_whole (w ∷ ws) all =
-    let h = both (is_part w) (list_all is_part ws) all in
-    rw ((both (is_whole w) _ h.0).0) (words_whole ws h.1)
+    let h = and_parts (is_part w) (list_all is_part ws) all in
+    rw ((and_parts (is_whole w) _ h.0).0) (words_whole ws h.1)
 
 lines_whole : (ls : List Line) → list_all is_part_line ls ≡ true → list_all is_whole_line ls ≡ true
 lines_whole [] all = refl
 lines_whole (l ∷ ls) all =
-    let h = both (is_part_line l) (list_all is_part_line ls) all in
+    let h = and_parts (is_part_line l) (list_all is_part_line ls) all in
     rw (words_whole l.words h.0) (lines_whole ls h.1)
 
 chain_whole : (c : ChainLayout) → is_written_well c ≡ true → list_all is_whole_line (chain_lines c) ≡ true
@@ -44,7 +44,7 @@ chain_whole c h =
 chains_whole : (cs : List ChainLayout) → list_all is_written_well cs ≡ true → list_all is_whole_line (flat_map chain_lines cs) ≡ true
 chains_whole [] all = refl
 chains_whole (c ∷ cs) all =
-    let h = both (is_written_well c) (list_all is_written_well cs) all in
+    let h = and_parts (is_written_well c) (list_all is_written_well cs) all in
     list_all-append is_whole_line (chain_lines c) (flat_map chain_lines cs) ∙ rw (chain_whole c h.0, chains_whole cs h.1) refl
 
 words_of_lines : (cs : List ChainLayout) → flat_map (λ l. l.words) (flat_map chain_lines cs) ≡ flat_map chain_words cs
@@ -57,7 +57,7 @@ section_front cs = joined (head_words cs) ++ (flat_map line_text (flat_map chain
 
 front_has : (cs : List ChainLayout) → list_all is_written_well cs ≡ true → HasWords (section_front cs) (head_words cs ++ (flat_map chain_words cs ++ codes "END" ∷ []))
 front_has cs well =
-    let number : is_whole (decimal (length cs)) ≡ true = (both (is_whole (decimal (length cs))) (is_in (But marks) (decimal (length cs))) (number_name (length cs))).0 in
+    let number : is_whole (decimal (length cs)) ≡ true = (and_parts (is_whole (decimal (length cs))) (is_in (But marks) (decimal (length cs))) (number_name (length cs))).0 in
     let head : list_all is_whole (head_words cs) ≡ true = rw number refl in
     let chains = subst (HasWords (flat_map line_text (flat_map chain_lines cs))) (words_of_lines cs) (lines_have (flat_map chain_lines cs) (chains_whole cs well)) in
     words_behind (joined (head_words cs)) (flat_map line_text (flat_map chain_lines cs) ++ 10 ∷ codes "END") (head_words cs) (flat_map chain_words cs ++ codes "END" ∷ []) (behind (flat_map chain_lines cs))

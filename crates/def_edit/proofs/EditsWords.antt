@@ -6,8 +6,8 @@ use Rattle.std.proofs.lemmas.Bool.Decides.{nat_tests}
 use Rattle.std.proofs.lemmas.List.{take_at, get_or-append-add}
 use Rattle.std.proofs.Math.ListN.{get_or-append}
 use Rattle.std.proofs.lemmas.List.Folds.{prefix_len-append}
+use Rattle.std.proofs.lemmas.Bool.{and_parts, not-true}
 use Rattle.token_forms.specs.declared.piece.Piece.TheVariants.{Token}
-use Rattle.token_forms.proofs.ClassLemmas.{both, not_true}
 use Rattle.def_tokens.specs.DefTokens.{is_blank, is_black, has_end, piece_at}
 use Rattle.def_tokens.specs.DefSplit.{begins_run, goes_on}
 use Rattle.def_layout.specs.Words.{texts, is_quoted, is_run, is_whole, HasWords}
@@ -23,11 +23,11 @@ before_free x ws z h free = record { goes = λ r f g. h.goes r (f free) }
 cut_piece : (b : ℕ) (bs z : List ℕ) → is_run (b ∷ bs) ≡ true → has_end (b ∷ bs ++ 59 ∷ []) ≡ true → goes_on z ≡ false → piece_at (b ∷ bs ++ 59 ∷ z) ≡ Token (suc (length bs))
 unfolding piece_at
 cut_piece b bs z run end free =
-    let h = both (begins_run (b ∷ bs)) (list_all is_black (b ∷ bs)) run in
+    let h = and_parts (begins_run (b ∷ bs)) (list_all is_black (b ∷ bs)) run in
     let o = none_of (is_blank b) (eqb b 35) (eqb b 34) h.0 in
     let join = append_assoc bs (59 ∷ []) z in
     let l = length-append bs (59 ∷ []) in
-    let all : list_all is_black (bs ++ 59 ∷ []) ≡ true = more bs (both (is_black b) (list_all is_black bs) h.1).1 in
+    let all : list_all is_black (bs ++ 59 ∷ []) ≡ true = more bs (and_parts (is_black b) (list_all is_black bs) h.1).1 in
     let r : prefix_len is_black (bs ++ 59 ∷ z) ≡ length bs + 1 = ap (prefix_len is_black) (sym join) ∙ run_over is_black (bs ++ 59 ∷ []) z all (none_black z free) ∙ l in
     let t : take (length bs + 1 + 1) (b ∷ bs ++ 59 ∷ z) ≡ b ∷ bs ++ 59 ∷ [] = ap (λ (x : List ℕ). take (length bs + 1 + 1) (b ∷ x)) (sym join) ∙ take_at (b ∷ bs ++ 59 ∷ []) z (length bs + 1 + 1) (omega arith) in
     let k : length bs + 1 ≡ suc (length bs) = omega arith in
@@ -35,7 +35,7 @@ cut_piece b bs z run end free =
   where
     more : (cs : List ℕ) → list_all is_black cs ≡ true → list_all is_black (cs ++ 59 ∷ []) ≡ true
     more [] all = refl
-    more (c ∷ cs) all = let h = both (is_black c) (list_all is_black cs) all in rw h.0 (more cs h.1)
+    more (c ∷ cs) all = let h = and_parts (is_black c) (list_all is_black cs) all in rw h.0 (more cs h.1)
 
 -- a run that ends with no backslash, and a semicolon, have an end
 plain_end : (b : ℕ) (bs : List ℕ) → ends_escaping (b ∷ bs) ≡ false → has_end (b ∷ bs ++ 59 ∷ []) ≡ true
@@ -69,16 +69,16 @@ pub ends_texts : (w r : List ℕ) → is_whole w ≡ true → ends_escaping w �
 ends_texts [] r whole plain ends = absurd cc
 ends_texts (b ∷ bs) [] whole plain ends = absurd cc
 ends_texts (b ∷ bs) (c ∷ r) whole plain ends =
-    let e = both (eqb c 59) (not (goes_on r)) ends in
+    let e = and_parts (eqb c 59) (not (goes_on r)) ends in
     let semi : c ≡ 59 = grind (arith, nat_tests) in
     or_cases (is_quoted (b ∷ bs)) (is_run (b ∷ bs) && not (has_end (b ∷ bs))) whole
     (λ f.
-    let q = both (eqb b 34) (eqb (prefix_len (λ c. not (eqb c 34)) bs + 1) (length bs)) f in
+    let q = and_parts (eqb b 34) (eqb (prefix_len (λ c. not (eqb c 34)) bs + 1) (length bs)) f in
     let is : b ≡ 34 = grind (arith, nat_tests) in
     subst (λ (b : ℕ). texts (b ∷ bs ++ c ∷ r) ≡ (b ∷ bs) ∷ texts (c ∷ r)) (sym is) (one_token (34 ∷ bs) (c ∷ r) (suc (length bs)) refl (quoted_piece bs (c ∷ r) q.1)))
     (λ f.
-    let q = both (is_run (b ∷ bs)) (not (has_end (b ∷ bs))) f in
-    let piece = cut_piece b bs r q.0 (plain_end b bs plain) (not_true _ e.1) in
+    let q = and_parts (is_run (b ∷ bs)) (not (has_end (b ∷ bs))) f in
+    let piece = cut_piece b bs r q.0 (plain_end b bs plain) (not-true _ e.1) in
     subst (λ (c : ℕ). texts (b ∷ bs ++ c ∷ r) ≡ (b ∷ bs) ∷ texts (c ∷ r)) (sym semi) (one_token (b ∷ bs) (59 ∷ r) (suc (length bs)) refl piece))
 
 -- where nothing goes on with a word, a blank or the end stands behind, or a semicolon that is cut off
@@ -95,7 +95,7 @@ stops w (b ∷ bs) e = of (is_blank b) (ends_escaping w) (is_cut_off b bs) refl 
       where
         off : (a : Bool) → a ≡ true → a ≡ true
         off a f = f
-    cut (c ∷ cs) f = let g = both (eqb b 59) (is_blank c) f in rw (g.0, g.1) refl
+    cut (c ∷ cs) f = let g = and_parts (eqb b 59) (is_blank c) f in rw (g.0, g.1) refl
 
     of : (x y v : Bool) → is_blank b ≡ x → ends_escaping w ≡ y → is_cut_off b bs ≡ v → (not x && (y || not v)) ≡ false → Stops w (b ∷ bs)
     of true y v f g h e = Free (rw f refl)
@@ -121,10 +121,10 @@ word_begins [] z whole = absurd cc
 word_begins (b ∷ bs) z whole =
     or_cases (is_quoted (b ∷ bs)) (is_run (b ∷ bs) && not (has_end (b ∷ bs))) whole
     (λ f.
-    let q = both (eqb b 34) (eqb (prefix_len (λ c. not (eqb c 34)) bs + 1) (length bs)) f in
+    let q = and_parts (eqb b 34) (eqb (prefix_len (λ c. not (eqb c 34)) bs + 1) (length bs)) f in
     let is : b ≡ 34 = grind (arith, nat_tests) in
     rw is refl)
     (λ f.
-    let q = both (is_run (b ∷ bs)) (not (has_end (b ∷ bs))) f in
-    let r = both (begins_run (b ∷ bs)) (list_all is_black (b ∷ bs)) q.0 in
-    (both (is_black b) (list_all is_black bs) r.1).0)
+    let q = and_parts (is_run (b ∷ bs)) (not (has_end (b ∷ bs))) f in
+    let r = and_parts (begins_run (b ∷ bs)) (list_all is_black (b ∷ bs)) q.0 in
+    (and_parts (is_black b) (list_all is_black bs) r.1).0)

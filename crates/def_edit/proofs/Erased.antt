@@ -3,10 +3,10 @@ use Rattle.std.proofs.Common.{◌≡◌, ℕ, Bool, true, false, if◌then◌els
 use Rattle.std.specs.List.{flat_map, filter_map, AllByRecursion as Each}
 use Rattle.std.specs.Str.{bytes_eq}
 use Rattle.std.proofs.lemmas.List.{map-append}
+use Rattle.std.proofs.lemmas.Bool.{or_parts}
 use Rattle.cell_table.specs.Cells.{Cells}
 use Rattle.token_forms.specs.Tokens.{Token}
 use Rattle.token_forms.specs.Parts.{token_texts}
-use Rattle.token_forms.proofs.ClassLemmas.{neither}
 use Rattle.def_syntax.specs.Frames.{word_of, section_named, opened_by, is_end, NoneEnds, Block, Outside, Section, IsBlock, statements_in, within}
 use Rattle.def_syntax.specs.Designs.{statements_of}
 use Rattle.def_syntax.specs.declared.frame.SectionKind.{SectionKind}
@@ -74,7 +74,7 @@ within_none : (kind : SectionKind) (bs : List Block) → has_kind kind bs ≡ fa
 within_none kind [] h = refl
 within_none kind (Outside s ∷ bs) h = within_none kind bs h
 within_none kind (Section other first inner last ∷ bs) h =
-    let f = neither (bytes_eq (word_of kind) (word_of other)) (has_kind kind bs) h in
+    let f = or_parts (bytes_eq (word_of kind) (word_of other)) (has_kind kind bs) h in
     rw (f.0) (within_none kind bs f.1)
 
 -- of a section this holds

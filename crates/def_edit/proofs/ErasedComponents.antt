@@ -3,7 +3,7 @@ use Rattle.std.proofs.Common.{◌≡◌, ℕ, Bool, true, false, ◌||◌, if◌
 use Rattle.std.specs.List.{find, AllByRecursion as Each}
 use Rattle.std.specs.Str.{bytes_eq}
 use Rattle.base_types.specs.Names.{plain_name}
-use Rattle.token_forms.proofs.Spelled.{same_bytes}
+use Rattle.base_types.proofs.TruthValues.{bytes_are}
 use Rattle.cell_table.specs.Cells.{Cells}
 use Rattle.def_syntax.specs.declared.component.Component.{Component as ComponentText}
 use Rattle.def_syntax.specs.declared.design.Located.{Located}
@@ -28,7 +28,7 @@ same_plain components word h = of (find (λ c. bytes_eq c.name (plain_name word)
     of None f = refl
     of (Some c) f =
         let has = find_has IsPlainly (λ c. bytes_eq c.name (plain_name word)) components c h f in
-        sym has.0 ∙ same_bytes c.name (plain_name word) has.1
+        sym has.0 ∙ bytes_are c.name (plain_name word) has.1
 
 mark_keeps : (text word pin : List ℕ) (p : NetPin) → plain_name text ≡ plain_name word → bytes_eq word (codes "PIN") ≡ false → net_pin_of word pin ≡ Some p → net_pin_of (unless_mark text word) pin ≡ Some p
 mark_keeps text word pin p same none is = of (bytes_eq text (codes "PIN")) (bytes_eq text (codes "*")) refl refl

@@ -5,10 +5,10 @@ use Rattle.std.proofs.lemmas.List.{length-append}
 use Rattle.std.proofs.lemmas.List.Concat.{flat_map-append}
 use Rattle.std.proofs.lemmas.Option.{same_Some}
 use Rattle.base_types.specs.Names.{plain_name}
+use Rattle.base_types.proofs.TruthValues.{bytes_are}
 use Rattle.token_forms.specs.Tokens.{Token}
 use Rattle.token_forms.specs.Parts.{token_texts}
 use Rattle.token_forms.specs.Classes.{But, is_in}
-use Rattle.token_forms.proofs.Spelled.{same_bytes}
 use Rattle.def_syntax.specs.Words.{marks}
 use Rattle.def_syntax.specs.Frames.{word_of, is_end}
 use Rattle.def_syntax.specs.Grammar.{design_pin, net}
@@ -98,7 +98,7 @@ MovesFree e nets m = (name : List ℕ) → moving_pin nets m ≡ Some (Port name
 port_is : (name : List ℕ) (o : Option NetPin) → is_port name o ≡ true → o ≡ Some (Port name)
 port_is name None e = absurd cc
 port_is name (Some (Cell component pin)) e = absurd cc
-port_is name (Some (Port port)) e = ap (λ (n : List ℕ). Some (Port n)) (same_bytes port name e)
+port_is name (Some (Port port)) e = ap (λ (n : List ℕ). Some (Port n)) (bytes_are port name e)
 
 -- a word that comes is a name, and the port is free
 record NewWord (e : Erasing) (name w : List ℕ) : Type 0 where

@@ -3,9 +3,9 @@ use Rattle.std.proofs.Common.{◌≡◌, ℕ, Bool, true, false, not, ◌&&◌, 
 use Rattle.std.specs.List.{flat_map, list_all}
 use Rattle.std.specs.Str.{bytes_eq}
 use Rattle.std.proofs.lemmas.Bool.Decides.{nat_tests}
+use Rattle.std.proofs.lemmas.Bool.{and_parts, not-true}
+use Rattle.base_types.proofs.TruthValues.{bytes_are}
 use Rattle.token_forms.specs.Classes.{But, is_in}
-use Rattle.token_forms.proofs.Spelled.{same_bytes}
-use Rattle.token_forms.proofs.ClassLemmas.{both, not_true}
 use Rattle.def_syntax.specs.Words.{marks}
 use Rattle.def_syntax.specs.Options.{open_behind}
 use Rattle.def_layout.specs.declared.net.ConnectionLayout.{ConnectionLayout}
@@ -60,7 +60,7 @@ pub erased_options : (e : Erasing) (ws : List (List ℕ)) → begins_plus ws ≡
 unfolding erased_words
 erased_options e [] h = ap (λ (x : List (List ℕ)). x ++ codes ";" ∷ []) (others_end 0 false [])
 erased_options e (w ∷ ws) h =
-    let is = same_bytes w (codes "+") h in
+    let is = bytes_are w (codes "+") h in
     let opened : bytes_eq w (codes "(") ≡ false = rw is refl in
     rw opened (ap (λ (x : List (List ℕ)). x ++ codes ";" ∷ []) (others_end 0 false (w ∷ ws)))
 
@@ -72,7 +72,7 @@ skip_word d w ws e = let h = no_mark w e in rw (h.opens, h.closes, h.plus) refl
 skip_connection : (c : ConnectionLayout) (rest : List (List ℕ)) → is_good c ≡ true → other_words 0 false (connection_words c ++ rest) ≡ other_words 0 false rest
 unfolding other_words
 skip_connection c rest good =
-    let h = both (is_in (But marks) c.component) (is_in (But marks) c.pin) good in
+    let h = and_parts (is_in (But marks) c.component) (is_in (But marks) c.pin) good in
     skip_word 1 c.component (c.pin ∷ ((synthesized_words c.synthesized ++ codes ")" ∷ []) ++ rest)) h.0 ∙ skip_word 1 c.pin ((synthesized_words c.synthesized ++ codes ")" ∷ []) ++ rest) h.1 ∙ of c.synthesized
   where
     of : (s : Bool) → other_words 1 false ((synthesized_words s ++ codes ")" ∷ []) ++ rest) ≡ other_words 0 false rest
@@ -82,7 +82,7 @@ skip_connection c rest good =
 skip_connections : (cs : List ConnectionLayout) (rest : List (List ℕ)) → list_all is_good cs ≡ true → other_words 0 false (flat_map connection_words cs ++ rest) ≡ other_words 0 false rest
 skip_connections [] rest good = refl
 skip_connections (c ∷ cs) rest good =
-    let h = both (is_good c) (list_all is_good cs) good in
+    let h = and_parts (is_good c) (list_all is_good cs) good in
     ap (other_words 0 false) (append_assoc (connection_words c) (flat_map connection_words cs) rest) ∙ skip_connection c (flat_map connection_words cs ++ rest) h.0 ∙ skip_connections cs rest h.1
 
 pub others_of : (name : List ℕ) (cs : List ConnectionLayout) (rest : List (List ℕ)) → is_in (But marks) name ≡ true → list_all is_good cs ≡ true
@@ -100,8 +100,8 @@ others_plus d (w ∷ ws) = of (begins_option d w) (begins_wiring ws) refl (other
         → begins_plus ((if (if b then not c else false) && not (bytes_eq w (codes ";")) then w ∷ [] else []) ++ other_words (open_behind d w) (if b then not c else false) ws) ≡ true
     of true true e r = r
     of true false e r =
-        let plus = (both (bytes_eq w (codes "+")) _ e).0 in
-        let is = same_bytes w (codes "+") plus in
+        let plus = (and_parts (bytes_eq w (codes "+")) _ e).0 in
+        let is = bytes_are w (codes "+") plus in
         let semi : bytes_eq w (codes ";") ≡ false = rw is refl in
         rw semi plus
     of false c e r = r
@@ -113,12 +113,12 @@ either_state s (w ∷ ws) h = rw h refl
 
 plus_no_wiring : (ws : List (List ℕ)) → begins_plus ws ≡ true → begins_wiring ws ≡ false
 plus_no_wiring [] h = refl
-plus_no_wiring (w ∷ ws) h = let is = same_bytes w (codes "+") h in rw is refl
+plus_no_wiring (w ∷ ws) h = let is = bytes_are w (codes "+") h in rw is refl
 
 wiring_left : (ws : List (List ℕ)) → are_free ws ≡ true → begins_wiring ws ≡ false → begins_wiring (other_words 0 true ws) ≡ false
 unfolding other_words
 wiring_left [] free e = refl
-wiring_left (w ∷ ws) free e = of (begins_option 0 w) (begins_wiring ws) (not_true _ (both (not (bytes_eq w (codes ";"))) (are_free ws) free).0) (others_plus (open_behind 0 w) ws)
+wiring_left (w ∷ ws) free e = of (begins_option 0 w) (begins_wiring ws) (not-true _ (and_parts (not (bytes_eq w (codes ";"))) (are_free ws) free).0) (others_plus (open_behind 0 w) ws)
   where
     of : (b c : Bool) → bytes_eq w (codes ";") ≡ false → begins_plus (other_words (open_behind 0 w) false ws) ≡ true
         → begins_wiring ((if (if b then not c else true) && not (bytes_eq w (codes ";")) then w ∷ [] else []) ++ other_words (open_behind 0 w) (if b then not c else true) ws) ≡ false
@@ -131,7 +131,7 @@ zero_if true k e = e
 zero_if false k e = refl
 
 zero_of : (a : Bool) (d : ℕ) → (a && (d == 0)) ≡ true → d ≡ 0
-zero_of a d e = let h = (both a (d == 0) e).1 in grind (arith, nat_tests)
+zero_of a d e = let h = (and_parts a (d == 0) e).1 in grind (arith, nat_tests)
 
 plus_again : (s : Bool) (ws : List (List ℕ)) → are_free ws ≡ true → begins_wiring ws ≡ false → other_words 0 true (other_words 0 true ws) ≡ other_words 0 true ws
     → other_words 0 s (codes "+" ∷ other_words 0 true ws) ≡ codes "+" ∷ other_words 0 true ws
@@ -143,8 +143,8 @@ others_twice : (d : ℕ) (s : Bool) (ws : List (List ℕ)) → are_free ws ≡ t
 unfolding other_words
 others_twice d s [] free = refl
 others_twice d s (w ∷ ws) free =
-    let f = both (not (bytes_eq w (codes ";"))) (are_free ws) free in
-    of s (begins_option d w) (begins_wiring ws) refl refl (not_true _ f.0) (λ u. others_twice (open_behind d w) u ws f.1) f.1
+    let f = and_parts (not (bytes_eq w (codes ";"))) (are_free ws) free in
+    of s (begins_option d w) (begins_wiring ws) refl refl (not-true _ f.0) (λ u. others_twice (open_behind d w) u ws f.1) f.1
   where
     of : (s b c : Bool) → begins_option d w ≡ b → begins_wiring ws ≡ c → bytes_eq w (codes ";") ≡ false
         → ((u : Bool) → other_words (if u then open_behind d w else 0) u (other_words (open_behind d w) u ws) ≡ other_words (open_behind d w) u ws) → are_free ws ≡ true
@@ -156,7 +156,7 @@ others_twice d s (w ∷ ws) free =
         ap (λ (k : ℕ). other_words k s out) (zero_if s d none) ∙ either_state s out (others_plus (open_behind d w) ws) ∙ again false
     of s true false e g semi again rest =
         let none = zero_of (bytes_eq w (codes "+")) d e in
-        let is = same_bytes w (codes "+") (both (bytes_eq w (codes "+")) _ e).0 in
+        let is = bytes_are w (codes "+") (and_parts (bytes_eq w (codes "+")) _ e).0 in
         let level : open_behind d w ≡ 0 = rw (is, none) refl in
         let once : other_words 0 true (other_words 0 true ws) ≡ other_words 0 true ws = ap (λ (k : ℕ). other_words k true (other_words k true ws)) (sym level) ∙ again true ∙ ap (λ (k : ℕ). other_words k true ws) level in
         let here : (if s then d else 0) ≡ 0 = zero_if s d none in

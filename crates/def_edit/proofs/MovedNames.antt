@@ -3,11 +3,10 @@ use Rattle.std.proofs.Common.{◌≡◌, ℕ, zero, suc, ◌+◌, ◌-◌, ◌�
 use Rattle.std.specs.Prelude.{nat_le, option_map, option_and_then, unwrap_or}
 use Rattle.std.specs.List.{find, flat_map, filter_map, list_all, slice_get, AllByRecursion as Each}
 use Rattle.std.specs.Str.{bytes_eq}
-use Rattle.std.proofs.lemmas.Bool.{and_from, or_left}
+use Rattle.std.proofs.lemmas.Bool.{and_from, or_left, and_parts}
 use Rattle.base_types.specs.Names.{plain_name}
 use Rattle.token_forms.specs.Classes.{But, is_in}
 use Rattle.token_forms.specs.Tokens.{Token}
-use Rattle.token_forms.proofs.ClassLemmas.{both}
 use Rattle.def_tokens.specs.DefTokens.{is_black, has_end}
 use Rattle.def_syntax.specs.Words.{marks}
 use Rattle.def_syntax.specs.declared.net.NetStatement.{NetStatement}
@@ -36,7 +35,7 @@ escapes bs = flat_map (λ c. 92 ∷ c ∷ []) bs
 
 escapes_black : (bs : List ℕ) → list_all is_black bs ≡ true → list_all is_black (escapes bs) ≡ true
 escapes_black [] all = refl
-escapes_black (b ∷ bs) all = let h = both (is_black b) (list_all is_black bs) all in rw (h.0) (escapes_black bs h.1)
+escapes_black (b ∷ bs) all = let h = and_parts (is_black b) (list_all is_black bs) all in rw (h.0) (escapes_black bs h.1)
 
 escapes_long : (b : ℕ) (bs : List ℕ) → 2 ≤ length (escapes (b ∷ bs))
 escapes_long b bs = omega arith
@@ -85,7 +84,7 @@ pub read_plain : (w : List ℕ) → IsWord w → is_plain w ≡ true
 read_plain w h = plain_of (is_whole w) (is_in (But marks) w) (list_all is_black w) h.0 h.1
 
 name_parts : (w : List ℕ) → is_name w ≡ true → (is_whole w ≡ true) × (is_in (But marks) w ≡ true)
-name_parts w h = both (is_whole w) (is_in (But marks) w) h
+name_parts w h = and_parts (is_whole w) (is_in (But marks) w) h
 
 pub name_plain : (w : List ℕ) → is_name w ≡ true → is_plain w ≡ true
 name_plain w h = or_left (is_name w) (list_all is_black w) h
@@ -157,12 +156,12 @@ IsBothIf (Some c) = names_both c ≡ true
 
 get_both : (cs : List ConnectionLayout) → list_all names_both cs ≡ true → (k : ℕ) → IsBothIf (slice_get cs k)
 get_both [] all k = tt
-get_both (c ∷ cs) all zero = (both (names_both c) (list_all names_both cs) all).0
-get_both (c ∷ cs) all (suc k) = get_both cs (both (names_both c) (list_all names_both cs) all).1 k
+get_both (c ∷ cs) all zero = (and_parts (names_both c) (list_all names_both cs) all).0
+get_both (c ∷ cs) all (suc k) = get_both cs (and_parts (names_both c) (list_all names_both cs) all).1 k
 
 filter_both : (p : ConnectionLayout → Bool) (cs : List ConnectionLayout) → list_all names_both cs ≡ true → list_all names_both (filter p cs) ≡ true
 filter_both p [] all = refl
-filter_both p (c ∷ cs) all = let h = both (names_both c) (list_all names_both cs) all in step (p c) h.0 (filter_both p cs h.1)
+filter_both p (c ∷ cs) all = let h = and_parts (names_both c) (list_all names_both cs) all in step (p c) h.0 (filter_both p cs h.1)
   where
     step : (b : Bool) → names_both c ≡ true → list_all names_both (filter p cs) ≡ true → list_all names_both (cond b (c ∷ filter p cs) (filter p cs)) ≡ true
     step true e more = and_from (names_both c) (list_all names_both (filter p cs)) e more
@@ -183,12 +182,12 @@ module _ (cs : List Component) (named : AreNamed cs) (rows : List NetWords) (all
   listed_both : (o : Option ConnectionLayout) → IsBothIf o → list_all names_both (added_list cs o) ≡ true
   listed_both None h = refl
   listed_both (Some c) h =
-      let b = both (names_word c.component) (names_word c.pin) h in
+      let b = and_parts (names_word c.component) (names_word c.pin) h in
       and_from (names_both (added_for cs c)) true (and_from (names_word (end_word cs c.component)) (names_word c.pin) (end_has (λ w. names_word w ≡ true) cs (words cs named) c.component b.0) b.1) refl
 
   both_append : (xs ys : List ConnectionLayout) → list_all names_both xs ≡ true → list_all names_both ys ≡ true → list_all names_both (xs ++ ys) ≡ true
   both_append [] ys e f = f
-  both_append (x ∷ xs) ys e f = let h = both (names_both x) (list_all names_both xs) e in and_from (names_both x) (list_all names_both (xs ++ ys)) h.0 (both_append xs ys h.1 f)
+  both_append (x ∷ xs) ys e f = let h = and_parts (names_both x) (list_all names_both xs) e in and_from (names_both x) (list_all names_both (xs ++ ys)) h.0 (both_append xs ys h.1 f)
 
   added_both : (moves : List PinMove) → list_all names_both (added_with cs rows moves) ≡ true
   added_both [] = refl

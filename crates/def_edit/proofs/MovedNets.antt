@@ -5,9 +5,9 @@ use Rattle.std.specs.List.{slice_get, filter_map, cons_option}
 use Rattle.std.proofs.lemmas.Option.{slice_get-map}
 use Rattle.std.proofs.lemmas.List.{append-nil}
 use Rattle.std.proofs.lemmas.List.Elements.{filter_map-append}
+use Rattle.std.proofs.lemmas.Bool.{or_parts}
 use Rattle.base_types.specs.Names.{plain_name}
 use Rattle.base_types.specs.declared.span.Span.{Span}
-use Rattle.token_forms.proofs.ClassLemmas.{neither}
 use Rattle.def_syntax.specs.declared.design.Located.{Located}
 use Rattle.def_syntax.specs.declared.net.NetStatement.{NetStatement}
 use Rattle.def_syntax.specs.declared.net.NetStatement.TheVariants as statements
@@ -94,8 +94,8 @@ stays_are moves net place (c ∷ cs) = stays_step moves net place c cs (pin_of_w
 none_leaves : (moves : List PinMove) (net place : ℕ) → is_touched moves net ≡ false → leaves moves net place ≡ false
 none_leaves [] net place e = refl
 none_leaves (m ∷ ms) net place e =
-    let h = neither (eqb m.from net || eqb m.to net) (is_touched ms net) e in
-    let off = neither (eqb m.from net) (eqb m.to net) h.0 in
+    let h = or_parts (eqb m.from net || eqb m.to net) (is_touched ms net) e in
+    let off = or_parts (eqb m.from net) (eqb m.to net) h.0 in
     rw (off.0) (none_leaves ms net place h.1)
 
 all_stay : (moves : List PinMove) (net place : ℕ) (ps : List NetPin) → is_touched moves net ≡ false → staying moves net place ps ≡ ps
@@ -106,8 +106,8 @@ all_stay moves net place (p ∷ ps) e = rw (none_leaves moves net place e, all_s
 none_come : (nets : List Net) (moves : List PinMove) (net : ℕ) → is_touched moves net ≡ false → coming nets moves net ≡ []
 none_come nets [] net e = refl
 none_come nets (m ∷ ms) net e =
-    let h = neither (eqb m.from net || eqb m.to net) (is_touched ms net) e in
-    let off = neither (eqb m.from net) (eqb m.to net) h.0 in
+    let h = or_parts (eqb m.from net || eqb m.to net) (is_touched ms net) e in
+    let off = or_parts (eqb m.from net) (eqb m.to net) h.0 in
     rw (off.1) (none_come nets ms net h.1)
 
 pins_stay : (nets : List Net) (moves : List PinMove) (net : ℕ) (ps : List NetPin) → is_touched moves net ≡ false → moved_pins nets moves net ps ≡ ps

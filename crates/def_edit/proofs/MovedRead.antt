@@ -2,13 +2,13 @@
 use Rattle.std.proofs.Common.{◌≡◌, ℕ, ◌<◌, Bool, true, false, cond, not, ◌&&◌, ◌||◌, List, [], ◌∷◌, ◌++◌, length, codes, Option, Some, None, inl, inr, refl, sym, ap, ◌∙◌, subst, arith, append-nil}
 use Rattle.std.specs.List.{flat_map, list_all, AllByRecursion as Each}
 use Rattle.std.specs.Str.{bytes_eq}
-use Rattle.std.proofs.lemmas.Bool.{and_from}
+use Rattle.std.proofs.lemmas.Bool.{and_from, and_parts}
+use Rattle.std.proofs.lemmas.Option.{same_Some}
 use Rattle.token_forms.specs.Tokens.{Token}
 use Rattle.token_forms.specs.Parts.{token_texts}
 use Rattle.token_forms.specs.Parsing.{◌>>=◌}
 use Rattle.token_forms.specs.Classes.{But, is_among, is_in}
 use Rattle.token_forms.specs.Forms.{Form, AreMany, IsMaybe, put_all}
-use Rattle.token_forms.proofs.ClassLemmas.{both}
 use Rattle.def_tokens.specs.DefTokens.{is_black, has_end, tokens_in}
 use Rattle.def_tokens.specs.DefSplit.{begins_run}
 use Rattle.def_tokens.specs.DefStatements.{IsStatementSplit}
@@ -52,14 +52,14 @@ stand_front : (xs ys : List (List ℕ)) → are_standing (xs ++ ys) ≡ true →
 stand_front [] ys h = refl
 stand_front (w ∷ []) ys h = refl
 stand_front (w ∷ v ∷ ws) ys h =
-    let b = both (is_whole w || (is_cut w && bytes_eq v (codes ";"))) (are_standing (v ∷ (ws ++ ys))) h in
+    let b = and_parts (is_whole w || (is_cut w && bytes_eq v (codes ";"))) (are_standing (v ∷ (ws ++ ys))) h in
     and_from (is_whole w || (is_cut w && bytes_eq v (codes ";"))) (are_standing (v ∷ ws)) b.0 (stand_front (v ∷ ws) ys b.1)
 
 stand_behind : (xs ys : List (List ℕ)) → are_standing (xs ++ ys) ≡ true → are_standing ys ≡ true
 stand_behind [] ys h = h
 stand_behind (w ∷ []) [] h = refl
-stand_behind (w ∷ []) (v ∷ ys) h = (both (is_whole w || (is_cut w && bytes_eq v (codes ";"))) (are_standing (v ∷ ys)) h).1
-stand_behind (w ∷ v ∷ ws) ys h = stand_behind (v ∷ ws) ys (both (is_whole w || (is_cut w && bytes_eq v (codes ";"))) (are_standing (v ∷ (ws ++ ys))) h).1
+stand_behind (w ∷ []) (v ∷ ys) h = (and_parts (is_whole w || (is_cut w && bytes_eq v (codes ";"))) (are_standing (v ∷ ys)) h).1
+stand_behind (w ∷ v ∷ ws) ys h = stand_behind (v ∷ ws) ys (and_parts (is_whole w || (is_cut w && bytes_eq v (codes ";"))) (are_standing (v ∷ (ws ++ ys))) h).1
 
 run_black : (a g b e v : Bool) → (a || (((g && b) && e) && v)) ≡ true → (a || b) ≡ true
 run_black true g b e v h = refl
@@ -72,9 +72,9 @@ read_of w v h = run_black (is_whole w) (begins_run w) (list_all is_black w) (has
 
 read_before : (ts : List Token) (u : Token) (us : List Token) → are_standing (token_texts ts ++ u.text ∷ token_texts us) ≡ true → AreRead ts
 read_before [] u us h = tt
-read_before (t ∷ []) u us h = (read_of t.text u.text (both (is_whole t.text || (is_cut t.text && bytes_eq u.text (codes ";"))) (are_standing (u.text ∷ token_texts us)) h).0, tt)
+read_before (t ∷ []) u us h = (read_of t.text u.text (and_parts (is_whole t.text || (is_cut t.text && bytes_eq u.text (codes ";"))) (are_standing (u.text ∷ token_texts us)) h).0, tt)
 read_before (t ∷ v ∷ ts) u us h =
-    let b = both (is_whole t.text || (is_cut t.text && bytes_eq v.text (codes ";"))) (are_standing (v.text ∷ (token_texts ts ++ u.text ∷ token_texts us))) h in
+    let b = and_parts (is_whole t.text || (is_cut t.text && bytes_eq v.text (codes ";"))) (are_standing (v.text ∷ (token_texts ts ++ u.text ∷ token_texts us))) h in
     (read_of t.text v.text b.0, read_before (v ∷ ts) u us b.1)
 
 none_first : (x rest : List Token) → 0 < length x → [] ≡ x ++ rest → ⊥
@@ -192,9 +192,6 @@ record IsSoFar (s : SoFar) : Type 0 where
   start : IsEndIf s.start
   stop : IsEndIf s.stop
 
-some_same : {S : Type 0} (s t : S) → Some s ≡ Some t → s ≡ t
-some_same s t e = cc
-
 once_some : {X S : Type 0} (o : Option X) (s t : S) → once o s ≡ Some t → s ≡ t
 once_some None s t e = cc
 once_some (Some x) s t e = absurd cc
@@ -262,7 +259,7 @@ made_chain s c h e = step s.start s.stop (some_list s.lists) h.start h.stop e
     step None b l f g e = absurd cc
     step (Some x) None l f g e = absurd cc
     step (Some x) (Some y) false f g e = absurd cc
-    step (Some x) (Some y) true f g e = subst IsChain (some_same _ c e) (record { name = h.name; partition = h.partition; start = f; stop = g })
+    step (Some x) (Some y) true f g e = subst IsChain (same_Some _ c e) (record { name = h.name; partition = h.partition; start = f; stop = g })
 
 off_first : (a b c : Bool) → c ≡ false → (a || (b && c)) ≡ true → a ≡ true
 off_first true b c e h = refl
@@ -273,8 +270,8 @@ off_first false false c e h = h
 seen_whole : (s : List Token) (a b c : Token) (rest : List Token) → IsSeen s → s ≡ a ∷ b ∷ c ∷ rest → bytes_eq c.text (codes ";") ≡ false → is_whole b.text ≡ true
 seen_whole s a b c rest seen e off =
     let all = subst (λ (ts : List Token). are_standing (token_texts ts) ≡ true) e seen.stands in
-    let x = both (is_whole a.text || (is_cut a.text && bytes_eq b.text (codes ";"))) (are_standing (b.text ∷ c.text ∷ token_texts rest)) all in
-    let y = both (is_whole b.text || (is_cut b.text && bytes_eq c.text (codes ";"))) (are_standing (c.text ∷ token_texts rest)) x.1 in
+    let x = and_parts (is_whole a.text || (is_cut a.text && bytes_eq b.text (codes ";"))) (are_standing (b.text ∷ c.text ∷ token_texts rest)) all in
+    let y = and_parts (is_whole b.text || (is_cut b.text && bytes_eq c.text (codes ";"))) (are_standing (c.text ∷ token_texts rest)) x.1 in
     off_first (is_whole b.text) (is_cut b.text) (bytes_eq c.text (codes ";")) off y.0
 
 record BeginsPlus (ts : List Token) : Type 0 where
@@ -286,7 +283,7 @@ record BeginsPlus (ts : List Token) : Type 0 where
 -- a chain has a clause
 some_clause : (cs : List Clause) (n : List ℕ) (s r : SoFar) (c : Chain) (ts : List Token) → fresh_chain n ≡ s → put_all put_clause s cs ≡ Some r → chain_made r ≡ Some c → AreMany clause.spells cs ts → BeginsPlus ts
 unfolding put_all clause
-some_clause [] n s r c ts f p e h = let no : None ≡ Some c = ap chain_made (f ∙ some_same s r p) ∙ e in absurd cc
+some_clause [] n s r c ts f p e h = let no : None ≡ Some c = ap chain_made (f ∙ same_Some s r p) ∙ e in absurd cc
 some_clause (x ∷ cs) n s r c ts f p e h =
     let a = h.first.holds in
     record {
@@ -341,9 +338,9 @@ unfolding component_option
 option_keeps closed o ts h =
     subst KeepsName h.is
     (elim h.holds.second [
-      | inl p ↦ subst KeepsName p.is (λ s t g e. subst IsNamed (some_same _ t e) g)
-      | inr (inl p) ↦ subst KeepsName p.is (λ s t g e. subst IsNamed (some_same _ t e) g)
-      | inr (inr p) ↦ subst KeepsName p.is (λ s t g e. subst IsNamed (some_same _ t e) g)
+      | inl p ↦ subst KeepsName p.is (λ s t g e. subst IsNamed (same_Some _ t e) g)
+      | inr (inl p) ↦ subst KeepsName p.is (λ s t g e. subst IsNamed (same_Some _ t e) g)
+      | inr (inr p) ↦ subst KeepsName p.is (λ s t g e. subst IsNamed (same_Some _ t e) g)
     ])
 
 many_keep : (closed : Bool) (os : List ComponentOption) (ts : List Token) → AreMany (component_option closed).spells os ts → Each KeepsName os
@@ -356,7 +353,7 @@ last_keeps closed os (Some o) ts all h = each_append KeepsName os (o ∷ []) all
 
 puts_keep : (s : ComponentSoFar) (os : List ComponentOption) (t : ComponentSoFar) → IsNamed s → Each KeepsName os → put_all put_component s os ≡ Some t → IsNamed t
 unfolding put_all
-puts_keep s [] t h g e = subst IsNamed (some_same s t e) h
+puts_keep s [] t h g e = subst IsNamed (same_Some s t e) h
 puts_keep s (o ∷ os) t h g e =
     let b = bound (put_component s o) (λ u. put_all put_component u os) t e in
     puts_keep b.value os t (g.0 s b.value h b.is) g.1 b.gives

@@ -5,6 +5,7 @@ use Rattle.std.proofs.lemmas.Bool.Decides.{nat_tests}
 use Rattle.std.proofs.lemmas.List.Concat.{flat_map-append}
 use Rattle.std.proofs.Common.{append_assoc}
 use Rattle.base_types.specs.declared.span.Span.{Span}
+use Rattle.base_types.proofs.TruthValues.{or_true}
 use Rattle.token_forms.specs.Runs.{bytes_of}
 use Rattle.splice.specs.declared.Edit.{Edit}
 use Rattle.def_syntax.specs.declared.net.Connection.{Connection}
@@ -36,10 +37,6 @@ count_none : {X : Type 0} (xs : List X) → eqb (length xs) 0 ≡ none_of xs
 unfolding none_of
 count_none [] = refl
 count_none (x ∷ xs) = grind (arith, nat_tests)
-
-or_true : (a : Bool) → (a || true) ≡ true
-or_true true = refl
-or_true false = refl
 
 any_parts : (p q : PinMove → Bool) (ms : List PinMove) → (not (none_of (filter p ms)) || not (none_of (filter q ms))) ≡ list_any (λ m. p m || q m) ms
 unfolding none_of

@@ -6,10 +6,10 @@ use Rattle.std.proofs.lemmas.List.{append-nil}
 use Rattle.std.proofs.lemmas.List.Folds.{flat_map-map}
 use Rattle.std.proofs.lemmas.List.Concat.{flat_map-append}
 use Rattle.std.specs.Str.{bytes_eq}
+use Rattle.std.proofs.lemmas.Bool.{and_parts}
 use Rattle.token_forms.specs.Parsing.{◌>>=◌}
 use Rattle.token_forms.specs.Forms.{Form, made, many, maybe, ◌&◌, ◌▸◌, ◌◂◌, ◌or◌, gathered, put_all}
 use Rattle.token_forms.specs.Classes.{But, is_among, is_in}
-use Rattle.token_forms.proofs.ClassLemmas.{both}
 use Rattle.def_syntax.specs.Words.{marks, any, name, cell_name, number, is_number}
 use Rattle.def_syntax.specs.Grammar.{bracket, element, elements, element_list, terminal, partition, common_pins, clause, chain}
 use Rattle.def_syntax.specs.Pieces.{once, some_list, fresh_element, put_bracket, is_floating, fresh_chain, put_clause, chain_of}
@@ -33,10 +33,10 @@ use Rattle.def_layout.proofs.SectionWords.{well_of}
 use Rattle.def_layout.proofs.Spellings.{Spells, text_spells, left_spells, right_spells, none_spells, maybe_spells, many_nil, many_cons, some_spells, before_spells, behind_spells, seq_spells, made_spells, made_if_spells, gathered_spells, each_spells, many_both}
 
 name_spells : (w : List ℕ) → is_name w ≡ true → Spells name w (w ∷ [])
-name_spells w e = text_spells (But marks) any w (both (is_whole w) (is_in (But marks) w) e).1 refl
+name_spells w e = text_spells (But marks) any w (and_parts (is_whole w) (is_in (But marks) w) e).1 refl
 
 number_spells : (n : ℕ) → Spells number (decimal n) (decimal n ∷ [])
-number_spells n = text_spells (But marks) is_number (decimal n) (both (is_whole (decimal n)) (is_in (But marks) (decimal n)) (number_name n)).1 (number_number n)
+number_spells n = text_spells (But marks) is_number (decimal n) (and_parts (is_whole (decimal n)) (is_in (But marks) (decimal n)) (number_name n)).1 (number_number n)
 
 -- the brackets of an element, whatever they make
 module _ {B : Type 0} (i o n : List ℕ → B) where
@@ -80,8 +80,8 @@ bits_bracket k = (_, bits_spells _ _ _ k, λ e. refl)
 element_spells : (e : ElementLayout) → names_element e ≡ true → Spells element (element_of e) (element_line e).words
 unfolding element put_all
 element_spells e h =
-    let q = both (is_name e.name) (is_name e.input && is_name e.output) h in
-    let r = both (is_name e.input) (is_name e.output) q.1 in
+    let q = and_parts (is_name e.name) (is_name e.input && is_name e.output) h in
+    let r = and_parts (is_name e.input) (is_name e.output) q.1 in
     let a = in_bracket e.input r.0 in
     let b = out_bracket e.output r.1 in
     let n = bits_bracket e.bits in
@@ -96,7 +96,7 @@ elements_spell : (es : List ElementLayout) → names_list es ≡ true → Spells
 unfolding elements
 elements_spell [] h = absurd cc
 elements_spell (e ∷ es) h =
-    let q = both (names_element e) (list_all names_element es) h in
+    let q = and_parts (names_element e) (list_all names_element es) h in
     let words = flat_map-map (λ l. l.words) element_line es in
     some_spells element (element_of e) (map element_of es) (element_line e).words (flat_map (λ l. l.words) (map element_line es)) (element_spells e q.0)
     (subst (λ (ws : List (List ℕ)). Spells (many element) (map element_of es) ws) (sym words) (each_spells element element_of (λ e. (element_line e).words) names_element element_spells es q.1))
@@ -115,8 +115,8 @@ ordered_spells es h =
 
 cell_spells : (w : List ℕ) → (is_name w && not (bytes_eq w (codes "PIN"))) ≡ true → Spells cell_name w (w ∷ [])
 cell_spells w e =
-    let q = both (is_name w) (not (bytes_eq w (codes "PIN"))) e in
-    text_spells (But (codes "PIN" ∷ marks)) any w (no_more (bytes_eq w (codes "PIN")) (is_among marks w) q.1 (both (is_whole w) (is_in (But marks) w) q.0).1) refl
+    let q = and_parts (is_name w) (not (bytes_eq w (codes "PIN"))) e in
+    text_spells (But (codes "PIN" ∷ marks)) any w (no_more (bytes_eq w (codes "PIN")) (is_among marks w) q.1 (and_parts (is_whole w) (is_in (But marks) w) q.0).1) refl
   where
     no_more : (a b : Bool) → not a ≡ true → not b ≡ true → not (a || b) ≡ true
     no_more true b e f = e
@@ -128,7 +128,7 @@ terminal_spells (written.AtPin pin) h =
     left_spells (made terminals.AtPin ("PIN" ▸ name)) (made (λ p. terminals.AtCell p.0 p.1) (cell_name & maybe name)) (terminals.AtPin pin) (codes "PIN" ∷ pin ∷ [])
     (made_spells ("PIN" ▸ name) terminals.AtPin pin (codes "PIN" ∷ pin ∷ []) (before_spells name "PIN" pin (pin ∷ []) (name_spells pin h)))
 terminal_spells (written.AtCell component pin) h =
-    let q = both (is_name component && not (bytes_eq component (codes "PIN"))) (is_name pin) h in
+    let q = and_parts (is_name component && not (bytes_eq component (codes "PIN"))) (is_name pin) h in
     right_spells (made terminals.AtPin ("PIN" ▸ name)) (made (λ p. terminals.AtCell p.0 p.1) (cell_name & maybe name)) (terminals.AtCell component (Some pin)) (component ∷ pin ∷ [])
     (made_spells (cell_name & maybe name) (λ p. terminals.AtCell p.0 p.1) (component, Some pin) (component ∷ pin ∷ [])
     (seq_spells cell_name (maybe name) component (Some pin) (component ∷ []) (pin ∷ []) (cell_spells component q.0) (maybe_spells name pin (pin ∷ []) (name_spells pin q.1))))
@@ -235,7 +235,7 @@ ordered_part : (ls : List (List ElementLayout)) → list_all names_list ls ≡ t
 unfolding put_all list_lines
 ordered_part [] h = ([], many_nil clause, λ s. rw (append-nil s.lists) refl)
 ordered_part (es ∷ ls) h =
-    let q = both (names_list es) (list_all names_list ls) h in
+    let q = and_parts (names_list es) (list_all names_list ls) h in
     let c = list_clause (lists.Ordered (map element_of es)) (codes "ORDERED" ∷ flat_map (λ l. l.words) (map element_line es)) (ordered_spells es q.0) in
     let r = ordered_part ls q.1 in
     let words = flat_map-append (λ l. l.words) (list_lines (codes "ORDERED") es) (flat_map (list_lines (codes "ORDERED")) ls) in (

@@ -7,8 +7,8 @@ use Rattle.std.proofs.lemmas.Bool.Decides.{nat_tests}
 use Rattle.std.proofs.lemmas.List.{append-nil, take_at, get_or-append-add}
 use Rattle.std.proofs.Math.ListN.{get_or-append}
 use Rattle.std.proofs.lemmas.List.Sums.{prefix_len_stops}
+use Rattle.std.proofs.lemmas.Bool.{and_parts, not-true}
 use Rattle.token_forms.specs.declared.piece.Piece.TheVariants.{Token}
-use Rattle.token_forms.proofs.ClassLemmas.{both, not_true}
 use Rattle.def_tokens.specs.DefTokens.{is_blank, is_black, has_end, piece_at}
 use Rattle.def_tokens.specs.DefSplit.{begins_run, goes_on}
 use Rattle.def_layout.specs.Words.{texts, spaced, is_quoted, is_run, is_whole, is_cut, HasWords}
@@ -25,7 +25,7 @@ are_closing (w ∷ v ∷ ws) = is_whole w && are_closing (v ∷ ws)
 quoted_no_end : (w : List ℕ) → is_quoted w ≡ true → has_end w ≡ false
 quoted_no_end [] e = absurd cc
 quoted_no_end (b ∷ bs) e =
-    let q = both (eqb b 34) (eqb (prefix_len (λ c. not (eqb c 34)) bs + 1) (length bs)) e in
+    let q = and_parts (eqb b 34) (eqb (prefix_len (λ c. not (eqb c 34)) bs + 1) (length bs)) e in
     let n = prefix_len (λ c. not (eqb c 34)) bs in
     let size : n + 1 ≡ length bs = sized n (length bs) q.1 in
     let stop = prefix_len_stops (λ c. not (eqb c 34)) bs 0 (omega arith) in
@@ -81,8 +81,8 @@ end_behind x (c ∷ d ∷ w) stands free =
 double_end : (b : ℕ) (bs : List ℕ) → has_end (b ∷ bs) ≡ true → has_end (b ∷ bs ++ 59 ∷ []) ≡ true
 double_end b bs end =
     let w = b ∷ bs in
-    let parts = both (nat_le 2 (length w)) _ end in
-    let semi = (both (eqb (get_or w (suc (length bs) - 1) 0) 59) _ parts.1).0 in
+    let parts = and_parts (nat_le 2 (length w)) _ end in
+    let semi = (and_parts (eqb (get_or w (suc (length bs) - 1) 0) 59) _ parts.1).0 in
     let l = length-append bs (59 ∷ []) in
     let at : suc (length (bs ++ 59 ∷ [])) - 1 ≡ suc (length bs) + 0 = omega arith in
     let before : suc (length (bs ++ 59 ∷ [])) - 2 ≡ length bs = omega arith in
@@ -100,11 +100,11 @@ double_end b bs end =
 cut_piece : (b : ℕ) (bs z : List ℕ) → is_run (b ∷ bs) ≡ true → has_end (b ∷ bs) ≡ true → goes_on z ≡ false → piece_at (b ∷ bs ++ 59 ∷ z) ≡ Token (suc (length bs))
 unfolding piece_at
 cut_piece b bs z run end free =
-    let h = both (begins_run (b ∷ bs)) (list_all is_black (b ∷ bs)) run in
+    let h = and_parts (begins_run (b ∷ bs)) (list_all is_black (b ∷ bs)) run in
     let o = none_of (is_blank b) (eqb b 35) (eqb b 34) h.0 in
     let join = append_assoc bs (59 ∷ []) z in
     let l = length-append bs (59 ∷ []) in
-    let all : list_all is_black (bs ++ 59 ∷ []) ≡ true = more bs (both (is_black b) (list_all is_black bs) h.1).1 in
+    let all : list_all is_black (bs ++ 59 ∷ []) ≡ true = more bs (and_parts (is_black b) (list_all is_black bs) h.1).1 in
     let r : prefix_len is_black (bs ++ 59 ∷ z) ≡ length bs + 1 = ap (prefix_len is_black) (sym join) ∙ run_over is_black (bs ++ 59 ∷ []) z all (none_black z free) ∙ l in
     let t : take (length bs + 1 + 1) (b ∷ bs ++ 59 ∷ z) ≡ b ∷ bs ++ 59 ∷ [] = ap (λ (x : List ℕ). take (length bs + 1 + 1) (b ∷ x)) (sym join) ∙ take_at (b ∷ bs ++ 59 ∷ []) z (length bs + 1 + 1) (omega arith) in
     let k : length bs + 1 ≡ suc (length bs) = omega arith in
@@ -112,13 +112,13 @@ cut_piece b bs z run end free =
   where
     more : (cs : List ℕ) → list_all is_black cs ≡ true → list_all is_black (cs ++ 59 ∷ []) ≡ true
     more [] all = refl
-    more (c ∷ cs) all = let h = both (is_black c) (list_all is_black cs) all in rw h.0 (more cs h.1)
+    more (c ∷ cs) all = let h = and_parts (is_black c) (list_all is_black cs) all in rw h.0 (more cs h.1)
 
 -- such a run before its semicolon
 cut_words : (w : List ℕ) → is_cut w ≡ true → HasWords (w ++ codes ";") (w ∷ codes ";" ∷ [])
 cut_words [] e = absurd cc
 cut_words (b ∷ bs) e =
-    let h = both (is_run (b ∷ bs)) (has_end (b ∷ bs)) e in
+    let h = and_parts (is_run (b ∷ bs)) (has_end (b ∷ bs)) e in
     record { goes = λ z free. ap texts (append_assoc (b ∷ bs) (codes ";") z) ∙ one_token (b ∷ bs) (59 ∷ z) (suc (length bs)) refl (cut_piece b bs z h.0 h.1 free) ∙ ap (λ (l : List (List ℕ)). (b ∷ bs) ∷ l) (whole_texts (codes ";") z refl free) }
 
 cut_of : (q r h : Bool) → ((q || (r && not h)) || (r && h)) ≡ true → h ≡ true → (q ≡ true → ⊥) → (r && h) ≡ true
@@ -142,7 +142,7 @@ last_words w stands = by_end (has_end w) (λ e. cut_of (is_quoted w) (is_run w) 
     by_end false f g e = spaced_words (w ∷ codes ";" ∷ []) (rw (g e) refl)
 
 free_part : (w : List ℕ) → is_part w ≡ true → bytes_eq w (codes ";") ≡ false
-free_part w e = not_true _ (both (is_whole w) (not (bytes_eq w (codes ";"))) e).1
+free_part w e = not-true _ (and_parts (is_whole w) (not (bytes_eq w (codes ";"))) e).1
 
 -- words that are no semicolon, and the semicolon behind them
 abbrev pub are_free : List (List ℕ) → Bool
@@ -150,7 +150,7 @@ are_free ws = list_all (λ w. not (bytes_eq w (codes ";"))) ws
 
 pub closed_words : (y : List ℕ) (vs : List (List ℕ)) (w : List ℕ) (ws : List (List ℕ)) → HasWords y vs → are_closing (w ∷ ws) ≡ true → are_free (w ∷ ws) ≡ true → HasWords (closed (y ++ spaced (w ∷ ws))) (vs ++ ((w ∷ ws) ++ codes ";" ∷ []))
 closed_words y vs w [] has closing free =
-    let f = not_true _ (both (not (bytes_eq w (codes ";"))) true free).0 in
+    let f = not-true _ (and_parts (not (bytes_eq w (codes ";"))) true free).0 in
     let end : has_end (y ++ (32 ∷ w ++ [])) ≡ has_end w = ap (λ (x : List ℕ). has_end (y ++ 32 ∷ x)) (append-nil w) ∙ ap has_end (sym (append_assoc y (codes " ") w)) ∙ end_behind (y ++ codes " ") w closing f in
     let text : closed (y ++ (32 ∷ w ++ [])) ≡ y ++ (32 ∷ w ++ (if has_end w then codes ";" else codes " ;")) =
     ap (λ (h : Bool). (y ++ (32 ∷ w ++ [])) ++ (if h then codes ";" else codes " ;")) end ∙ append_assoc y (32 ∷ w ++ []) (if has_end w then codes ";" else codes " ;")
@@ -158,8 +158,8 @@ closed_words y vs w [] has closing free =
     in
     subst (λ (x : List ℕ). HasWords x (vs ++ (w ∷ codes ";" ∷ []))) (sym text) (words_behind y _ vs (w ∷ codes ";" ∷ []) (λ z. refl) has (last_words w closing))
 closed_words y vs w (v ∷ ws) has closing free =
-    let c = both (is_whole w) (are_closing (v ∷ ws)) closing in
-    let f = both (not (bytes_eq w (codes ";"))) (are_free (v ∷ ws)) free in
+    let c = and_parts (is_whole w) (are_closing (v ∷ ws)) closing in
+    let f = and_parts (not (bytes_eq w (codes ";"))) (are_free (v ∷ ws)) free in
     let more : HasWords (y ++ 32 ∷ w) (vs ++ w ∷ []) = words_behind y (32 ∷ w) vs (w ∷ []) (λ z. refl) has (blank_words 32 w (w ∷ []) refl (one_word w c.0)) in
     let r = closed_words (y ++ 32 ∷ w) (vs ++ w ∷ []) v ws more c.1 f.1 in
     let text : (y ++ 32 ∷ w) ++ spaced (v ∷ ws) ≡ y ++ spaced (w ∷ v ∷ ws) = append_assoc y (32 ∷ w) (spaced (v ∷ ws)) in

@@ -2,14 +2,14 @@
 use Rattle.std.proofs.Common.{◌≡◌, ℕ, Bool, true, false, not, ◌&&◌, List, [], ◌∷◌, ◌++◌, map, refl, sym, ap, ◌∙◌, subst, append_assoc, codes, Some, None, inr, is_some}
 use Rattle.std.specs.List.{flat_map, list_all}
 use Rattle.std.specs.Str.{bytes_eq}
+use Rattle.std.proofs.lemmas.Bool.{and_parts, not-true}
 use Rattle.base_types.specs.declared.span.Span.{Span}
+use Rattle.base_types.proofs.TruthValues.{bytes_are}
 use Rattle.token_forms.specs.Tokens.{Token, place_of}
 use Rattle.token_forms.specs.Parts.{token_texts}
 use Rattle.token_forms.specs.Runs.{bytes_of}
 use Rattle.token_forms.specs.Classes.{But, is_in}
 use Rattle.token_forms.specs.Forms.{AreMany, AllPass, passed, maybe, ◌▸◌, ◌&◌, key}
-use Rattle.token_forms.proofs.Spelled.{same_bytes}
-use Rattle.token_forms.proofs.ClassLemmas.{both, not_true}
 use Rattle.def_syntax.specs.Words.{marks, name, name_place, in_statement}
 use Rattle.def_syntax.specs.Grammar.{synthesized, connection, net_body, net}
 use Rattle.def_syntax.specs.declared.net.Connection.{Connection}
@@ -44,7 +44,7 @@ connection_back text c [] inside good e = absurd cc
 connection_back text c (t ∷ []) inside good e = absurd cc
 connection_back text c (t ∷ u ∷ []) inside good e = absurd cc
 connection_back text c (t ∷ u ∷ v ∷ ts) inside good e =
-    let g = both (is_in (But marks) c.component) (is_in (But marks) c.pin) good in
+    let g = and_parts (is_in (But marks) c.component) (is_in (But marks) c.pin) good in
     let te : t.text ≡ codes "(" = cc in
     let ue : u.text ≡ c.component = cc in
     let ve : v.text ≡ c.pin = cc in
@@ -96,7 +96,7 @@ many_back : (text : List ℕ) (cs : List ConnectionLayout) (ts : List Token) →
 many_back text [] [] inside good e = record { values = []; spelled = refl; same = refl }
 many_back text [] (t ∷ ts) inside good e = absurd cc
 many_back text (c ∷ cs) ts inside good e =
-    let g = both (is_good c) (list_all is_good cs) good in
+    let g = and_parts (is_good c) (list_all is_good cs) good in
     let r = cut_texts ts (connection_words c) (flat_map connection_words cs) e in
     let all = subst (AreIn text) r.is inside in
     let a = connection_back text c r.front (each_front (IsIn text) r.front r.back all) g.0 r.first in
@@ -111,11 +111,11 @@ pass_back : (ts : List Token) (ws : List (List ℕ)) → list_all is_passing ws 
 pass_back [] ws all e = refl
 pass_back (t ∷ ts) [] all e = absurd cc
 pass_back (t ∷ ts) (w ∷ ws) all e =
-    let h = both (is_passing w) (list_all is_passing ws) all in
-    let p = both (not (bytes_eq w (codes ";"))) (not (bytes_eq w [])) h.0 in
+    let h = and_parts (is_passing w) (list_all is_passing ws) all in
+    let p = and_parts (not (bytes_eq w (codes ";"))) (not (bytes_eq w [])) h.0 in
     let here : t.text ≡ w = cc in
     let tail : token_texts ts ≡ ws = cc in
-    rw (here, not_true _ p.0, not_true _ p.1) (pass_back ts ws h.1 tail)
+    rw (here, not-true _ p.0, not-true _ p.1) (pass_back ts ws h.1 tail)
 
 -- the words of options: none, or a + and words that pass
 abbrev pub are_options : List (List ℕ) → Bool
@@ -126,8 +126,8 @@ pub options_back : (ws : List (List ℕ)) → are_options ws ≡ true → Pass w
 options_back [] all [] e = (None, refl)
 options_back [] all (t ∷ ts) e = absurd cc
 options_back (w ∷ ws) all ts e =
-    let h = both (bytes_eq w (codes "+")) (list_all is_passing ws) all in
-    let plus : w ≡ codes "+" = same_bytes w (codes "+") h.0 in
+    let h = and_parts (bytes_eq w (codes "+")) (list_all is_passing ws) all in
+    let plus : w ≡ codes "+" = bytes_are w (codes "+") h.0 in
     let here : token_texts ts ≡ codes "+" ∷ ws = e ∙ ap (λ (x : List ℕ). x ∷ ws) plus in
     (Some tt, before_spells (passed in_statement) "+" tt ws (λ us f. record { all = pass_back us ws h.1 f }) ts here)
 

@@ -4,14 +4,14 @@ use Rattle.std.specs.List.{flat_map, list_all}
 use Rattle.std.specs.Str.{bytes_eq}
 use Rattle.std.proofs.lemmas.List.Concat.{flat_map-append}
 use Rattle.std.proofs.lemmas.Option.{same_Some}
+use Rattle.std.proofs.lemmas.Bool.{and_from, and_parts}
 use Rattle.base_types.specs.declared.span.Span.{Span}
 use Rattle.base_types.specs.declared.stop.Stop.{Stop}
+use Rattle.base_types.proofs.TruthValues.{bytes_are}
 use Rattle.base_types.specs.declared.stop.Stop.TheVariants as stops
 use Rattle.token_forms.specs.Tokens.{Token, tokens_of}
 use Rattle.token_forms.specs.Parts.{token_texts}
 use Rattle.token_forms.specs.Classes.{But, is_in}
-use Rattle.token_forms.proofs.Spelled.{same_bytes}
-use Rattle.token_forms.proofs.ClassLemmas.{both}
 use Rattle.def_tokens.specs.DefTokens.{def_tokens, tokens_in}
 use Rattle.def_tokens.specs.DefStatements.{ends_with}
 use Rattle.def_syntax.specs.Words.{marks}
@@ -37,7 +37,7 @@ use Rattle.def_layout.proofs.NetTexts.{texts_are}
 use Rattle.def_layout.proofs.Slices.{slice_law}
 use Rattle.def_layout.proofs.NetThere.{is_good, NetThere, net_there}
 use Rattle.def_layout.proofs.NetBack.{is_passing, are_options, options_back, net_back}
-use Rattle.def_layout.proofs.NetWritten.{whole_connection, true_and, closing_of, closing_behind, closing_both, put_whole, closing_some, connections_whole, whole_words, free_net_name, free_words, all_kept, all_both, others_end, others_closing, others_options, passing_free}
+use Rattle.def_layout.proofs.NetWritten.{whole_connection, closing_of, closing_behind, closing_both, put_whole, closing_some, connections_whole, whole_words, free_net_name, free_words, all_kept, all_both, others_end, others_closing, others_options, passing_free}
 
 pub tokens_are_in : (text : List ℕ) (ss : List Span) → AreIn text (tokens_of text ss)
 tokens_are_in text [] = tt
@@ -45,25 +45,25 @@ tokens_are_in text (s ∷ ss) = (refl, tokens_are_in text ss)
 
 name_whole : (text name : List ℕ) (xs : List Connection) (ws : List (List ℕ)) → some_list xs ≡ true → are_closing (name ∷ (flat_map connection_words (map (connection_in text) xs) ++ ws)) ≡ true → is_whole name ≡ true
 name_whole text name [] ws some h = absurd cc
-name_whole text name (x ∷ xs) ws some h = (both (is_whole name) _ h).0
+name_whole text name (x ∷ xs) ws some h = (and_parts (is_whole name) _ h).0
 
 options_free : (ws : List (List ℕ)) → are_options ws ≡ true → are_free ws ≡ true
 options_free [] h = refl
 options_free (w ∷ ws) h =
-    let a = both (bytes_eq w (codes "+")) (list_all is_passing ws) h in
-    let is = same_bytes w (codes "+") a.0 in
+    let a = and_parts (bytes_eq w (codes "+")) (list_all is_passing ws) h in
+    let is = bytes_are w (codes "+") a.0 in
     rw is (passing_free ws a.1)
 
 -- names are whole, and no marks
 added_are : (cs : List ConnectionLayout) → list_all names_connection cs ≡ true → (list_all whole_connection cs ≡ true) × (list_all is_good cs ≡ true)
 added_are [] h = (refl, refl)
 added_are (c ∷ cs) h =
-    let a = both (names_connection c) (list_all names_connection cs) h in
-    let b = both (is_name c.component) (is_name c.pin) a.0 in
-    let d = both (is_whole c.component) (is_in (But marks) c.component) b.0 in
-    let e = both (is_whole c.pin) (is_in (But marks) c.pin) b.1 in
+    let a = and_parts (names_connection c) (list_all names_connection cs) h in
+    let b = and_parts (is_name c.component) (is_name c.pin) a.0 in
+    let d = and_parts (is_whole c.component) (is_in (But marks) c.component) b.0 in
+    let e = and_parts (is_whole c.pin) (is_in (But marks) c.pin) b.1 in
     let r = added_are cs a.1 in
-    (true_and (whole_connection c) _ (true_and _ _ d.0 e.0) r.0, true_and (is_good c) _ (true_and _ _ d.1 e.1) r.1)
+    (and_from (whole_connection c) _ (and_from _ _ d.0 e.0) r.0, and_from (is_good c) _ (and_from _ _ d.1 e.1) r.1)
 
 module _ (text : List ℕ) (stay : List Bool) (added : List ConnectionLayout) (n : Net) (read : IsNetOf text n) (some : some_list n.connections ≡ true) (names : list_all names_connection added ≡ true) where
   abbrev old : List ConnectionLayout
@@ -85,7 +85,7 @@ module _ (text : List ℕ) (stay : List Bool) (added : List ConnectionLayout) (n
   name_free = rw (free_net_name n.name there.named) refl
 
   front_free : are_free front ≡ true
-  front_free = true_and (not (bytes_eq n.name (codes ";"))) _ name_free (all_both (λ w. not (bytes_eq w (codes ";"))) (flat_map connection_words old) there.options (free_words old there.good) there.free)
+  front_free = and_from (not (bytes_eq n.name (codes ";"))) _ name_free (all_both (λ w. not (bytes_eq w (codes ";"))) (flat_map connection_words old) there.options (free_words old there.good) there.free)
 
   front_closing : are_closing front ≡ true
   front_closing = closing_of front front_free (subst (λ (ws : List (List ℕ)). are_standing ws ≡ true) texts_cut (standing_law text))
@@ -118,7 +118,7 @@ module _ (text : List ℕ) (stay : List Bool) (added : List ConnectionLayout) (n
       (sym (append_assoc (flat_map connection_words (kept stay old)) (flat_map connection_words added) others) ∙ ap (λ (ws : List (List ℕ)). ws ++ others) (sym (flat_map-append connection_words (kept stay old) added)))
 
   free_new : are_free (n.name ∷ (flat_map connection_words new ++ others)) ≡ true
-  free_new = true_and (not (bytes_eq n.name (codes ";"))) _ name_free (all_both (λ w. not (bytes_eq w (codes ";"))) (flat_map connection_words new) others (free_words new good_new) (options_free others options_others))
+  free_new = and_from (not (bytes_eq n.name (codes ";"))) _ name_free (all_both (λ w. not (bytes_eq w (codes ";"))) (flat_map connection_words new) others (free_words new good_new) (options_free others options_others))
 
   closing_new : are_closing (n.name ∷ (flat_map connection_words new ++ others)) ≡ true
   closing_new = put_whole n.name _ whole_name (closing_both (flat_map connection_words new) others (whole_words new whole_new) closing_others)
@@ -174,7 +174,7 @@ net_slice_law text ts x stand spelled =
     let same : token_texts (tokens_in cut) ≡ token_texts ts = sym (texts_are cut) ∙ slice_law text ts stand ends in
     let name_free : not (bytes_eq x.name (codes ";")) ≡ true = rw (free_net_name x.name there.named) refl in
     let free : are_free (x.name ∷ (flat_map connection_words cs ++ there.options)) ≡ true =
-    true_and (not (bytes_eq x.name (codes ";"))) _ name_free (all_both (λ w. not (bytes_eq w (codes ";"))) (flat_map connection_words cs) there.options (free_words cs there.good) there.free)
+    and_from (not (bytes_eq x.name (codes ";"))) _ name_free (all_both (λ w. not (bytes_eq w (codes ";"))) (flat_map connection_words cs) there.options (free_words cs there.good) there.free)
     in
     let back = net_back cut x.name cs there.options (tokens_in cut) (tokens_are_in cut (def_tokens cut)) there.named there.good there.pass free (same ∙ there.texts) in
     record { value = back.value; read = back.spelled; named = back.named; connections = back.connections }

@@ -5,10 +5,10 @@ use Rattle.std.proofs.lemmas.List.Folds.{list_any-append}
 use Rattle.std.proofs.lemmas.List.Concat.{flat_map-append}
 use Rattle.std.specs.Str.{bytes_eq}
 use Rattle.std.proofs.lemmas.List.{append-nil}
+use Rattle.std.proofs.lemmas.Bool.{and_parts}
 use Rattle.token_forms.specs.Tokens.{Token}
 use Rattle.token_forms.specs.Parts.{token_texts}
 use Rattle.token_forms.specs.Forms.{AreMany, IsMaybe}
-use Rattle.token_forms.proofs.ClassLemmas.{both}
 use Rattle.def_syntax.specs.Options.{open_behind, may_stand, all_stand, open_after, and_last}
 use Rattle.def_syntax.specs.Words.{marks}
 use Rattle.def_syntax.specs.Grammar.{net_option, net_parts}
@@ -35,7 +35,7 @@ unfolding other_words all_stand open_after
 inner_words d true [] ws h = refl
 inner_words d false [] ws h = refl
 inner_words d s (t ∷ ts) ws h =
-    let a = both (may_stand d t.text) (all_stand (open_behind d t.text) ts) h in
+    let a = and_parts (may_stand d t.text) (all_stand (open_behind d t.text) ts) h in
     let b = stand_of (bytes_eq t.text (codes ";")) (bytes_eq t.text (codes "+")) (eqb d 0) a.0 in
     rw (b.1, b.0) (put s (inner_words (open_behind d t.text) s ts ws a.1))
   where
@@ -48,7 +48,7 @@ inner_wiring : (d : ℕ) (ts : List Token) (ws : List (List ℕ)) → all_stand 
 unfolding has_wiring all_stand open_after
 inner_wiring d [] ws h = refl
 inner_wiring d (t ∷ ts) ws h =
-    let a = both (may_stand d t.text) (all_stand (open_behind d t.text) ts) h in
+    let a = and_parts (may_stand d t.text) (all_stand (open_behind d t.text) ts) h in
     let b = stand_of (bytes_eq t.text (codes ";")) (bytes_eq t.text (codes "+")) (eqb d 0) a.0 in
     rw (b.1) (inner_wiring (open_behind d t.text) ts ws a.1)
 
@@ -195,8 +195,8 @@ connections_skip : (cs : List ConnectionLayout) (ws : List (List ℕ)) → list_
     → (other_words 0 false (flat_map connection_words cs ++ ws) ≡ other_words 0 false ws) × (has_wiring 0 (flat_map connection_words cs ++ ws) ≡ has_wiring 0 ws)
 connections_skip [] ws all = (refl, refl)
 connections_skip (c ∷ cs) ws all =
-    let h = both (is_good c) (list_all is_good cs) all in
-    let g = both (is_in (But marks) c.component) (is_in (But marks) c.pin) h.0 in
+    let h = and_parts (is_good c) (list_all is_good cs) all in
+    let g = and_parts (is_in (But marks) c.component) (is_in (But marks) c.pin) h.0 in
     let one = one_skip c.component c.pin c.synthesized (flat_map connection_words cs ++ ws) (name_facts c.component g.0) (name_facts c.pin g.1) in
     let r = connections_skip cs ws h.1 in
     let cut = append_assoc (connection_words c) (flat_map connection_words cs) ws in

@@ -4,12 +4,12 @@ use Rattle.std.specs.List.{flat_map, list_all}
 use Rattle.std.specs.Str.{bytes_eq}
 use Rattle.std.proofs.lemmas.List.{map-append}
 use Rattle.base_types.specs.declared.span.Span.{Span}
+use Rattle.base_types.proofs.TruthValues.{bytes_are}
 use Rattle.token_forms.specs.Tokens.{Token, place_of}
 use Rattle.token_forms.specs.Parts.{token_texts}
 use Rattle.token_forms.specs.Runs.{bytes_of}
 use Rattle.token_forms.specs.Classes.{But, is_in}
 use Rattle.token_forms.specs.Forms.{IsMaybe, AreMany, AllPass, passed, maybe, depth_behind, ◌▸◌, key}
-use Rattle.token_forms.proofs.Spelled.{same_bytes}
 use Rattle.def_syntax.specs.Words.{marks, name_place, in_statement}
 use Rattle.def_syntax.specs.Grammar.{synthesized, connection, net_body, net}
 use Rattle.def_syntax.specs.declared.net.Connection.{Connection}
@@ -121,7 +121,7 @@ step_there false false semi depth P f h = absurd h
 passing_there : (depth : ℕ) (ts : List Token) → AllPass in_statement depth ts → are_free (token_texts ts) ≡ true
 passing_there depth [] h = refl
 passing_there depth (t ∷ ts) h =
-    let s = step_there (bytes_eq t.text []) (eqb depth 0) (bytes_eq t.text (codes ";")) depth (λ d. AllPass in_statement d ts) (λ e. let is = same_bytes t.text [] e in rw is refl) h in
+    let s = step_there (bytes_eq t.text []) (eqb depth 0) (bytes_eq t.text (codes ";")) depth (λ d. AllPass in_statement d ts) (λ e. let is = bytes_are t.text [] e in rw is refl) h in
     rw s.0 (passing_there s.1.0 ts s.1.1)
 
 options_there : (o : Option (Unit {0})) (ts : List Token) → IsMaybe ("+" ▸ passed in_statement).spells o ts → are_free (token_texts ts) ≡ true

@@ -3,11 +3,10 @@ use Rattle.std.proofs.Common.{◌≡◌, ℕ, zero, suc, ◌+◌, ◌-◌, ◌/�
 use Rattle.std.specs.Prelude.{nat_le, nat_lt}
 use Rattle.std.specs.List.{list_all}
 use Rattle.std.specs.Fmt.{digits, digits_onto, digit_glyph}
-use Rattle.std.proofs.lemmas.Bool.{cond_both}
+use Rattle.std.proofs.lemmas.Bool.{cond_both, and_from, and_parts}
 use Rattle.std.proofs.lemmas.Bool.Decides.{nat_tests}
 use Rattle.std.proofs.lemmas.List.Sums.{AllPass-from_list_all}
 use Rattle.token_forms.specs.Classes.{But, is_in}
-use Rattle.token_forms.proofs.ClassLemmas.{both}
 use Rattle.def_tokens.specs.Numbers.{is_digit}
 use Rattle.def_tokens.specs.DefTokens.{is_blank, is_black, has_end}
 use Rattle.def_syntax.specs.Words.{marks, is_number}
@@ -20,14 +19,10 @@ digit_is n lt =
     let here : is_digit (48 + n) ≡ true = grind (arith, nat_tests) in
     rw small here
 
-both_true : (a b : Bool) → a ≡ true → b ≡ true → (a && b) ≡ true
-both_true true b e f = f
-both_true false b e f = absurd cc
-
 onto_digits : (k n : ℕ) (acc : List ℕ) → list_all is_digit acc ≡ true → list_all is_digit (digits_onto k 10 false n acc) ≡ true
 onto_digits zero n acc all = all
 onto_digits (suc k) n acc all =
-    let more = both_true (is_digit (digit_glyph false (n % 10))) (list_all is_digit acc) (digit_is (n % 10) (omega arith)) all in
+    let more = and_from (is_digit (digit_glyph false (n % 10))) (list_all is_digit acc) (digit_is (n % 10) (omega arith)) all in
     cond_both (eqb (n / 10) 0) (digit_glyph false (n % 10) ∷ acc) (digits_onto k 10 false (n / 10) (digit_glyph false (n % 10) ∷ acc)) (λ ds. list_all is_digit ds ≡ true) (λ e. more) (λ e. onto_digits k (n / 10) (digit_glyph false (n % 10) ∷ acc) more)
 
 onto_longer : (k n : ℕ) (acc : List ℕ) → length acc ≤ length (digits_onto k 10 false n acc)
@@ -50,7 +45,7 @@ some_digit n = onto_some 63 n
 black_digits : (ds : List ℕ) → list_all is_digit ds ≡ true → list_all is_black ds ≡ true
 black_digits [] all = refl
 black_digits (c ∷ cs) all =
-    let h = both (is_digit c) (list_all is_digit cs) all in
+    let h = and_parts (is_digit c) (list_all is_digit cs) all in
     let d = h.0 in
     let here : is_black c ≡ true = grind (arith, nat_tests) in
     rw here (black_digits cs h.1)
@@ -74,7 +69,7 @@ no_end (c ∷ cs) all =
 pub digits_name : (ds : List ℕ) → list_all is_digit ds ≡ true → 0 < length ds → is_name ds ≡ true
 digits_name [] all some = absurd (omega arith)
 digits_name (c ∷ cs) all some =
-    let h = both (is_digit c) (list_all is_digit cs) all in
+    let h = and_parts (is_digit c) (list_all is_digit cs) all in
     let d = h.0 in
     let quote : eqb c 34 ≡ false = grind (arith, nat_tests) in
     let blank : is_blank c ≡ false = grind (arith, nat_tests) in

@@ -1,8 +1,9 @@
 -- The words of options, one after the other.
-use Rattle.std.proofs.Common.{◌≡◌, ℕ, ◌+◌, ◌≤◌, Bool, true, false, ◌&&◌, ◌||◌, not, if◌then◌else◌, List, [], ◌∷◌, ◌++◌, length, refl, sym, ap, ◌∙◌, append_assoc, codes, arith}
+use Rattle.std.proofs.Common.{◌≡◌, ℕ, ◌+◌, ◌≤◌, Bool, ◌&&◌, ◌||◌, not, if◌then◌else◌, List, [], ◌∷◌, ◌++◌, length, refl, sym, ap, ◌∙◌, append_assoc, codes, arith}
 use Rattle.std.specs.Str.{bytes_eq}
 use Rattle.std.proofs.lemmas.List.{append-nil}
 use Rattle.std.proofs.lemmas.List.Concat.{flat_map-append}
+use Rattle.base_types.proofs.TruthValues.{or_assoc, or_false}
 use Rattle.token_forms.specs.Tokens.{Token}
 use Rattle.token_forms.specs.Parts.{token_texts}
 use Rattle.def_syntax.specs.Options.{open_behind}
@@ -21,14 +22,6 @@ others_more t left rest d e s u out new total is deeper stays pushed so_far =
 pub others_last : (left : List Token) (d : ℕ) (s : Bool) (out total : List ℕ) → left ≡ [] → out ++ spaced (other_words d s (token_texts left)) ≡ total → out ≡ total
 unfolding other_words
 others_last left d s out total none so_far = sym (append-nil out) ∙ ap (λ (ts : List Token). out ++ spaced (other_words d s (token_texts ts))) (sym none) ∙ so_far
-
-or_assoc : (a b c : Bool) → ((a || b) || c) ≡ (a || (b || c))
-or_assoc true b c = refl
-or_assoc false b c = refl
-
-or_false : (a : Bool) → (a || false) ≡ a
-or_false true = refl
-or_false false = refl
 
 pub wiring_more : (t : Token) (left rest : List Token) (d e : ℕ) (w v total : Bool) → left ≡ t ∷ rest → e ≡ open_behind d t.text → v ≡ (w || (begins_option d t.text && begins_wiring (token_texts rest)))
     → (w || has_wiring d (token_texts left)) ≡ total → (v || has_wiring e (token_texts rest)) ≡ total

@@ -3,9 +3,9 @@ use Rattle.std.proofs.Common.{◌≡◌, ℕ, ◌+◌, true, false, not, List, [
 use Rattle.std.specs.List.{flat_map, list_all}
 use Rattle.std.specs.Str.{bytes_eq}
 use Rattle.std.proofs.Math.Seq.{drop-append_seam, take-append_seam}
+use Rattle.std.proofs.lemmas.Bool.{and_parts, not-true}
 use Rattle.token_forms.specs.Tokens.{Token}
 use Rattle.token_forms.specs.Parts.{token_texts}
-use Rattle.token_forms.proofs.ClassLemmas.{both, not_true}
 use Rattle.def_tokens.specs.DefStatements.{count_with, statement_len, def_statements}
 use Rattle.def_tokens.proofs.DefCuts.{first_law}
 use Rattle.def_syntax.specs.Grammar.{chain}
@@ -26,9 +26,9 @@ count_front [] rest (w ∷ ws) e all = absurd cc
 count_front (t ∷ []) rest [] e all = let here : t.text ≡ codes ";" = cc in rw here refl
 count_front (t ∷ u ∷ s) rest [] e all = absurd cc
 count_front (t ∷ s) rest (w ∷ ws) e all =
-    let h = both (not (bytes_eq w (codes ";"))) (are_free ws) all in
+    let h = and_parts (not (bytes_eq w (codes ";"))) (are_free ws) all in
     let here : t.text ≡ w = cc in
-    let free = not_true _ h.0 in
+    let free = not-true _ h.0 in
     let tail : token_texts s ≡ ws ++ codes ";" ∷ [] = cc in
     let r = count_front s rest ws tail h.1 in
     rw (here, free, r) (omega arith)
@@ -47,8 +47,8 @@ statement_front t s rest w ws e all a b c =
 free_parts : (ws : List (List ℕ)) → list_all is_part ws ≡ true → are_free ws ≡ true
 free_parts [] all = refl
 free_parts (w ∷ ws) all =
-    let h = both (is_part w) (list_all is_part ws) all in
-    rw ((both (is_whole w) (not (bytes_eq w (codes ";"))) h.0).1) (free_parts ws h.1)
+    let h = and_parts (is_part w) (list_all is_part ws) all in
+    rw ((and_parts (is_whole w) (not (bytes_eq w (codes ";"))) h.0).1) (free_parts ws h.1)
 
 -- a statement of a chain, whatever stands behind it
 chain_statement : (c : ChainLayout) (s rest : List Token) → is_written_well c ≡ true → token_texts s ≡ chain_words c → def_statements (s ++ rest) ≡ s ∷ def_statements rest
@@ -72,7 +72,7 @@ chains_of : (cs : List ChainLayout) (ts : List Token) → list_all is_written_we
 chains_of [] [] well e = record { inner = []; is = λ rest. refl; none = tt; are = tt }
 chains_of [] (t ∷ ts) well e = absurd cc
 chains_of (c ∷ cs) ts well e =
-    let h = both (is_written_well c) (list_all is_written_well cs) well in
+    let h = and_parts (is_written_well c) (list_all is_written_well cs) well in
     let cut = cut_texts ts (chain_words c) (flat_map chain_words cs) e in
     let r = chains_of cs cut.back h.1 cut.second in
     record {

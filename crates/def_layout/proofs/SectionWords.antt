@@ -5,8 +5,8 @@ use Rattle.std.specs.Str.{bytes_eq}
 use Rattle.std.proofs.Math.ListN.{replicate}
 use Rattle.std.proofs.lemmas.List.Folds.{list_all-append}
 use Rattle.std.proofs.lemmas.List.Concat.{flat_map-append}
+use Rattle.std.proofs.lemmas.Bool.{and_parts}
 use Rattle.token_forms.specs.Classes.{But, is_in}
-use Rattle.token_forms.proofs.ClassLemmas.{both}
 use Rattle.def_tokens.specs.DefSplit.{goes_on}
 use Rattle.def_syntax.specs.Words.{marks}
 use Rattle.def_layout.specs.declared.chains.ElementLayout.{ElementLayout}
@@ -36,7 +36,7 @@ line_has l whole = blank_words 10 (replicate l.indent 32 ++ joined l.words) l.wo
 pub lines_have : (ls : List Line) → list_all is_whole_line ls ≡ true → HasWords (flat_map line_text ls) (flat_map (λ l. l.words) ls)
 lines_have [] all = no_words
 lines_have (l ∷ ls) all =
-    let h = both (is_whole_line l) (list_all is_whole_line ls) all in
+    let h = and_parts (is_whole_line l) (list_all is_whole_line ls) all in
     record {
       goes = λ z free.
           ap texts (append_assoc (line_text l) (flat_map line_text ls) z) ∙ (line_has l h.0).goes (flat_map line_text ls ++ z) (parted ls z free)
@@ -54,13 +54,13 @@ module _ {X : Type 0} (p : X → Bool) where
   all_of : {Y : Type 0} (test : Y → Bool) (f : Y → List X) → ((y : Y) → test y ≡ true → list_all p (f y) ≡ true) → (ys : List Y) → list_all test ys ≡ true → list_all p (flat_map f ys) ≡ true
   all_of test f h [] all = refl
   all_of test f h (y ∷ ys) all =
-      let q = both (test y) (list_all test ys) all in
+      let q = and_parts (test y) (list_all test ys) all in
       both_all (f y) (flat_map f ys) (h y q.0) (all_of test f h ys q.1)
 
   all_map : {Y : Type 0} (test : Y → Bool) (f : Y → X) → ((y : Y) → test y ≡ true → p (f y) ≡ true) → (ys : List Y) → list_all test ys ≡ true → list_all p (map f ys) ≡ true
   all_map test f h [] all = refl
   all_map test f h (y ∷ ys) all =
-      let q = both (test y) (list_all test ys) all in
+      let q = and_parts (test y) (list_all test ys) all in
       rw (h y q.0) (all_map test f h ys q.1)
 
 -- a whole word that ends no statement
@@ -74,15 +74,15 @@ is_part_line l = list_all is_part l.words
 all_weaker : {X : Type 0} (p q : X → Bool) → ((x : X) → p x ≡ true → q x ≡ true) → (xs : List X) → list_all p xs ≡ true → list_all q xs ≡ true
 all_weaker p q f [] all = refl
 all_weaker p q f (x ∷ xs) all =
-    let h = both (p x) (list_all p xs) all in
+    let h = and_parts (p x) (list_all p xs) all in
     rw (f x h.0) (all_weaker p q f xs h.1)
 
 part_whole : (l : Line) → is_part_line l ≡ true → is_whole_line l ≡ true
-part_whole l h = all_weaker is_part is_whole (λ w e. (both (is_whole w) (not (bytes_eq w (codes ";"))) e).0) l.words h
+part_whole l h = all_weaker is_part is_whole (λ w e. (and_parts (is_whole w) (not (bytes_eq w (codes ";"))) e).0) l.words h
 
 pub part_name : (w : List ℕ) → is_name w ≡ true → is_part w ≡ true
 part_name w e =
-    let h = both (is_whole w) (is_in (But marks) w) e in
+    let h = and_parts (is_whole w) (is_in (But marks) w) e in
     rw (h.0, no_mark (bytes_eq w (codes "(")) (bytes_eq w (codes ")")) (bytes_eq w (codes "+")) (bytes_eq w (codes ";")) h.1) refl
   where
     no_mark : (a b c d : Bool) → not (a || (b || (c || (d || false)))) ≡ true → d ≡ false
@@ -97,8 +97,8 @@ part_number n = part_name (decimal n) (number_name n)
 
 element_part : (e : ElementLayout) → names_element e ≡ true → is_part_line (element_line e) ≡ true
 element_part e h =
-    let q = both (is_name e.name) (is_name e.input && is_name e.output) h in
-    let r = both (is_name e.input) (is_name e.output) q.1 in
+    let q = and_parts (is_name e.name) (is_name e.input && is_name e.output) h in
+    let r = and_parts (is_name e.input) (is_name e.output) q.1 in
     rw (part_name e.name q.0, part_name e.input r.0, part_name e.output r.1, part_number e.bits) refl
 
 list_part : (word : List ℕ) (es : List ElementLayout) → is_part word ≡ true → list_all names_element es ≡ true → list_all is_part_line (list_lines word es) ≡ true
@@ -110,7 +110,7 @@ floating_part [] all = refl
 floating_part (e ∷ es) all = list_part (codes "FLOATING") (e ∷ es) refl all
 
 ordered_part : (es : List ElementLayout) → names_list es ≡ true → list_all is_part_line (list_lines (codes "ORDERED") es) ≡ true
-ordered_part es h = list_part (codes "ORDERED") es refl (both (some_list es) (list_all names_element es) h).1
+ordered_part es h = list_part (codes "ORDERED") es refl (and_parts (some_list es) (list_all names_element es) h).1
 
 partition_part : (p : Option PartitionLayout) → names_partition p ≡ true → list_all is_part_line (partition_lines p) ≡ true
 partition_part None h = refl
@@ -123,8 +123,8 @@ partition_part (Some p) h = with_bits p.max_bits
 terminal_part : (word : List ℕ) (t : TerminalLayout) → is_part word ≡ true → names_terminal t ≡ true → is_part_line (terminal_line word t) ≡ true
 terminal_part word (written.AtPin pin) e h = rw (e, part_name pin h) refl
 terminal_part word (written.AtCell component pin) e h =
-    let q = both (is_name component && not (bytes_eq component (codes "PIN"))) (is_name pin) h in
-    let r = both (is_name component) (not (bytes_eq component (codes "PIN"))) q.0 in
+    let q = and_parts (is_name component && not (bytes_eq component (codes "PIN"))) (is_name pin) h in
+    let r = and_parts (is_name component) (not (bytes_eq component (codes "PIN"))) q.0 in
     rw (e, part_name component r.0, part_name pin q.1) refl
 
 -- what a chain that is written well has
@@ -139,12 +139,12 @@ pub record Well (c : ChainLayout) : Type 0 where
 
 pub well_of : (c : ChainLayout) → is_written_well c ≡ true → Well c
 well_of c h =
-    let q = both (is_name c.name && names_partition c.partition) ((names_terminal c.start && names_terminal c.stop) && ((list_all names_element c.floating && list_all names_list c.ordered) && some_element c)) h in
-    let r = both (is_name c.name) (names_partition c.partition) q.0 in
-    let s = both (names_terminal c.start && names_terminal c.stop) ((list_all names_element c.floating && list_all names_list c.ordered) && some_element c) q.1 in
-    let t = both (names_terminal c.start) (names_terminal c.stop) s.0 in
-    let u = both (list_all names_element c.floating && list_all names_list c.ordered) (some_element c) s.1 in
-    let v = both (list_all names_element c.floating) (list_all names_list c.ordered) u.0 in
+    let q = and_parts (is_name c.name && names_partition c.partition) ((names_terminal c.start && names_terminal c.stop) && ((list_all names_element c.floating && list_all names_list c.ordered) && some_element c)) h in
+    let r = and_parts (is_name c.name) (names_partition c.partition) q.0 in
+    let s = and_parts (names_terminal c.start && names_terminal c.stop) ((list_all names_element c.floating && list_all names_list c.ordered) && some_element c) q.1 in
+    let t = and_parts (names_terminal c.start) (names_terminal c.stop) s.0 in
+    let u = and_parts (list_all names_element c.floating && list_all names_list c.ordered) (some_element c) s.1 in
+    let v = and_parts (list_all names_element c.floating) (list_all names_list c.ordered) u.0 in
     record { name = r.0; partition = r.1; start = t.0; stop = t.1; floating = v.0; ordered = v.1; some = u.1 }
 
 -- the lines of a chain before its semicolon
@@ -195,7 +195,7 @@ words_of_lines [] = refl
 words_of_lines (c ∷ cs) = flat_map-append (λ l. l.words) (chain_lines c) (flat_map chain_lines cs) ∙ ap (λ (x : List (List ℕ)). chain_words c ++ x) (words_of_lines cs)
 
 whole_number : (n : ℕ) → is_whole (decimal n) ≡ true
-whole_number n = (both (is_whole (decimal n)) (is_in (But marks) (decimal n)) (number_name n)).0
+whole_number n = (and_parts (is_whole (decimal n)) (is_in (But marks) (decimal n)) (number_name n)).0
 
 -- the text of a section has its words
 pub section_has : (cs : List ChainLayout) → list_all is_written_well cs ≡ true → HasWords (section_text cs) (section_words cs)

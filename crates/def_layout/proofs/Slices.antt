@@ -5,13 +5,14 @@ use Rattle.std.proofs.lemmas.Bool.{cases_lt}
 use Rattle.std.proofs.lemmas.List.{append-nil, take_all, take-take}
 use Rattle.std.proofs.lemmas.List.Sums.{prefix_len-le-length}
 use Rattle.base_types.specs.declared.span.Span.{Span}
+use Rattle.base_types.proofs.TruthValues.{bytes_are}
 use Rattle.token_forms.specs.declared.piece.Piece.TheVariants.{Blank, Token}
 use Rattle.token_forms.specs.Pieces.{tokens_from}
 use Rattle.token_forms.specs.Tokens.{token_of, tokens_of, last_end_of}
 use Rattle.token_forms.specs.Tokens.{Token as token}
 use Rattle.token_forms.specs.Parts.{token_texts}
 use Rattle.token_forms.specs.Runs.{bytes_of, texts_of, end_of}
-use Rattle.token_forms.proofs.Spelled.{choose, same_bytes}
+use Rattle.token_forms.proofs.Spelled.{choose}
 use Rattle.token_forms.proofs.Fronts.{texts-step, texts_nil, part, part-drop}
 use Rattle.token_forms.proofs.Reaches.{Over, First, no_tokens, turn, first_is, rest_is, piece_bytes, jump}
 use Rattle.def_tokens.specs.DefTokens.{is_blank, is_black, len_with, has_end, run_piece, piece_at, def_tokens}
@@ -191,7 +192,7 @@ last_end_is text s (u ∷ us) = last_end_is text u us
 
 last_whole : (text : List ℕ) (s : Span) (ss : List Span) → ends_with (codes ";") (tokens_of text (s ∷ ss)) ≡ true → is_whole (bytes_of text (last_of s ss)) ≡ true
 unfolding last_of
-last_whole text s [] e = let is = same_bytes (bytes_of text s) (codes ";") e in rw is refl
+last_whole text s [] e = let is = bytes_are (bytes_of text s) (codes ";") e in rw is refl
 last_whole text s (u ∷ us) e = last_whole text u us e
 
 pub slice_law : SliceLaw

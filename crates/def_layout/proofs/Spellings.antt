@@ -1,11 +1,11 @@
 -- Which values tokens of some texts spell, form by form, where no place is asked for.
 use Rattle.std.proofs.Common.{◌≡◌, ℕ, Bool, true, List, [], ◌∷◌, ◌++◌, append_assoc, map, refl, sym, ap, ◌∙◌, subst, inl, inr, Option, Some, None, codes}
 use Rattle.std.specs.List.{flat_map, list_all}
+use Rattle.std.proofs.lemmas.Bool.{and_parts}
 use Prim.Native.String.{String}
 use Rattle.token_forms.specs.Tokens.{Token}
 use Rattle.token_forms.specs.Parts.{token_texts}
 use Rattle.token_forms.specs.Classes.{Class, is_in}
-use Rattle.token_forms.proofs.ClassLemmas.{both}
 use Rattle.token_forms.specs.Forms.{Form, word, text, ◌&◌, made, made_if, ◌▸◌, ◌◂◌, ◌or◌, maybe, many, some, put_all, gathered, AreMany}
 
 -- tokens of these texts spell the value
@@ -95,7 +95,7 @@ pub each_spells : {X Y : Type 0} (a : Form X) (value : Y → X) (words : Y → L
     → Spells (many a) (map value ys) (flat_map words ys)
 each_spells a value words test f [] all = many_nil a
 each_spells a value words test f (y ∷ ys) all =
-    let h = both (test y) (list_all test ys) all in
+    let h = and_parts (test y) (list_all test ys) all in
     many_cons a (value y) (map value ys) (words y) (flat_map words ys) (f y h.0) (each_spells a value words test f ys h.1)
 
 -- values behind values

@@ -3,14 +3,13 @@ use Rattle.std.proofs.Common.{◌≡◌, ℕ, zero, suc, ◌+◌, ◌-◌, ◌<�
 use Rattle.std.specs.Prelude.{nat_le}
 use Rattle.std.specs.List.{prefix_len, list_all}
 use Rattle.std.specs.Str.{bytes_eq}
-use Rattle.std.proofs.lemmas.Bool.{cases_lt}
+use Rattle.std.proofs.lemmas.Bool.{cases_lt, and_from, and_parts}
 use Rattle.std.proofs.lemmas.Bool.Decides.{nat_tests}
 use Rattle.std.proofs.lemmas.List.{drop_all, drop_more, get_or-take}
 use Rattle.std.proofs.lemmas.List.Sums.{prefix_len-le-length}
 use Rattle.token_forms.specs.declared.piece.Piece.{Piece}
 use Rattle.token_forms.specs.declared.piece.Piece.TheVariants.{Blank, Token}
 use Rattle.token_forms.specs.Pieces.{piece_len}
-use Rattle.token_forms.proofs.ClassLemmas.{both}
 use Rattle.token_forms.proofs.Spelled.{choose}
 use Rattle.token_forms.proofs.Fronts.{texts-step, texts_nil}
 use Rattle.def_tokens.specs.DefTokens.{is_blank, is_black, len_with, has_end, run_piece, piece_at}
@@ -88,8 +87,8 @@ module _ (b : ℕ) (bs : List ℕ) (v : List ℕ) (ws : List (List ℕ)) where
         let le = prefix_len-le-length is_black bs in
         let size : length (take (suc j) bs) ≡ suc j = omega (arith, length-take (suc j) bs) in
         let at : suc (length (take (suc j) bs)) - 1 ≡ suc j = omega arith in
-        let parts = both (nat_le 2 (length (b ∷ take (suc j) bs))) _ end in
-        let semi = both (eqb (get_or (b ∷ take (suc j) bs) (suc (length (take (suc j) bs)) - 1) 0) 59) _ parts.1 in
+        let parts = and_parts (nat_le 2 (length (b ∷ take (suc j) bs))) _ end in
+        let semi = and_parts (eqb (get_or (b ∷ take (suc j) bs) (suc (length (take (suc j) bs)) - 1) 0) 59) _ parts.1 in
         let here : eqb (get_or (take (suc j) bs) j 0) 59 ≡ true = rw at at semi.0 in
         let same : get_or (take (suc j) bs) j 0 ≡ get_or bs j 0 = get_or-take (suc j) bs j 0 (omega arith) in
         let is : get_or (take (suc j) bs) j 0 ≡ 59 = grind (arith, nat_tests) in
@@ -129,14 +128,10 @@ module _ (b : ℕ) (bs : List ℕ) (v : List ℕ) (ws : List (List ℕ)) where
       (λ comment g. choose (eqb b 34) (Token (1 + len_with 34 bs)) (run_piece (b ∷ bs) (prefix_len is_black bs)) (Token n) g
       (λ e t. let same : 1 + len_with 34 bs ≡ n = cc in subst Stands same (quoted_stands e)) (λ quote h. run_stands blank comment quote (prefix_len is_black bs) n refl h)))
 
-and_true : (a b : Bool) → a ≡ true → b ≡ true → (a && b) ≡ true
-and_true true b e f = f
-and_true false b e f = absurd cc
-
 -- the first word stands, and those behind it do
 words_stand : (b : ℕ) (bs : List ℕ) (n : ℕ) (rest : List (List ℕ)) → piece_at (b ∷ bs) ≡ Token n → texts (drop n (b ∷ bs)) ≡ rest → are_standing rest ≡ true → are_standing (take n (b ∷ bs) ∷ rest) ≡ true
 words_stand b bs n [] is later all = refl
-words_stand b bs n (v ∷ ws) is later all = and_true _ _ (first_stands b bs v ws n is later) all
+words_stand b bs n (v ∷ ws) is later all = and_from _ _ (first_stands b bs v ws n is later) all
 
 stands : (m : ℕ) (text : List ℕ) → length text ≤ m → are_standing (texts text) ≡ true
 stands m [] short = rw (texts_nil piece_at) refl

@@ -4,8 +4,8 @@ use Rattle.std.specs.List.{prefix_len, list_all}
 use Rattle.std.proofs.lemmas.Bool.Decides.{nat_tests}
 use Rattle.std.proofs.lemmas.List.{take_at, drop_at}
 use Rattle.std.proofs.lemmas.List.Folds.{prefix_len-append}
+use Rattle.std.proofs.lemmas.Bool.{and_parts, not-true}
 use Rattle.token_forms.specs.declared.piece.Piece.TheVariants.{Blank, Token}
-use Rattle.token_forms.proofs.ClassLemmas.{both, not_true}
 use Rattle.token_forms.proofs.Fronts.{texts-step}
 use Rattle.def_tokens.specs.DefTokens.{is_blank, is_black, has_end, piece_at}
 use Rattle.def_tokens.specs.DefSplit.{begins_run, goes_on}
@@ -55,7 +55,7 @@ run_piece_is : (b : ℕ) (bs z : List ℕ) → begins_run (b ∷ bs) ≡ true �
 unfolding piece_at
 run_piece_is b bs z begins black no_end free =
     let o = none_of (is_blank b) (eqb b 35) (eqb b 34) begins in
-    let r = run_over is_black bs z (both (is_black b) (list_all is_black bs) black).1 (none_black z free) in
+    let r = run_over is_black bs z (and_parts (is_black b) (list_all is_black bs) black).1 (none_black z free) in
     let t : take (length bs + 1) (b ∷ bs ++ z) ≡ b ∷ bs = take_at (b ∷ bs) z (length bs + 1) (omega arith) in
     let k : length bs + 1 ≡ suc (length bs) = omega arith in
     rw (o.0, o.1, o.2, r, t, no_end, k) refl
@@ -70,13 +70,13 @@ whole_texts [] z whole free = absurd cc
 whole_texts (b ∷ bs) z whole free =
     or_cases (is_quoted (b ∷ bs)) (is_run (b ∷ bs) && not (has_end (b ∷ bs))) whole
     (λ e.
-    let q = both (eqb b 34) (eqb (prefix_len (λ c. not (eqb c 34)) bs + 1) (length bs)) e in
+    let q = and_parts (eqb b 34) (eqb (prefix_len (λ c. not (eqb c 34)) bs + 1) (length bs)) e in
     let is : b ≡ 34 = grind (arith, nat_tests) in
     subst (λ (b : ℕ). texts (b ∷ bs ++ z) ≡ (b ∷ bs) ∷ texts z) (sym is) (one_token (34 ∷ bs) z (suc (length bs)) refl (quoted_piece bs z q.1)))
     (λ e.
-    let q = both (is_run (b ∷ bs)) (not (has_end (b ∷ bs))) e in
-    let r = both (begins_run (b ∷ bs)) (list_all is_black (b ∷ bs)) q.0 in
-    one_token (b ∷ bs) z (suc (length bs)) refl (run_piece_is b bs z r.0 r.1 (not_true _ q.1) free))
+    let q = and_parts (is_run (b ∷ bs)) (not (has_end (b ∷ bs))) e in
+    let r = and_parts (begins_run (b ∷ bs)) (list_all is_black (b ∷ bs)) q.0 in
+    one_token (b ∷ bs) z (suc (length bs)) refl (run_piece_is b bs z r.0 r.1 (not-true _ q.1) free))
 
 -- blanks before a text change nothing
 skip_blanks : (z : List ℕ) → texts (drop (prefix_len is_blank z) z) ≡ texts z
@@ -123,7 +123,7 @@ blank_words b x ws e f = record { goes = λ z free. blank_texts b (x ++ z) e ∙
 pub spaced_words : (ws : List (List ℕ)) → list_all is_whole ws ≡ true → HasWords (spaced ws) ws
 spaced_words [] all = no_words
 spaced_words (w ∷ ws) all =
-    let h = both (is_whole w) (list_all is_whole ws) all in
+    let h = and_parts (is_whole w) (list_all is_whole ws) all in
     blank_words 32 (w ++ spaced ws) (w ∷ ws) refl (record { goes = λ z free. ap texts (append_assoc w (spaced ws) z) ∙ whole_texts w (spaced ws ++ z) h.0 (parted ws z free) ∙ ap (λ (l : List (List ℕ)). w ∷ l) ((spaced_words ws h.1).goes z free) })
   where
     parted : (ws : List (List ℕ)) (z : List ℕ) → goes_on z ≡ false → goes_on (spaced ws ++ z) ≡ false
@@ -133,7 +133,7 @@ spaced_words (w ∷ ws) all =
 pub joined_law : JoinedLaw
 joined_law [] all = no_words
 joined_law (w ∷ ws) all =
-    let h = both (is_whole w) (list_all is_whole ws) all in
+    let h = and_parts (is_whole w) (list_all is_whole ws) all in
     record { goes = λ z free. ap texts (append_assoc w (spaced ws) z) ∙ whole_texts w (spaced ws ++ z) h.0 (parted ws z free) ∙ ap (λ (l : List (List ℕ)). w ∷ l) ((spaced_words ws h.1).goes z free) }
   where
     parted : (ws : List (List ℕ)) (z : List ℕ) → goes_on z ≡ false → goes_on (spaced ws ++ z) ≡ false

@@ -1,10 +1,10 @@
 -- Where the checks find no fault, netlist and design agree; where they find one, they don't, and it is the first.
-use Rattle.std.proofs.Common.{◌≡◌, ℕ, ◌<◌, ◌⊎◌, inl, inr, Bool, true, false, ◌||◌, not, List, ◌∷◌, length, Option, Some, None, Contains, refl, sym, ap, ◌∙◌, subst, arith}
+use Rattle.std.proofs.Common.{◌≡◌, ℕ, ◌<◌, ◌⊎◌, inl, inr, true, not, List, ◌∷◌, length, Option, Some, None, Contains, refl, sym, ap, ◌∙◌, subst, arith}
 use Rattle.std.specs.Prelude.{is_none, option_map, slice_get, slice_index}
 use Rattle.std.proofs.lemmas.Option.{slice_get_read, slice_get_within, get_or_from_slice_get}
 use Rattle.std.specs.List.{flat_map, list_any}
 use Rattle.std.specs.Str.{bytes_eq}
-use Rattle.std.proofs.lemmas.Bool.{cases_Bool, cases_order}
+use Rattle.std.proofs.lemmas.Bool.{cases_Bool, cases_order, or_cases, or_left, or_right, cases_eq}
 use Rattle.std.proofs.lemmas.Slice.Eq.{bytes_eq-Decides}
 use Rattle.std.proofs.lemmas.List.Elements.{Contains-append_right}
 use Rattle.netlist_core.specs.declared.netlist.NetId.{NetId}
@@ -43,18 +43,6 @@ other_to cell x ne =
       | inr fails ↦ ap not fails
     ]
 
-or_cases : (a b : Bool) → (a || b) ≡ true → (a ≡ true) ⊎ (b ≡ true)
-or_cases true b e = inl refl
-or_cases false b e = inr e
-
-or_left : (a b : Bool) → a ≡ true → (a || b) ≡ true
-or_left true b e = refl
-or_left false b e = absurd cc
-
-or_right : (a b : Bool) → b ≡ true → (a || b) ≡ true
-or_right true b e = refl
-or_right false b e = e
-
 module _ (n : Netlist) (d : Design) where
   missing_there : (line : ℕ) → FailsOn (is_missing d.components) n.instances line → IsMissing n d line
   missing_there line h = record { instance = h.row; there = h.there; none = none_is (cell_of d.components h.row.name) h.fails; is = h.is }
@@ -80,14 +68,6 @@ module _ (n : Netlist) (d : Design) where
 
   pub other_least : (r : Option ℕ) → IsLeast (FailsOn (has_other_cell d.components) n.instances) r → IsLeast (HasOtherCell n d) r
   other_least r least = same_least (FailsOn (has_other_cell d.components) n.instances) (HasOtherCell n d) r other_there other_back least
-
-decide : (a b : ℕ) → (a ≡ b) ⊎ (a ≡ b → ⊥)
-decide a b =
-    elim (cases_order a b) [
-      | inl same ↦ inl same
-      | inr (inl lt) ↦ inr (λ e. omega arith)
-      | inr (inr lt) ↦ inr (λ e. omega arith)
-    ]
 
 contains_at : (nets : List Net) (i : ℕ) (net : Net) → slice_get nets i ≡ Some net → Contains nets net
 contains_at nets i net at = (i, slice_get_within nets i net at, get_or_from_slice_get nets i net net at)
@@ -200,7 +180,7 @@ module _ (n : Netlist) (classes : List ℕ) (d : Design) (ok : IsNetlist n) (cls
   -- two pins of one net are joined, where no net is split
   one_net : ((line : ℕ) → NetFault n d line → ⊥) → (i : ℕ) (here : Net) (a b : NetId) → slice_get d.nets i ≡ Some here → Connects n here a → Connects n here b → AreJoined n a.0 b.0
   one_net none i here a b at x y =
-      elim (decide (slice_index classes a.0) (slice_index classes b.0)) [
+      elim (cases_eq (slice_index classes a.0) (slice_index classes b.0)) [
         | inl e ↦ joined here here a b x y e
         | inr ne ↦
             absurd (none here.line (inl (record {

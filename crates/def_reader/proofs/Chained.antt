@@ -1,6 +1,6 @@
 -- Rows entered in an index, as one more is.
-use Rattle.std.proofs.Common.{◌≡◌, ℕ, ◌+◌, ◌<◌, ◌≤◌, ◌⊎◌, inl, inr, Bool, true, false, cond, List, [], ◌∷◌, ◌++◌, length, take, set, replicate, Option, Some, None, is_some, is_none, not, slice_get, slice_index, position, bytes_eq, refl, sym, ap, ◌∙◌, subst, arith, length-append, length-set, length-take-le}
-use Rattle.std.proofs.lemmas.Bool.{cases_Bool, cases_lt, cases_order}
+use Rattle.std.proofs.Common.{◌≡◌, ℕ, ◌+◌, ◌<◌, ◌≤◌, inl, inr, Bool, true, false, cond, List, [], ◌∷◌, ◌++◌, length, take, set, replicate, Option, Some, None, is_some, is_none, not, slice_get, slice_index, position, bytes_eq, refl, sym, ap, ◌∙◌, subst, arith, length-append, length-set, length-take-le}
+use Rattle.std.proofs.lemmas.Bool.{cases_Bool, cases_lt, cases_order, cases_eq}
 use Rattle.std.proofs.lemmas.List.{take_more, get_or_append_left, get_or-set_same, get_or-set_other, get_or_past, get_or-replicate, length-replicate}
 use Rattle.std.proofs.lemmas.Option.{same_Some, slice_get_within, get_or_from_slice_get}
 use Rattle.std.proofs.lemmas.Slice.Eq.{bytes_eq-Decides}
@@ -50,14 +50,6 @@ module _ {X : Type 0} (name : X → List ℕ) (rows : List X) (links : List ℕ)
       let lt : p < length links = omega arith in
       let same : slice_index (links ++ v ∷ []) p ≡ slice_index links p = get_or_append_left links (v ∷ []) 0 p lt in
       Onward p row found at fails (subst (λ (n : ℕ). Leads name rows (links ++ v ∷ []) q n found) (sym same) (kept v back (slice_index links p) found (omega arith) rest))
-
-decide : (a b : ℕ) → (a ≡ b) ⊎ (a ≡ b → ⊥)
-decide a b =
-    elim (cases_order a b) [
-      | inl same ↦ inl same
-      | inr (inl lt) ↦ inr (λ e. omega arith)
-      | inr (inr lt) ↦ inr (λ e. omega arith)
-    ]
 
 module _ {X : Type 0} (name : X → List ℕ) (key : ℕ) (heads links : List ℕ) (rows : List X) (row : X) (all : AreChained name key heads links rows) (at : slice_get rows (length links) ≡ Some row) where
   inside : length links < length rows
@@ -125,7 +117,7 @@ module _ {X : Type 0} (name : X → List ℕ) (key : ℕ) (heads links : List �
     within_more : (c : ℕ) → slice_index (set heads b (length links + 1)) c ≤ length (links ++ head ∷ [])
     within_more c =
         let count = longer head in
-        elim (decide c b) [
+        elim (cases_eq c b) [
           | inl same ↦ let here = ap (slice_index (set heads b (length links + 1))) same in let mine = own in omega arith
           | inr other ↦ let here = others c other in let before = all.within c in omega arith
         ]
@@ -141,7 +133,7 @@ module _ {X : Type 0} (name : X → List ℕ) (key : ℕ) (heads links : List �
 
     past_new : (q : List ℕ) → bytes_eq (name row) q ≡ false → Leads name rows (links ++ head ∷ []) q (slice_index (set heads b (length links + 1)) (bucket_of key (length heads) q)) (first q)
     past_new q fails =
-        elim (decide (bucket_of key (length heads) q) b) [
+        elim (cases_eq (bucket_of key (length heads) q) b) [
           | inl same ↦
               let before : Leads name rows (links ++ head ∷ []) q (slice_index heads b) (first q) = subst (λ (c : ℕ). Leads name rows (links ++ head ∷ []) q (slice_index heads c) (first q)) same (way head q (bucket_of key (length heads) q) (all.leads q)) in
               subst (λ (l : ℕ). Leads name rows (links ++ head ∷ []) q l (first q)) (sym (ap (slice_index (set heads b (length links + 1))) same ∙ own))

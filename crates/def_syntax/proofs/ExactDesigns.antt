@@ -3,6 +3,7 @@ use Rattle.std.proofs.Common.{◌≡◌, ◌≤◌, ◌==◌, ℕ, Bool, true, f
 use Rattle.std.specs.List.{flat_map, list_any, AllByRecursion as Each}
 use Rattle.std.proofs.lemmas.Bool.{eqb-true}
 use Rattle.base_types.specs.declared.fault.ReadFault.{ReadFault}
+use Rattle.base_types.proofs.TruthValues.{not_both}
 use Rattle.base_types.specs.declared.fault.ReadFault.TheVariants as faults
 use Rattle.token_forms.specs.Tokens.{Token}
 use Rattle.token_forms.specs.Parsing.{◌>>=◌}
@@ -23,10 +24,6 @@ use Rattle.def_syntax.proofs.ReadTurns.{FoundIs, TurnFault, Head, Left, Inside, 
 use Rattle.def_syntax.proofs.Designs.{Cut, IsOpen, IsCut, cut_of, read_body, body_read, outlines, body_outline, open_outline, OutlineIs, outlines_are, fresh_is, place_of_begun, unclosed_is, is_units, no_units, some_units, Rising, Ends, AtEnd, AtStop, NoEarlier, ends_of, each_at, no_earlier}
 use Rattle.def_syntax.proofs.Places.{rising_statements, rising_front}
 use Rattle.def_syntax.proofs.Sole.{same_cut, same_located, only_one, Good, good_design, good_before, no_fault}
-
-not_both : (b : Bool) → b ≡ true → b ≡ false → ⊥
-not_both true p q = absurd cc
-not_both false p q = absurd cc
 
 -- values with the same parts
 same_design : (a b : DesignText) → a.units ≡ b.units → a.components ≡ b.components → a.pins ≡ b.pins → a.nets ≡ b.nets → a.chains ≡ b.chains → a.sections ≡ b.sections → a ≡ b

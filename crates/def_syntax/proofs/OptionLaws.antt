@@ -3,20 +3,17 @@ use Rattle.std.proofs.Common.{◌≡◌, ◌≤◌, ℕ, zero, suc, Bool, true, 
 use Prim.Native.String.{String}
 use Rattle.std.proofs.lemmas.Option.{option_and_then_some, same_Some}
 use Rattle.std.proofs.lemmas.List.Folds.{list_any-append}
+use Rattle.std.proofs.lemmas.Bool.{false_from_ne_true, and_parts, not-true}
 use Rattle.token_forms.specs.Tokens.{Token}
 use Rattle.token_forms.specs.Parsing.{◌>>=◌, word_at}
 use Rattle.token_forms.specs.Classes.{Class, Only, is_in, is_in_any, begins}
 use Rattle.token_forms.specs.Forms.{Form, key, many_within, many_at, many, maybe, ◌&◌, ◌or◌, ◌▸◌, made, made_if, at, put_all, gathered_at}
 use Rattle.token_forms.specs.Laws.{Stands, IsLawful}
 use Rattle.token_forms.proofs.Spelled.{choose}
-use Rattle.token_forms.proofs.ClassLemmas.{both, not_true, any_apart, not_begins}
+use Rattle.token_forms.proofs.ClassLemmas.{any_apart, not_begins}
 use Rattle.token_forms.proofs.Laws.{seq-lawful, made_if-lawful, maybe-lawful, many-lawful, within-none}
 use Rattle.def_syntax.specs.Options.{and_last, options, with_options, unread}
 use Rattle.def_syntax.proofs.Unread.{unread-closed, unread-open}
-
-not_in : (b : Bool) → (b ≡ true → ⊥) → b ≡ false
-not_in true never = absurd (never refl)
-not_in false never = refl
 
 -- what is read as closed is read so where it may be open too, and what is read where it may be open, before a token with which
 -- another option begins, is closed
@@ -161,10 +158,10 @@ module _ {X : Type 0} (closed any : Form X) (lc : IsLawful closed) (la : IsLawfu
       → begins closed.goes_on (v ++ rest) ≡ false
   ends_so clear xs last [] rest s behind = (not_begins closed.goes_on (any.goes_on ++ any.starts) rest behind).0
   ends_so clear xs last (t ∷ v) rest s behind =
-      let far = (both (not closed.may_be_empty && not any.may_be_empty) _ (both (closed.is_clear && any.is_clear) _ clear).1).1 in
+      let far = (and_parts (not closed.may_be_empty && not any.may_be_empty) _ (and_parts (closed.is_clear && any.is_clear) _ clear).1).1 in
       let w = seq-lawful (many closed) (maybe any) (many-lawful closed lc) (maybe-lawful any la) in
       let first = w.first (xs, last) t v s in
-      not_in _ (λ i. any_apart closed.goes_on any.starts t.text far i (both_starts t.text first))
+      false_from_ne_true _ (λ i. any_apart closed.goes_on any.starts t.text far i (both_starts t.text first))
 
   Reading : List X → Option X → List Token → List Token → Type 0
   Reading xs last front rest = (n : ℕ) → length front ≤ n → Reads n (and_last xs last) (front ++ rest) rest
@@ -174,21 +171,21 @@ module _ {X : Type 0} (closed any : Form X) (lc : IsLawful closed) (la : IsLawfu
   last_read clear None front rest s behind n enough =
       rw s (within-none any la n rest (not_begins any.goes_on any.starts rest (not_begins closed.goes_on (any.goes_on ++ any.starts) rest behind).1).1)
   last_read clear (Some x) [] rest s behind n enough =
-      absurd (la.not_empty (not_true _ (both (not closed.may_be_empty) _ (both (not closed.may_be_empty && not any.may_be_empty) _ (both (closed.is_clear && any.is_clear) _ clear).1).0).1) x s)
+      absurd (la.not_empty (not-true _ (and_parts (not closed.may_be_empty) _ (and_parts (not closed.may_be_empty && not any.may_be_empty) _ (and_parts (closed.is_clear && any.is_clear) _ clear).1).0).1) x s)
   last_read clear (Some x) (t ∷ front) rest s behind zero enough = absurd (omega arith)
   last_read clear (Some x) (t ∷ front) rest s behind (suc n) enough =
       let far = not_begins any.goes_on any.starts rest (not_begins closed.goes_on (any.goes_on ++ any.starts) rest behind).1 in
-      within-one n x [] (t ∷ (front ++ rest)) rest rest (la.first x t front s) (la.read (both closed.is_clear _ (both (closed.is_clear && any.is_clear) _ clear).0).1 x (t ∷ front) rest s far.0)
+      within-one n x [] (t ∷ (front ++ rest)) rest rest (la.first x t front s) (la.read (and_parts closed.is_clear _ (and_parts (closed.is_clear && any.is_clear) _ clear).0).1 x (t ∷ front) rest s far.0)
       (within-none any la n rest far.1)
 
   one_read : (options closed any).is_clear ≡ true → (x : X) (xs : List X) (n : ℕ) (u v rest : List Token) → length (u ++ v) ≤ n → closed.spells x u → begins closed.goes_on (v ++ rest) ≡ false
       → ((m : ℕ) → length v ≤ m → Reads m xs (v ++ rest) rest) → Reads n (x ∷ xs) (u ++ (v ++ rest)) rest
   one_read clear x xs n [] v rest enough f behind later =
-      absurd (lc.not_empty (not_true _ (both (not closed.may_be_empty) _ (both (not closed.may_be_empty && not any.may_be_empty) _ (both (closed.is_clear && any.is_clear) _ clear).1).0).0) x f)
+      absurd (lc.not_empty (not-true _ (and_parts (not closed.may_be_empty) _ (and_parts (not closed.may_be_empty && not any.may_be_empty) _ (and_parts (closed.is_clear && any.is_clear) _ clear).1).0).0) x f)
   one_read clear x xs zero (t ∷ u) v rest enough f behind later = absurd (omega arith)
   one_read clear x xs (suc n) (t ∷ u) v rest enough f behind later =
       within-one n x xs (t ∷ (u ++ (v ++ rest))) (v ++ rest) rest (ap (λ (cs : List Class). is_in_any cs t.text) (sym g.starts) ∙ lc.first x t u f)
-      (g.also (t ∷ (u ++ (v ++ rest))) (x, v ++ rest) (lc.read (both closed.is_clear _ (both (closed.is_clear && any.is_clear) _ clear).0).0 x (t ∷ u) (v ++ rest) f behind))
+      (g.also (t ∷ (u ++ (v ++ rest))) (x, v ++ rest) (lc.read (and_parts closed.is_clear _ (and_parts (closed.is_clear && any.is_clear) _ clear).0).0 x (t ∷ u) (v ++ rest) f behind))
       (later n (omega (arith, length-append u v)))
 
   longer : (x : X) (ys : List X) (last : Option X) → and_last (x ∷ ys) last ≡ x ∷ and_last ys last

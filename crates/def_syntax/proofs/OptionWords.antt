@@ -6,14 +6,13 @@ use Rattle.std.specs.List.{list_all}
 use Rattle.std.specs.Option.{option_or}
 use Rattle.std.specs.Str.{bytes_eq}
 use Rattle.std.proofs.lemmas.List.{append-nil}
-use Rattle.std.proofs.lemmas.Bool.{eqb-true}
+use Rattle.std.proofs.lemmas.Bool.{eqb-true, and_parts}
 use Rattle.std.proofs.lemmas.Option.{same_Some}
+use Rattle.base_types.proofs.TruthValues.{bytes_are}
 use Rattle.token_forms.specs.Tokens.{Token, place_of}
 use Rattle.token_forms.specs.Parsing.{◌>>=◌}
 use Rattle.token_forms.specs.Classes.{Class, Only, But, is_in, begins}
 use Rattle.token_forms.specs.Forms.{Form, word, key, text, AreMany, IsMaybe, ◌&◌, ◌▸◌, ◌◂◌, ◌or◌, made, made_if, at, put_all}
-use Rattle.token_forms.proofs.Spelled.{same_bytes}
-use Rattle.token_forms.proofs.ClassLemmas.{both}
 use Rattle.def_syntax.specs.Words.{marks, placings, any, in_components, in_pins, in_nets, name}
 use Rattle.def_syntax.specs.Options.{open_behind, may_stand, all_stand, open_after, first_word, unread, and_last, options, with_options}
 use Rattle.def_syntax.specs.Pieces.{or_else, fresh_component, put_component, component_of, fresh_pin, put_pin, pin_of}
@@ -52,7 +51,7 @@ stand_cut : (depth : ℕ) (ts rest : List Token) → all_stand depth ts ≡ true
 unfolding cut_at all_stand open_after
 stand_cut depth [] rest e = refl
 stand_cut depth (t ∷ ts) rest e =
-    let b = both (may_stand depth t.text) (all_stand (open_behind depth t.text) ts) e in
+    let b = and_parts (may_stand depth t.text) (all_stand (open_behind depth t.text) ts) e in
     let none = no_cut (bytes_eq t.text (codes "+")) (bytes_eq t.text (codes ";")) (depth == 0) b.0 in
     let more = stand_cut (open_behind depth t.text) ts rest b.1 in
     rw (none, more) refl
@@ -61,13 +60,13 @@ stand_within : (depth : ℕ) (ts : List Token) → all_stand depth ts ≡ true �
 unfolding all_stand
 stand_within depth [] e = refl
 stand_within depth (t ∷ ts) e =
-    let b = both (may_stand depth t.text) (all_stand (open_behind depth t.text) ts) e in
+    let b = and_parts (may_stand depth t.text) (all_stand (open_behind depth t.text) ts) e in
     let one = no_end (bytes_eq t.text (codes ";")) _ b.0 in
     rw (one, stand_within (open_behind depth t.text) ts b.1) refl
 
 within_append : (us ts : List Token) → list_all is_within us ≡ true → list_all is_within ts ≡ true → list_all is_within (us ++ ts) ≡ true
 within_append [] ts e f = f
-within_append (u ∷ us) ts e f = let b = both (is_within u) (list_all is_within us) e in rw (b.0, within_append us ts b.1 f) refl
+within_append (u ∷ us) ts e f = let b = and_parts (is_within u) (list_all is_within us) e in rw (b.0, within_append us ts b.1 f) refl
 
 -- a `+` outside brackets begins a piece
 plus_cut : (t : Token) (ts : List Token) → t.text ≡ codes "+" → cut_at 0 (t ∷ ts) ≡ ([], (t ∷ (cut_at 0 ts).0) ∷ (cut_at 0 ts).1)
@@ -96,12 +95,12 @@ first_piece : (depth : ℕ) (ts : List Token) → list_all is_within ts ≡ true
 unfolding cut_at all_stand open_after
 first_piece depth [] e = record { rest = []; is = refl; stand = refl; within = refl; behind = inl (refl, refl) }
 first_piece depth (t ∷ ts) e =
-    let b = both (is_within t) (list_all is_within ts) e in
+    let b = and_parts (is_within t) (list_all is_within ts) e in
     by_cut (bytes_eq t.text (codes "+") && depth == 0) refl b.0 (first_piece (open_behind depth t.text) ts b.1)
   where
     by_cut : (c : Bool) → (bytes_eq t.text (codes "+") && depth == 0) ≡ c → is_within t ≡ true → IsFirstPiece (open_behind depth t.text) ts → IsFirstPiece depth (t ∷ ts)
     by_cut true cut one f =
-        let zero_is : depth ≡ 0 = eqb-true depth 0 (both (bytes_eq t.text (codes "+")) (depth == 0) cut).1 in
+        let zero_is : depth ≡ 0 = eqb-true depth 0 (and_parts (bytes_eq t.text (codes "+")) (depth == 0) cut).1 in
         let here : cut_at depth (t ∷ ts) ≡ ([], (t ∷ (cut_at (open_behind depth t.text) ts).0) ∷ (cut_at (open_behind depth t.text) ts).1) = rw cut refl in
         record {
           rest = t ∷ ts;
@@ -247,7 +246,7 @@ module _ {X : Type 0} (IsOption : X → List Token → Type 0) (closed any_form 
       cut_by b = if b && true then ([], (t ∷ (cut_at (open_behind 0 t.text) ts).0) ∷ (cut_at (open_behind 0 t.text) ts).1) else (t ∷ (cut_at (open_behind 0 t.text) ts).0, (cut_at (open_behind 0 t.text) ts).1)
 
       by_plus : (b : Bool) → bytes_eq t.text (codes "+") ≡ b → (cut_by b).0 ≡ [] → t.text ≡ codes "+"
-      by_plus true is e = same_bytes t.text (codes "+") is
+      by_plus true is e = bytes_are t.text (codes "+") is
       by_plus false is e = absurd cc
 
   none_each : (xs : List X) → AreEach IsOption xs [] → xs ≡ []
@@ -284,7 +283,7 @@ module _ {X : Type 0} (IsOption : X → List Token → Type 0) (closed any_form 
   within_n zero xs (t ∷ us) short h = absurd (omega arith)
   within_n (suc n) xs (t ∷ us) short h =
       let plus = begins_option t us h.front in
-      first_spelled n xs t us plus (both (is_within t) (list_all is_within us) h.within).1 (subst (λ (y : List Token × List (List Token)). AreEach IsOption xs y.1) (plus_cut t us plus) h.each)
+      first_spelled n xs t us plus (and_parts (is_within t) (list_all is_within us) h.within).1 (subst (λ (y : List Token × List (List Token)). AreEach IsOption xs y.1) (plus_cut t us plus) h.each)
       (λ ys rest le is. within_n n ys rest (omega arith) is)
 
   options_spelled : (xs : List X) (ts : List Token) → AreOptions IsOption xs ts → (options closed any_form).spells xs ts
@@ -297,7 +296,7 @@ stand_append : (depth : ℕ) (us ts : List Token) → all_stand depth us ≡ tru
 unfolding all_stand open_after
 stand_append depth [] ts e f = f
 stand_append depth (u ∷ us) ts e f =
-    let b = both (may_stand depth u.text) (all_stand (open_behind depth u.text) us) e in
+    let b = and_parts (may_stand depth u.text) (all_stand (open_behind depth u.text) us) e in
     rw (b.0, stand_append (open_behind depth u.text) us ts b.1 f) refl
 
 depth_append : (depth : ℕ) (us ts : List Token) → open_after depth (us ++ ts) ≡ open_after (open_after depth us) ts
@@ -370,9 +369,9 @@ placing_stays : (w : List ℕ) → is_in (Only placings) w ≡ true → (may_sta
 placing_stays w e = by_word (bytes_eq w (codes "PLACED")) (bytes_eq w (codes "FIXED")) (bytes_eq w (codes "COVER")) refl refl refl e
   where
     by_word : (a b c : Bool) → bytes_eq w (codes "PLACED") ≡ a → bytes_eq w (codes "FIXED") ≡ b → bytes_eq w (codes "COVER") ≡ c → (a || (b || (c || false))) ≡ true → Stays w
-    by_word true b c i j k e = subst Stays (sym (same_bytes w (codes "PLACED") i)) (refl, refl)
-    by_word false true c i j k e = subst Stays (sym (same_bytes w (codes "FIXED") j)) (refl, refl)
-    by_word false false true i j k e = subst Stays (sym (same_bytes w (codes "COVER") k)) (refl, refl)
+    by_word true b c i j k e = subst Stays (sym (bytes_are w (codes "PLACED") i)) (refl, refl)
+    by_word false true c i j k e = subst Stays (sym (bytes_are w (codes "FIXED") j)) (refl, refl)
+    by_word false false true i j k e = subst Stays (sym (bytes_are w (codes "COVER") k)) (refl, refl)
     by_word false false false i j k e = absurd cc
 
 name_keeps : (d : ℕ) (test : List ℕ → Bool) → Keeps d d (text (But marks) test)

@@ -4,6 +4,7 @@ use Rattle.std.specs.List.{AllByRecursion as Each}
 use Rattle.std.proofs.lemmas.Grind.{flat_map-append}
 use Rattle.std.proofs.lemmas.Option.{same_Some}
 use Rattle.base_types.specs.declared.span.Span.{Span}
+use Rattle.base_types.proofs.TruthValues.{not_both}
 use Rattle.token_forms.specs.Tokens.{Token}
 use Rattle.token_forms.specs.Forms.{Form}
 use Rattle.token_forms.specs.Laws.{IsStatement}
@@ -147,11 +148,6 @@ more_steps f (s ∷ ss) =
     let a = more_by f.blocks f.begun s in
     let b = more_steps (step f s) ss in
     record { behind = a.behind ++ b.behind; is = b.is ∙ ap (λ (l : List (List Token)). l ++ b.behind) a.is ∙ append_assoc (outside f.blocks) a.behind b.behind }
-
--- no statement of good blocks, where no section is left open and UNITS stands once, is a fault
-not_both : (b : Bool) → b ≡ true → b ≡ false → ⊥
-not_both true p q = absurd cc
-not_both false p q = absurd cc
 
 module _ (text : List ℕ) (f : Frame) (s : List Token) (rest : List (List Token)) (x : Located Units) where
   pub no_fault : Good (step f s) → TurnFault None f.blocks f.begun s → IsOnly units text (outside (steps f (s ∷ rest)).blocks) x → ⊥

@@ -1,13 +1,14 @@
 -- The form of an option's tokens that aren't read is lawful, closed or not.
 use Rattle.std.proofs.Common.{◌≡◌, ◌≤◌, ◌+◌, ◌-◌, arith, ◌==◌, ℕ, Bool, true, false, ◌&&◌, ◌||◌, not, if◌then◌else◌, List, [], ◌∷◌, ◌++◌, Option, Some, None, refl, sym, ap, ◌∙◌, subst, codes}
 use Rattle.std.specs.Str.{bytes_eq}
-use Rattle.std.proofs.lemmas.Bool.{eqb-true}
+use Rattle.std.proofs.lemmas.Bool.{eqb-true, and_parts, or_parts}
 use Rattle.std.proofs.lemmas.Option.{same_Some}
+use Rattle.base_types.proofs.TruthValues.{bytes_are}
 use Rattle.token_forms.specs.Tokens.{Token}
 use Rattle.token_forms.specs.Classes.{Only, But, is_among, is_in_any, are_apart, begins}
 use Rattle.token_forms.specs.Laws.{Stands, IsLawful}
-use Rattle.token_forms.proofs.Spelled.{same_bytes, choose}
-use Rattle.token_forms.proofs.ClassLemmas.{both, neither, apart}
+use Rattle.token_forms.proofs.Spelled.{choose}
+use Rattle.token_forms.proofs.ClassLemmas.{apart}
 use Rattle.def_syntax.specs.Options.{open_behind, may_stand, all_stand, open_after, first_word, IsUnread, rest_at, depth_at, word_in, unread_at, going_on, unread}
 
 -- the tokens that stand in the option, in front of what is left
@@ -47,7 +48,7 @@ reads_of : (depth : ℕ) (front rest : List Token) → all_stand depth front ≡
 unfolding all_stand rest_at depth_at open_after word_in
 reads_of depth [] rest stand s = ends_here depth rest s
 reads_of depth (t ∷ front) rest stand s =
-    let b = both (may_stand depth t.text) (all_stand (open_behind depth t.text) front) stand in
+    let b = and_parts (may_stand depth t.text) (all_stand (open_behind depth t.text) front) stand in
     let u = reads_of (open_behind depth t.text) front rest b.1 s in
     record { left = rw (b.0) u.left; depth_is = rw (b.0) u.depth_is; word = rw (b.0) refl }
 
@@ -70,7 +71,7 @@ module _ (read : List (List ℕ)) where
   unread-spelled closed ts x rest e =
       choose (begins (Only read ∷ []) ts || (closed && not (depth_at 0 ts == 0))) _ _ _ e (λ n e. absurd cc)
       (λ n e.
-      let k = neither (begins (Only read ∷ []) ts) _ n in
+      let k = or_parts (begins (Only read ∷ []) ts) _ n in
       let u = run_of 0 ts in
       let p = same_Some _ _ e in
       let word : word_in 0 ts ≡ x = ap (λ (y : Option (List ℕ) × List Token). y.0) p in
@@ -138,7 +139,7 @@ module _ (read : List (List ℕ)) where
   starts_so : (x : Option (List ℕ)) (t : Token) (ts : List Token) (closed : Bool) → IsUnread closed read x (t ∷ ts) → is_in_any (But (codes "+" ∷ codes ";" ∷ read) ∷ []) t.text ≡ true
   unfolding all_stand
   starts_so x t ts closed s =
-      mark (bytes_eq t.text (codes "+")) (bytes_eq t.text (codes ";")) (is_among read t.text) (both (may_stand 0 t.text) _ s.stand).0 s.free
+      mark (bytes_eq t.text (codes "+")) (bytes_eq t.text (codes ";")) (is_among read t.text) (and_parts (may_stand 0 t.text) _ s.stand).0 s.free
     where
       mark : (p s r : Bool) → (not s && (not p || false)) ≡ true → (r || false) ≡ false → (not (p || (s || r)) || false) ≡ true
       mark true true r e f = absurd cc
@@ -182,7 +183,7 @@ module _ (read : List (List ℕ)) where
       decide true m e later = later e
       decide false m e later =
           eqb-true depth 0 (plus (bytes_eq t.text (codes "+")) (bytes_eq t.text (codes ";")) (depth == 0) m e
-          (λ s p. let a = same_bytes t.text (codes ";") s in let b = same_bytes t.text (codes "+") p in let k : codes ";" ≡ codes "+" = sym a ∙ b in absurd cc))
+          (λ s p. let a = bytes_are t.text (codes ";") s in let b = bytes_are t.text (codes "+") p in let k : codes ";" ≡ codes "+" = sym a ∙ b in absurd cc))
 
   pub unread-open : (ts rest : List Token) (x : Option (List ℕ)) → unread_at false read ts ≡ Some (x, rest) → begins (Only (codes "+" ∷ []) ∷ []) rest ≡ true → unread_at true read ts ≡ Some (x, rest)
   unfolding unread_at
@@ -191,7 +192,7 @@ module _ (read : List (List ℕ)) where
       (λ n e.
       let p = same_Some _ _ e in
       let left : rest_at 0 ts ≡ rest = ap (λ (y : Option (List ℕ) × List Token). y.1) p in
-      let k = neither (begins (Only read ∷ []) ts) false n in
+      let k = or_parts (begins (Only read ∷ []) ts) false n in
       rw (k.0, shut_before 0 ts (subst (λ (l : List Token). begins (Only (codes "+" ∷ []) ∷ []) l ≡ true) (sym left) plus)) e)
 
 -- the loop that takes these tokens

@@ -1,10 +1,10 @@
 -- What moves between paths is erased: each pin that moves is the in pin of a step of the read paths, or a free output.
-use Rattle.std.proofs.Common.{◌≡◌, ℕ, zero, suc, ◌+◌, ◌<◌, Bool, true, false, ◌&&◌, ◌||◌, List, [], ◌∷◌, length, map, flat_map, Option, Some, None, option_map, refl, sym, ap, ap₂, ◌∙◌, subst, arith, Contains, inl, inr}
+use Rattle.std.proofs.Common.{◌≡◌, ℕ, zero, suc, ◌+◌, ◌<◌, Bool, true, ◌&&◌, ◌||◌, List, [], ◌∷◌, length, map, flat_map, Option, Some, None, option_map, refl, sym, ap, ap₂, ◌∙◌, subst, arith, Contains, inl, inr}
 use Rattle.std.specs.List.{list_any, range_with_len, slice_get}
 use Rattle.std.specs.Str.{bytes_eq}
 use Rattle.std.proofs.lemmas.Bool.{cases_Bool}
 use Rattle.std.proofs.lemmas.Option.{same_Some, none-some}
-use Rattle.std.proofs.lemmas.Slice.Eq.{bytes_eq-Decides}
+use Rattle.base_types.proofs.TruthValues.{or_true, bytes_self}
 use Rattle.netlist_core.specs.declared.netlist.NetId.{NetId}
 use Rattle.netlist_core.specs.declared.netlist.Netlist.{Netlist}
 use Rattle.netlist_core.specs.Netlists.{plain_of}
@@ -50,13 +50,6 @@ use Rattle.def_edit.specs.ErasedDef.{ErasesMoves}
 use Rattle.def_writer.specs.DefTexts.{is_input_of, is_free_name, is_free_pin, is_touched_name, erasing}
 use Rattle.def_writer.proofs.StepElements.{has_any}
 use Rattle.def_writer.proofs.PlanElements.{numbers, map_from}
-
-or_true : (a : Bool) → (a || true) ≡ true
-or_true true = refl
-or_true false = refl
-
-bytes_self : (a : List ℕ) → bytes_eq a a ≡ true
-bytes_self a = (bytes_eq-Decides a a).1 refl
 
 -- the net of a number is touched, and so is its name
 touched_at : (moves : List PinMove) (nets : List Net) (a k : ℕ) (net : Net) → slice_get nets k ≡ Some net → is_touched moves (a + k) ≡ true → is_touched_name moves a (map (λ x. x.name) nets) net.name ≡ true

@@ -6,6 +6,7 @@ use Rattle.std.proofs.lemmas.Bool.{cases_Bool, eqb-true, or_cases}
 use Rattle.std.proofs.lemmas.Bool.Decides.{nat_tests}
 use Rattle.base_types.specs.Names.{plain_name}
 use Rattle.base_types.specs.declared.span.Span.{Span}
+use Rattle.base_types.proofs.TruthValues.{and_first, and_second, or_true}
 use Rattle.cell_table.specs.Cells.{Cells}
 use Rattle.token_forms.specs.Tokens.{Token}
 use Rattle.token_forms.specs.Parts.{token_texts}
@@ -44,18 +45,6 @@ use Rattle.def_edit.specs.NewChains.{is_plain}
 
 -- tests
 
-and_left : (a b : Bool) → (a && b) ≡ true → a ≡ true
-and_left true b e = refl
-and_left false b e = absurd cc
-
-and_right : (a b : Bool) → (a && b) ≡ true → b ≡ true
-and_right true b e = e
-and_right false b e = absurd cc
-
-or_true : (a : Bool) → (a || true) ≡ true
-or_true true = refl
-or_true false = refl
-
 -- names without backslashes
 
 abbrev keeps : ℕ → Bool
@@ -68,8 +57,8 @@ all_kept : (p : ℕ → Bool) (bs : List ℕ) → list_all p bs ≡ true → lis
 all_kept p [] h = refl
 all_kept p (b ∷ bs) h =
     elim (cases_Bool (keeps b)) [
-      | inl e ↦ rw (e, and_left (p b) (list_all p bs) h) (all_kept p bs (and_right (p b) (list_all p bs) h))
-      | inr e ↦ rw e (all_kept p bs (and_right (p b) (list_all p bs) h))
+      | inl e ↦ rw (e, and_first (p b) (list_all p bs) h) (all_kept p bs (and_second (p b) (list_all p bs) h))
+      | inr e ↦ rw e (all_kept p bs (and_second (p b) (list_all p bs) h))
     ]
 
 nothing : (bs : List ℕ) → 0 + 1 ≡ suc (length bs) → bs ≡ []
@@ -97,8 +86,8 @@ quote_last (b ∷ bs) e =
 quoted_kept : (w : List ℕ) → is_quoted w ≡ true → is_name (plain_name w) ≡ true
 quoted_kept [] h = absurd cc
 quoted_kept (b ∷ bs) h =
-    let is : b ≡ 34 = eqb-true b 34 (and_left (b == 34) (prefix_len is_other bs + 1 == length bs) h) in
-    let last : prefix_len is_other bs + 1 ≡ length bs = eqb-true (prefix_len is_other bs + 1) (length bs) (and_right (b == 34) (prefix_len is_other bs + 1 == length bs) h) in
+    let is : b ≡ 34 = eqb-true b 34 (and_first (b == 34) (prefix_len is_other bs + 1 == length bs) h) in
+    let last : prefix_len is_other bs + 1 ≡ length bs = eqb-true (prefix_len is_other bs + 1) (length bs) (and_second (b == 34) (prefix_len is_other bs + 1 == length bs) h) in
     let same : (prefix_len is_other (filter keeps bs) + 1 == length (filter keeps bs)) ≡ true = grind (arith, nat_tests, quote_last bs last) in
     subst (λ (c : ℕ). is_name (plain_name (c ∷ bs)) ≡ true) (sym is) (rw same refl)
 
@@ -107,13 +96,13 @@ standing_plain w b h =
     elim (or_cases (is_whole w) (is_cut w && b) h) [
       | inl e ↦ elim (or_cases (is_quoted w) (is_run w && not (has_end w)) e) [
         | inl q ↦ rw (quoted_kept w q) refl
-        | inr r ↦ of_run (and_left (is_run w) (not (has_end w)) r)
+        | inr r ↦ of_run (and_first (is_run w) (not (has_end w)) r)
       ]
-      | inr e ↦ of_run (and_left (is_run w) (has_end w) (and_left (is_cut w) b e))
+      | inr e ↦ of_run (and_first (is_run w) (has_end w) (and_first (is_cut w) b e))
     ]
   where
     of_run : is_run w ≡ true → is_plain (plain_name w) ≡ true
-    of_run r = ap (λ (b : Bool). is_name (plain_name w) || b) (all_kept is_black w (and_right _ (list_all is_black w) r)) ∙ or_true (is_name (plain_name w))
+    of_run r = ap (λ (b : Bool). is_name (plain_name w) || b) (all_kept is_black w (and_second _ (list_all is_black w) r)) ∙ or_true (is_name (plain_name w))
 
 -- words before others
 
@@ -141,9 +130,9 @@ in_connections text (x ∷ cs) c (inl e) =
 in_connections text (x ∷ cs) c (inr h) = before_behind (connection_words (connection_in text x)) (flat_map connection_words (map (connection_in text) cs)) (bytes_of text c.pin) (in_connections text cs c h)
 
 stands_at : (xs : List (List ℕ)) (w v : List ℕ) (ys : List (List ℕ)) → are_standing (xs ++ w ∷ v ∷ ys) ≡ true → (is_whole w || (is_cut w && bytes_eq v (codes ";"))) ≡ true
-stands_at [] w v ys h = and_left (is_whole w || (is_cut w && bytes_eq v (codes ";"))) (are_standing (v ∷ ys)) h
-stands_at (x ∷ []) w v ys h = stands_at [] w v ys (and_right (is_whole x || (is_cut x && bytes_eq w (codes ";"))) (are_standing (w ∷ v ∷ ys)) h)
-stands_at (x ∷ y ∷ xs) w v ys h = stands_at (y ∷ xs) w v ys (and_right (is_whole x || (is_cut x && bytes_eq y (codes ";"))) (are_standing (y ∷ (xs ++ w ∷ v ∷ ys))) h)
+stands_at [] w v ys h = and_first (is_whole w || (is_cut w && bytes_eq v (codes ";"))) (are_standing (v ∷ ys)) h
+stands_at (x ∷ []) w v ys h = stands_at [] w v ys (and_second (is_whole x || (is_cut x && bytes_eq w (codes ";"))) (are_standing (w ∷ v ∷ ys)) h)
+stands_at (x ∷ y ∷ xs) w v ys h = stands_at (y ∷ xs) w v ys (and_second (is_whole x || (is_cut x && bytes_eq y (codes ";"))) (are_standing (y ∷ (xs ++ w ∷ v ∷ ys))) h)
 
 -- what members give
 

@@ -4,15 +4,12 @@ use Rattle.std.specs.List.{find, list_any}
 use Rattle.std.specs.Option.{option_or}
 use Rattle.std.proofs.lemmas.List.{get_or_default}
 use Rattle.std.proofs.lemmas.List.Folds.{list_any-append, find-append}
+use Rattle.base_types.proofs.TruthValues.{or_false, or_assoc}
 use Rattle.def_reader.proofs.RowsMore.{take_next}
 use Rattle.chain_trace.specs.declared.path.Step.{Step}
 use Rattle.chain_trace.specs.declared.path.Path.{Path}
 use Rattle.def_reader.proofs.RowsMore.{flat_next}
 use Rattle.traced_paths.specs.Traced.{steps_of}
-
-or_none : (b : Bool) → (b || false) ≡ b
-or_none true = refl
-or_none false = refl
 
 or_cond : (a b : Bool) → cond b true a ≡ (a || b)
 or_cond true true = refl
@@ -20,13 +17,9 @@ or_cond true false = refl
 or_cond false true = refl
 or_cond false false = refl
 
-or_assoc : (a b c : Bool) → ((a || b) || c) ≡ (a || (b || c))
-or_assoc true b c = refl
-or_assoc false b c = refl
-
 any_next : {X : Type 0} (test : X → Bool) (xs : List X) (i : ℕ) (x : X) → i < length xs → x ≡ get_or xs i x → list_any test (take (i + 1) xs) ≡ (list_any test (take i xs) || test x)
 any_next test xs i x lt is =
-    ap (list_any test) (take_next xs i x lt is) ∙ list_any-append test (take i xs) (x ∷ []) ∙ ap (λ (b : Bool). list_any test (take i xs) || b) (or_none (test x))
+    ap (list_any test) (take_next xs i x lt is) ∙ list_any-append test (take i xs) (x ∷ []) ∙ ap (λ (b : Bool). list_any test (take i xs) || b) (or_false (test x))
 
 -- a member that is put in a set
 pub put_next : {X : Type 0} (test : X → Bool) (xs : List X) (i : ℕ) (x : X) (first old new : Bool) → i < length xs → x ≡ get_or xs i x → new ≡ cond (test x) true old → old ≡ (first || list_any test (take i xs))

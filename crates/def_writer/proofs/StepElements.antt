@@ -8,7 +8,7 @@ use Rattle.std.proofs.lemmas.Option.{same_Some, none-some}
 use Rattle.std.proofs.lemmas.List.Sums.{sum_by-cons}
 use Rattle.std.proofs.lemmas.List.Elements.{All-head, All-tail}
 use Rattle.base_types.specs.declared.fault.Fault.{Fault}
-use Rattle.token_forms.proofs.Spelled.{same_bytes}
+use Rattle.base_types.proofs.TruthValues.{bytes_are}
 use Rattle.netlist_core.specs.declared.netlist.Instance.{Instance}
 use Rattle.netlist_core.specs.declared.netlist.Netlist.{Netlist}
 use Rattle.cell_table.specs.declared.paths.ScanPath.{ScanPath}
@@ -87,7 +87,7 @@ pin_is : (component pin : List ℕ) (q : NetPin) → same_pin (Cell component pi
 pin_is component pin (Port name) e = absurd (false≢true e)
 pin_is component pin (Cell c p) e =
     elim (cases_Bool (bytes_eq component c)) [
-      | inl t ↦ ap₂ Cell (sym (same_bytes component c t)) (sym (same_bytes pin p (sym (ap (λ (b : Bool). b && bytes_eq pin p) t) ∙ e)))
+      | inl t ↦ ap₂ Cell (sym (bytes_are component c t)) (sym (bytes_are pin p (sym (ap (λ (b : Bool). b && bytes_eq pin p) t) ∙ e)))
       | inr t ↦ absurd (false≢true (sym (ap (λ (b : Bool). b && bytes_eq pin p) t) ∙ e))
     ]
 

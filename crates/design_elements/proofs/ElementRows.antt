@@ -1,9 +1,9 @@
 -- Elements by their keys, and their rows as one more is looked at.
-use Rattle.std.proofs.Common.{◌≡◌, ℕ, ◌+◌, ◌<◌, Bool, true, false, ◌&&◌, eqb, List, [], ◌++◌, length, get_or, take, Option, Some, refl, sym, ap, ◌∙◌, append_assoc, eq-eqb}
+use Rattle.std.proofs.Common.{◌≡◌, ℕ, ◌+◌, ◌<◌, true, eqb, List, [], ◌++◌, length, get_or, take, Option, Some, refl, sym, ap, ◌∙◌, append_assoc, eq-eqb}
 use Rattle.std.specs.Prelude.{option_map}
 use Rattle.std.specs.List.{flat_map, filter_map, cons_option}
 use Rattle.std.specs.Str.{bytes_eq}
-use Rattle.std.proofs.lemmas.Bool.{and_parts, eqb-true}
+use Rattle.std.proofs.lemmas.Bool.{and_parts, eqb-true, and_from}
 use Rattle.std.proofs.lemmas.List.Elements.{filter_map-append}
 use Rattle.std.proofs.lemmas.Slice.Eq.{bytes_eq-Decides}
 use Rattle.cell_table.specs.Cells.{Cells}
@@ -14,11 +14,6 @@ use Rattle.def_reader.specs.Sound.{elements_in}
 use Rattle.def_reader.proofs.RowsMore.{filter_next, flat_next}
 use Rattle.design_elements.specs.CellPins.{CellPins, pins_of, path_number}
 use Rattle.design_elements.specs.Seen.{ElementKey, same_element, element_at, row_of}
-
-both : (a b : Bool) → a ≡ true → b ≡ true → (a && b) ≡ true
-both true true a b = a
-both true false a b = absurd cc
-both false b e f = absurd cc
 
 pairs_same : (a b : List ℕ) (p q : ℕ) → a ≡ b → p ≡ q → ◌≡◌ {A = List ℕ × ℕ} (a, p) (b, q)
 pairs_same a b p q e f = ap (λ (x : List ℕ). (x, p)) e ∙ ap (λ (n : ℕ). (b, n)) f
@@ -31,7 +26,7 @@ key_exact x y e =
 
 pub key_back : (x y : ElementKey) → element_at x ≡ element_at y → same_element x y ≡ true
 key_back x y e =
-    both (bytes_eq x.0.now y.0.now) (eqb x.1 y.1) ((bytes_eq-Decides x.0.now y.0.now).1 (ap (λ (k : List ℕ × ℕ). k.0) e)) (eq-eqb x.1 y.1 (ap (λ (k : List ℕ × ℕ). k.1) e))
+    and_from (bytes_eq x.0.now y.0.now) (eqb x.1 y.1) ((bytes_eq-Decides x.0.now y.0.now).1 (ap (λ (k : List ℕ × ℕ). k.0) e)) (eq-eqb x.1 y.1 (ap (λ (k : List ℕ × ℕ). k.1) e))
 
 -- the row of an element whose pins tell a scan path
 pub element_row : (cells : Cells) (components : List Component) (pins : CellPins) (line : ℕ) (e : Element) (name : List ℕ) (path : ℕ) → pins ≡ pins_of e → name ≡ e.component

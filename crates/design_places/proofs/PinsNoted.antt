@@ -10,7 +10,7 @@ use Rattle.std.proofs.lemmas.Bool.{cases_Bool}
 use Rattle.std.proofs.lemmas.List.{take_more, take_all}
 use Rattle.std.proofs.lemmas.List.Folds.{find-append, list_any_more}
 use Rattle.std.proofs.lemmas.Option.{slice_get-get_or}
-use Rattle.std.proofs.lemmas.Slice.Eq.{bytes_eq-Decides}
+use Rattle.base_types.proofs.TruthValues.{bytes_turned}
 use Rattle.def_reader.specs.declared.design.Net.{Net}
 use Rattle.def_reader.specs.declared.design.NetPin.{NetPin}
 use Rattle.def_reader.specs.Steps.{PinKey, same_key, pin_by, pin_of_key}
@@ -18,21 +18,11 @@ use Rattle.def_reader.proofs.PinKeys.{key_exact}
 use Rattle.design_places.specs.NetPins.{same_pin}
 use Rattle.design_places.specs.PinPlaces.{ArePinsNoted}
 
-pub turned : (a b : List ℕ) → bytes_eq a b ≡ bytes_eq b a
-turned a b =
-    elim (cases_Bool (bytes_eq a b)) [
-      | inl is ↦ is ∙ sym ((bytes_eq-Decides b a).1 (sym ((bytes_eq-Decides a b).0 is)))
-      | inr fails ↦ elim (cases_Bool (bytes_eq b a)) [
-        | inl is ↦ let back = (bytes_eq-Decides a b).1 (sym ((bytes_eq-Decides b a).0 is)) in absurd cc
-        | inr other ↦ fails ∙ sym other
-      ]
-    ]
-
 parts : (a b : Option (Bor (List ℕ))) (p q : List ℕ) → (option_eq (λ x y. bytes_eq x.now y.now) a b && bytes_eq p q) ≡ same_pin (pin_by b q) (pin_by a p)
-parts None None p q = turned p q
+parts None None p q = bytes_turned p q
 parts None (Some d) p q = refl
 parts (Some c) None p q = refl
-parts (Some c) (Some d) p q = ap (λ (t : Bool). t && bytes_eq p q) (turned c.now d.now) ∙ ap (λ (t : Bool). bytes_eq d.now c.now && t) (turned p q)
+parts (Some c) (Some d) p q = ap (λ (t : Bool). t && bytes_eq p q) (bytes_turned c.now d.now) ∙ ap (λ (t : Bool). bytes_eq d.now c.now && t) (bytes_turned p q)
 
 -- keys are the same where their pins are
 pub key_is : (x q : PinKey) → same_key x q ≡ same_pin (pin_of_key q) (pin_of_key x)

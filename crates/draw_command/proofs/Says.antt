@@ -2,9 +2,10 @@
 use Rattle.std.proofs.Common.{◌≡◌, ◌≢◌, ℕ, zero, suc, ◌+◌, ◌*◌, ◌/◌, ◌%◌, ◌<◌, ◌≤◌, ◌⊎◌, inl, inr, Bool, true, false, cond, ◌&&◌, ◌||◌, not, List, [], ◌∷◌, ◌++◌, length, take, drop, get_or, refl, ap, sym, ◌∙◌, subst, arith, append_assoc}
 use Rattle.std.specs.Prelude.{ℤ, pos, negsuc, nat_eq, nat_lt, ◌==◌, codes, decimal, All, Option, Some, None, sum_by}
 use Rattle.std.specs.Fmt.{signed_decimal, digit_glyph, digits, digits_onto}
-use Rattle.std.proofs.lemmas.Bool.{cond_both}
+use Rattle.std.proofs.lemmas.Bool.{cond_both, and_from, not-true}
 use Rattle.std.proofs.lemmas.Bool.Decides.{nat_tests}
 use Rattle.std.proofs.lemmas.List.Elements.{All-nil, All-cons}
+use Rattle.base_types.proofs.TruthValues.{and_first, and_second}
 use Rattle.draw_command.specs.Xml.{IsPlainByte, attribute, begins_with, count_of, digit, element, escaped, escaped_byte, leaf, place, size}
 
 -- the byte is a line feed or printable ASCII
@@ -37,24 +38,9 @@ pub record Says (n : ℕ) (xs : List ℕ) : Type 0 where
   pub plain : are_plain xs ≡ true
   pub count : (ys : List ℕ) → count_of mark (xs ++ ys) ≡ n + count_of mark ys
 
-first_true : (a b : Bool) → (a && b) ≡ true → a ≡ true
-first_true true b e = refl
-first_true false b e = e
-
-second_true : (a b : Bool) → (a && b) ≡ true → b ≡ true
-second_true true b e = e
-second_true false b e = absurd cc
-
-both_true : (a b : Bool) → a ≡ true → b ≡ true → (a && b) ≡ true
-both_true a b p q = rw p q
-
-not_true : (a : Bool) → not a ≡ true → a ≡ false
-not_true true e = absurd cc
-not_true false e = refl
-
 plain_both : (xs ys : List ℕ) → are_plain xs ≡ true → are_plain ys ≡ true → are_plain (xs ++ ys) ≡ true
 plain_both [] ys p q = q
-plain_both (x ∷ xs) ys p q = both_true (is_plain x) (are_plain (xs ++ ys)) (first_true (is_plain x) (are_plain xs) p) (plain_both xs ys (second_true (is_plain x) (are_plain xs) p) q)
+plain_both (x ∷ xs) ys p q = and_from (is_plain x) (are_plain (xs ++ ys)) (and_first (is_plain x) (are_plain xs) p) (plain_both xs ys (and_second (is_plain x) (are_plain xs) p) q)
 
 -- one piece behind another
 infixl 30 ◌⊕◌
@@ -81,37 +67,37 @@ pub empty : Quiet []
 empty = record { plain = refl; count = λ ys. refl }
 
 quiet_first : (b : ℕ) → is_quiet b ≡ true → (ys : List ℕ) → count_of mark (b ∷ ys) ≡ count_of mark ys
-quiet_first b e ys = let other : nat_eq 60 b ≡ false = not_true (nat_eq 60 b) (second_true (is_plain b) (not (nat_eq 60 b)) e) in rw other refl
+quiet_first b e ys = let other : nat_eq 60 b ≡ false = not-true (nat_eq 60 b) (and_second (is_plain b) (not (nat_eq 60 b)) e) in rw other refl
 
 -- one byte before a quiet piece
 quiet_cons : (b : ℕ) (xs : List ℕ) → is_quiet b ≡ true → Quiet xs → Quiet (b ∷ xs)
 quiet_cons b xs e more = record {
-  plain = both_true (is_plain b) (are_plain xs) (first_true (is_plain b) (not (nat_eq 60 b)) e) more.plain;
+  plain = and_from (is_plain b) (are_plain xs) (and_first (is_plain b) (not (nat_eq 60 b)) e) more.plain;
   count = λ ys. quiet_first b e (xs ++ ys) ∙ more.count ys;
 }
 
 -- a piece without `<`
 pub quiet : (xs : List ℕ) → are_quiet xs ≡ true → Quiet xs
 quiet [] e = empty
-quiet (x ∷ xs) e = quiet_cons x xs (first_true (is_quiet x) (are_quiet xs) e) (quiet xs (second_true (is_quiet x) (are_quiet xs) e))
+quiet (x ∷ xs) e = quiet_cons x xs (and_first (is_quiet x) (are_quiet xs) e) (quiet xs (and_second (is_quiet x) (are_quiet xs) e))
 
 quiet_take : (n : ℕ) (xs : List ℕ) → are_quiet xs ≡ true → are_quiet (take n xs) ≡ true
 quiet_take zero xs e = refl
 quiet_take (suc n) [] e = refl
-quiet_take (suc n) (x ∷ xs) e = both_true (is_quiet x) (are_quiet (take n xs)) (first_true (is_quiet x) (are_quiet xs) e) (quiet_take n xs (second_true (is_quiet x) (are_quiet xs) e))
+quiet_take (suc n) (x ∷ xs) e = and_from (is_quiet x) (are_quiet (take n xs)) (and_first (is_quiet x) (are_quiet xs) e) (quiet_take n xs (and_second (is_quiet x) (are_quiet xs) e))
 
 quiet_drop : (n : ℕ) (xs : List ℕ) → are_quiet xs ≡ true → are_quiet (drop n xs) ≡ true
 quiet_drop zero xs e = e
 quiet_drop (suc n) [] e = refl
-quiet_drop (suc n) (x ∷ xs) e = quiet_drop n xs (second_true (is_quiet x) (are_quiet xs) e)
+quiet_drop (suc n) (x ∷ xs) e = quiet_drop n xs (and_second (is_quiet x) (are_quiet xs) e)
 
 pub quiet_part : (n m : ℕ) (xs : List ℕ) → are_quiet xs ≡ true → Quiet (take n (drop m xs))
 quiet_part n m xs e = quiet (take n (drop m xs)) (quiet_take n (drop m xs) (quiet_drop m xs e))
 
 quiet_get : (xs : List ℕ) (n d : ℕ) → are_quiet xs ≡ true → is_quiet d ≡ true → is_quiet (get_or xs n d) ≡ true
 quiet_get [] n d e h = h
-quiet_get (x ∷ xs) zero d e h = first_true (is_quiet x) (are_quiet xs) e
-quiet_get (x ∷ xs) (suc n) d e h = quiet_get xs n d (second_true (is_quiet x) (are_quiet xs) e) h
+quiet_get (x ∷ xs) zero d e h = and_first (is_quiet x) (are_quiet xs) e
+quiet_get (x ∷ xs) (suc n) d e h = quiet_get xs n d (and_second (is_quiet x) (are_quiet xs) e) h
 
 glyph_quiet : (d : ℕ) → d < 10 → is_quiet (digit_glyph false d) ≡ true
 glyph_quiet d lt = grind (arith, nat_tests)
@@ -185,4 +171,4 @@ plain_byte b e = grind (arith, nat_tests)
 
 pub all_plain : (xs : List ℕ) → are_plain xs ≡ true → All IsPlainByte xs
 all_plain [] e = All-nil IsPlainByte
-all_plain (x ∷ xs) e = All-cons IsPlainByte x xs (plain_byte x (first_true (is_plain x) (are_plain xs) e)) (all_plain xs (second_true (is_plain x) (are_plain xs) e))
+all_plain (x ∷ xs) e = All-cons IsPlainByte x xs (plain_byte x (and_first (is_plain x) (are_plain xs) e)) (all_plain xs (and_second (is_plain x) (are_plain xs) e))

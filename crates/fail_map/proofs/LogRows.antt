@@ -12,7 +12,7 @@ use Rattle.std.specs.Char.{is_ascii_digit}
 use Rattle.std.specs.Str.{all_ascii_digits}
 use Rattle.std.proofs.lemmas.Bool.{false≢true, cases_lt, cases_eq, ne_eqb, and_parts}
 use Rattle.std.proofs.lemmas.List.{length-map, length-append, length-drop, append-nil, drop-drop, drop_all, drop_more}
-use Rattle.std.proofs.lemmas.Option.{slice_get_within}
+use Rattle.std.proofs.lemmas.Option.{slice_get_within, same_Some}
 use Rattle.fail_map.specs.declared.line.LogLine.{LogLine}
 use Rattle.fail_map.specs.Logs.{most_number, HasSmallNumbers, row_of, rows_of, with_byte, IsLogLine, IsLogText, HoldsInLog}
 use Rattle.fail_map.specs.Rows.{StopsDigits, HasNumber, HasNumberBehind, IsNumberAt, IsNumberBehind, EndsRow, HasRow, IsRowAt}
@@ -213,15 +213,12 @@ end_text bytes d g = subst EndsRow (sym (drop_all d bytes g)) tt
 
 -- ---- the lines that were read
 
-some_same : {X : Type 0} (x y : X) → Some x ≡ Some y → x ≡ y
-some_same x y e = cc
-
 -- a row of such lines is that of the line at its place
 row_here : (log : List LogLine) → All HasSmallNumbers log → (k : ℕ) (row : List ℕ) (line : LogLine) → slice_get (map row_of log) k ≡ Some row → slice_get log k ≡ Some line → IsLogLine row line
 row_here [] small k row line e f = absurd cc
 row_here (x ∷ log) small zero row line e f =
-    let same : x ≡ line = some_same x line f in
-    subst (λ (y : LogLine). IsLogLine row y) same (record { is = sym (some_same (row_of x) row e); small = All-head HasSmallNumbers x log small })
+    let same : x ≡ line = same_Some x line f in
+    subst (λ (y : LogLine). IsLogLine row y) same (record { is = sym (same_Some (row_of x) row e); small = All-head HasSmallNumbers x log small })
 row_here (x ∷ log) small (suc k) row line e f = row_here log (All-tail HasSmallNumbers x log small) k row line e f
 
 line_there : (log : List LogLine) (k : ℕ) → k < length log → (line : LogLine) × (slice_get log k ≡ Some line)

@@ -69,11 +69,6 @@ string_free [] e = absurd cc
 string_free (b ∷ []) e = subst (λ (n : ℕ). starts_behind (n ∷ []) ≡ false) (sym (eqb-true b 34 e)) refl
 string_free (b ∷ c ∷ bs) e = subst (λ (n : ℕ). starts_behind (n ∷ c ∷ bs) ≡ false) (sym (eqb-true b 34 e)) refl
 
--- colons
-and_none : (b : Bool) → (b && false) ≡ false
-and_none true = refl
-and_none false = refl
-
 pub no_colon : (text : List ℕ) → is_only 58 text ≡ false → bytes_eq text (codes ":") ≡ false
 no_colon text e = elim (cases_Bool (bytes_eq text (codes ":"))) [
   | inl h ↦ absurd (true≢false (sym (ap (is_only 58) ((bytes_eq-Decides text (codes ":")).0 h)) ∙ e))

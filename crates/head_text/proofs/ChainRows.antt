@@ -1,6 +1,6 @@
 -- A ScanChain as it is written.
 use Rattle.std.specs.Prelude.{⊤}
-use Rattle.std.proofs.Common.{◌≡◌, ℕ, zero, suc, ◌+◌, ◌-◌, ◌^◌, ◌<◌, ◌≤◌, Bool, true, false, ◌&&◌, ◌||◌, not, cond, ◌⊎◌, inl, inr, List, [], ◌∷◌, ◌++◌, length, map, filter, codes, decimal, is_some, Option, Some, None, refl, sym, ap, ◌∙◌, subst, arith, append_assoc, length-append}
+use Rattle.std.proofs.Common.{◌≡◌, ℕ, zero, suc, ◌+◌, ◌-◌, ◌^◌, ◌<◌, ◌≤◌, Bool, true, false, ◌||◌, not, cond, ◌⊎◌, inl, inr, List, [], ◌∷◌, ◌++◌, length, map, filter, codes, decimal, is_some, Option, Some, None, refl, sym, ap, ◌∙◌, subst, arith, append_assoc, length-append}
 use Rattle.std.specs.List.{flat_map, AllByRecursion as Each}
 use Rattle.std.proofs.lemmas.Bool.{cases_Bool, true≢false}
 use Rattle.std.proofs.lemmas.List.{append-nil}
@@ -9,6 +9,7 @@ use Rattle.base_types.specs.Lines.{line_at}
 use Rattle.base_types.specs.declared.span.Span.{Span}
 use Rattle.token_forms.specs.Parsing.{◌>>=◌}
 use Rattle.base_types.specs.Names.{plain_name}
+use Rattle.base_types.proofs.TruthValues.{and_first}
 use Rattle.token_forms.specs.Tokens.{Token}
 use Rattle.splice.specs.declared.Edit.{Edit}
 use Rattle.splice.specs.Spliced.{AreRising}
@@ -246,10 +247,6 @@ fits_clause p d n w f OutLength k = tt
 fits_clause p d n w f Passed k = tt
 fits_clause p d n w f NoForm k = k
 
-left_true : (a b : Bool) → (a && b) ≡ true → a ≡ true
-left_true true b e = refl
-left_true false b e = absurd cc
-
 pub no_form : (s : List Token) → is_whole s ≡ false → clause_of s ≡ NoForm
 unfolding clause_of
 no_form s e = ap (λ (b : Bool). cond b (unlabelled_clause (behind_labels s)) NoForm) e
@@ -258,7 +255,7 @@ closed_of : (p : ChainParts) (s : List Token) → Covers p (clause_of s) → is_
 closed_of p s k = by (is_whole s) refl k
   where
     by : (b : Bool) → is_whole s ≡ b → Covers p (clause_of s) → is_closed s ≡ true
-    by true e k = left_true (is_closed s) (not (closes_nothing 0 s)) e
+    by true e k = and_first (is_closed s) (not (closes_nothing 0 s)) e
     by false e k = absurd (subst (Covers p) (no_form s e) k)
 
 flat_clauses : (marks : Bool) (n : NewChain) (ss : List (List Token)) → flat_map (λ s. clause_edits marks n (clause_of s)) ss ≡ flat_map (clause_edits marks n) (map clause_of ss)

@@ -4,7 +4,7 @@ use Rattle.std.proofs.Common.{◌≡◌, ℕ, zero, suc, ◌+◌, ◌-◌, ◌^�
 use Rattle.std.specs.Prelude.{nat_le}
 use Rattle.std.specs.List.{list_all, AllByRecursion as Each}
 use Rattle.std.specs.Str.{bytes_eq}
-use Rattle.std.proofs.lemmas.Bool.{cases_Bool, true≢false}
+use Rattle.std.proofs.lemmas.Bool.{cases_Bool, true≢false, and_parts}
 use Rattle.std.proofs.lemmas.Bool.Decides.{nat_tests}
 use Rattle.std.proofs.lemmas.List.{append-nil}
 use Rattle.std.proofs.lemmas.Slice.Eq.{bytes_eq-Decides}
@@ -38,7 +38,7 @@ use Rattle.head_text.specs.Mixes.{bytes_in, piece_for, AreLaid, laid, token_of_b
 use Rattle.head_text.specs.Ready.{AreBlank, IsNumber}
 use Rattle.head_text.specs.Written.{NewBit, NewChain, bit_text, cells_text, edit_at, name_read}
 use Rattle.head_text.proofs.Mixes.{bytes_append, laid_append, are_behind, some_laid}
-use Rattle.head_text.proofs.Ready.{number_law, goes_same, both_true, IsByte, digit_is}
+use Rattle.head_text.proofs.Ready.{number_law, goes_same, IsByte, digit_is}
 use Rattle.head_text.proofs.Cutting.{Pieces, no_tokens, blank_laid, PieceCut, piece_cut, OnePiece, one_piece}
 use Rattle.head_text.proofs.Patches.{patch_edits}
 use Rattle.head_text.proofs.Makes.{Row, stays_row}
@@ -95,8 +95,8 @@ number_cut at ps x c e semicolon =
 digits_free : (x : List ℕ) → IsNumber x → starts_behind x ≡ false
 digits_free [] n = absurd (let k = n.some in omega arith)
 digits_free (b ∷ bs) n =
-    let d : (nat_le 48 b && nat_le b 57) ≡ true = (both_true (is_digit b) (list_all is_digit bs) n.digits).0 in
-    let r = both_true (nat_le 48 b) (nat_le b 57) d in
+    let d : (nat_le 48 b && nat_le b 57) ≡ true = (and_parts (is_digit b) (list_all is_digit bs) n.digits).0 in
+    let r = and_parts (nat_le 48 b) (nat_le b 57) d in
     let low = r.0 in
     let high = r.1 in
     let a : eqb b 123 ≡ false = grind (arith, nat_tests) in
@@ -123,7 +123,7 @@ number_free front behind x f g n = free_both front ((true, x) ∷ behind) (blank
 -- what follows the word isn't a run: else the number would be of the word
 digit_goes : (x r : List ℕ) → IsNumber x → goes_on (x ++ r) ≡ true
 digit_goes [] r n = absurd (let k = n.some in omega arith)
-digit_goes (b ∷ bs) r n = (digit_is b (both_true (is_digit b) (list_all is_digit bs) n.digits).0).run
+digit_goes (b ∷ bs) r n = (digit_is b (and_parts (is_digit b) (list_all is_digit bs) n.digits).0).run
 
 number_stops : (front behind : Pieces) (x y r s : List ℕ) → IsNumber x → AreBlank front → AreLaid r (front ++ ((true, x) ∷ [] ++ behind)) → goes_on (bytes_in (front ++ ((true, x) ∷ [] ++ behind)) ++ r) ≡ false
     → goes_on (bytes_in (front ++ ((true, y) ∷ [] ++ behind)) ++ s) ≡ false

@@ -4,6 +4,7 @@ use Rattle.std.proofs.Common.{◌≡◌, ℕ, zero, suc, ◌+◌, ◌-◌, ◌<�
 use Rattle.std.specs.List.{flat_map, AllByRecursion as Each}
 use Rattle.std.proofs.lemmas.Bool.{cases_Bool, true≢false}
 use Rattle.std.proofs.lemmas.List.{append-nil}
+use Rattle.base_types.proofs.TruthValues.{and_first}
 use Rattle.token_forms.specs.Tokens.{Token}
 use Rattle.splice.specs.declared.Edit.{Edit}
 use Rattle.stil_tokens.specs.StilStatements.{is_closed, len_in, stil_statements}
@@ -54,16 +55,12 @@ second_true true true e f = refl
 second_true true false e f = absurd cc
 second_true false b e f = absurd cc
 
-left_true : (a b : Bool) → (a && b) ≡ true → a ≡ true
-left_true true b e = refl
-left_true false b e = absurd cc
-
 module _ (text : List ℕ) where
   item_of : (s : List Token) → is_bad_item text s ≡ false → IsItem text s
   unfolding is_bad_item
   item_of s e =
       let k = both_false (is_whole s) (has_word (codes "ScanChain") s && not (is_some (chain_at text s))) e in
-      record { closed = left_true (is_closed s) (not (closes_nothing 0 s)) k.0; chain = λ h. second_true (has_word (codes "ScanChain") s) (is_some (chain_at text s)) k.1 h }
+      record { closed = and_first (is_closed s) (not (closes_nothing 0 s)) k.0; chain = λ h. second_true (has_word (codes "ScanChain") s) (is_some (chain_at text s)) k.1 h }
 
   items_of : (ss : List (List Token)) → item_places text ss ≡ [] → Each (IsItem text) ss
   items_of [] e = tt

@@ -2,7 +2,7 @@
 use Rattle.std.specs.Prelude.{⊤}
 use Rattle.std.proofs.Common.{◌≡◌, ℕ, zero, suc, ◌+◌, ◌-◌, ◌<◌, ◌≤◌, Bool, true, false, cond, eqb, ◌&&◌, ◌||◌, not, inl, inr, List, [], ◌∷◌, ◌++◌, length, take, drop, refl, sym, ap, ◌∙◌, subst, arith, append_assoc, length-append}
 use Rattle.std.specs.List.{prefix_len, AllByRecursion as Each}
-use Rattle.std.proofs.lemmas.Bool.{cases_Bool, true≢false, eqb-true, eqb-false}
+use Rattle.std.proofs.lemmas.Bool.{cases_Bool, true≢false, eqb-true, eq-eqb}
 use Rattle.std.proofs.lemmas.List.{append-nil}
 use Rattle.token_forms.specs.declared.piece.Piece.{Piece}
 use Rattle.token_forms.specs.declared.piece.Piece.TheVariants.{Blank, Token as token}
@@ -149,15 +149,6 @@ not_equal a b h = elim (cases_Bool (eqb a b)) [
   | inr e ↦ e
 ]
 
-equal : (a b : ℕ) → a ≡ b → eqb a b ≡ true
-equal a b e = subst (λ (n : ℕ). eqb a n ≡ true) e (eqb_refl a)
-  where
-    eqb_refl : (a : ℕ) → eqb a a ≡ true
-    eqb_refl a = elim (cases_Bool (eqb a a)) [
-      | inl e ↦ e
-      | inr e ↦ absurd (let k = eqb-false a a e in omega (arith, k))
-    ]
-
 far_old : (t : Token) (at to : ℕ) (m : List Mix) → t.end < at → meets t (olds (steps at to m)) ≡ false
 far_old t at to [] far = refl
 far_old t at to (Stay true w ∷ m) far = not_equal at t.end far
@@ -172,11 +163,11 @@ far_new t at to (Change w os ns ∷ m) far = not_equal to t.end far
 
 pub meet_both : (t u : Token) (at to : ℕ) (m : List Mix) → at ≡ t.end → to ≡ u.end → AreSome (old_pieces m) → meets t (olds (steps at to m)) ≡ meets u (news (steps at to m))
 meet_both t u at to [] e f are = refl
-meet_both t u at to (Stay true w ∷ m) e f are = equal at t.end e ∙ sym (equal to u.end f)
+meet_both t u at to (Stay true w ∷ m) e f are = eq-eqb at t.end e ∙ sym (eq-eqb to u.end f)
 meet_both t u at to (Stay false w ∷ m) e f are =
     let some = are.0 in
     far_old t (at + length w) (to + length w) m (omega (arith, e, some)) ∙ sym (far_new u (at + length w) (to + length w) m (omega (arith, f, some)))
-meet_both t u at to (Change w os ns ∷ m) e f are = equal at t.end e ∙ sym (equal to u.end f)
+meet_both t u at to (Change w os ns ∷ m) e f are = eq-eqb at t.end e ∙ sym (eq-eqb to u.end f)
 
 pub are_steps : (m : List Mix) (begins : Bool) (at to : ℕ) → AreSome (old_pieces m) → AreReady begins m → AreSteps true begins (steps at to m)
 are_steps [] begins at to are ready = tt

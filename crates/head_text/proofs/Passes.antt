@@ -2,7 +2,7 @@
 use Rattle.std.specs.Prelude.{⊤, nat_lt}
 use Rattle.std.proofs.Common.{◌≡◌, ℕ, zero, suc, ◌+◌, ◌-◌, ◌<◌, ◌≤◌, Bool, true, false, cond, eqb, ◌&&◌, ◌||◌, not, ◌⊎◌, inl, inr, List, [], ◌∷◌, ◌++◌, length, Option, Some, None, refl, sym, ap, ◌∙◌, subst, arith, append_assoc, length-append}
 use Rattle.std.specs.List.{prefix_len}
-use Rattle.std.proofs.lemmas.Bool.{cases_Bool, true≢false, eqb-true}
+use Rattle.std.proofs.lemmas.Bool.{cases_Bool, true≢false, eqb-true, not-true}
 use Rattle.std.proofs.lemmas.Bool.Decides.{nat_tests}
 use Rattle.token_forms.specs.declared.piece.Piece.{Piece}
 use Rattle.token_forms.specs.declared.piece.Piece.TheVariants.{Blank, Token as token}
@@ -139,10 +139,6 @@ abbrev AtLine : List ℕ → Type 0
 AtLine [] = ⊤
 AtLine (b ∷ r) = b ≡ 10
 
-not_false : (b : Bool) → not b ≡ true → b ≡ false
-not_false true e = absurd cc
-not_false false e = refl
-
 line_step : (t : Bool) (m n : ℕ) → cond t (1 + m) 0 ≡ suc n → (t ≡ true) × (m ≡ n)
 line_step true m n e = (refl, omega (arith, e))
 line_step false m n e = absurd cc
@@ -157,7 +153,7 @@ line_pass [] (b ∷ r) e = (passes_none Line, line_none b (line_len r) (eqb b 10
 line_pass (b ∷ x) r e =
     let s = line_step (not (eqb b 10)) (line_len (x ++ r)) (length x) e in
     let k = line_pass x r s.1 in
-    (passes_both Line Line Line (b ∷ []) x (line_goes b (not_false (eqb b 10) s.0)) k.0, k.1)
+    (passes_both Line Line Line (b ∷ []) x (line_goes b (not-true (eqb b 10) s.0)) k.0, k.1)
 
 -- a comment in /*
 data BlockPasses (star : Bool) (x r : List ℕ) : Type 0 where

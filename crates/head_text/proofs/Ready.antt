@@ -2,7 +2,7 @@
 use Rattle.std.proofs.Common.{◌≡◌, ℕ, zero, suc, ◌+◌, ◌-◌, ◌<◌, ◌≤◌, Bool, true, false, cond, eqb, ◌&&◌, ◌||◌, not, ◌⊎◌, inl, inr, List, [], ◌∷◌, ◌++◌, length, take, drop, codes, is_some, Option, Some, None, refl, sym, ap, ◌∙◌, subst, arith, append_assoc, length-append, length-drop}
 use Rattle.std.specs.Prelude.{nat_le}
 use Rattle.std.specs.List.{prefix_len, list_all}
-use Rattle.std.proofs.lemmas.Bool.{cases_Bool, true≢false, eqb-true, leb-true}
+use Rattle.std.proofs.lemmas.Bool.{cases_Bool, true≢false, eqb-true, leb-true, and_parts}
 use Rattle.std.proofs.lemmas.List.{append-nil, take-append-drop, length-take-le}
 use Rattle.base_types.specs.declared.span.Span.{Span}
 use Rattle.token_forms.specs.declared.piece.Piece.{Piece}
@@ -90,18 +90,13 @@ pub record IsByte (b : ℕ) : Type 0 where
   pub line : eqb b 10 ≡ false
   pub run : is_run b ≡ true
 
-pub both_true : (a b : Bool) → (a && b) ≡ true → (a ≡ true) × (b ≡ true)
-both_true true true e = (refl, refl)
-both_true true false e = absurd cc
-both_true false b e = absurd cc
-
 apart : (b c : ℕ) → 48 ≤ b → b ≤ 57 → (c < 48) ⊎ (57 < c) → eqb b c ≡ false
 apart b c low high (inl h) = elim (cases_Bool (eqb b c)) [ inl e ↦ (let k = eqb-true b c e in absurd (omega (arith, k))) | inr e ↦ e ]
 apart b c low high (inr h) = elim (cases_Bool (eqb b c)) [ inl e ↦ (let k = eqb-true b c e in absurd (omega (arith, k))) | inr e ↦ e ]
 
 pub digit_is : (b : ℕ) → is_digit b ≡ true → IsByte b
 digit_is b e =
-    let k = both_true (nat_le 48 b) (nat_le b 57) e in
+    let k = and_parts (nat_le 48 b) (nat_le b 57) e in
     let low = leb-true 48 b (k.0) in
     let high = leb-true b 57 (k.1) in
     let a1 = apart b 32 low high (inl (omega arith)) in
@@ -132,7 +127,7 @@ digit_is b e =
 pub run_over : (y r : List ℕ) → list_all is_digit y ≡ true → prefix_len is_run (y ++ r) ≡ length y + prefix_len is_run r
 run_over [] r e = omega arith
 run_over (b ∷ y) r e =
-    let k = both_true (is_digit b) (list_all is_digit y) e in
+    let k = and_parts (is_digit b) (list_all is_digit y) e in
     let more = run_over y r k.1 in
     let here : prefix_len is_run (b ∷ (y ++ r)) ≡ 1 + prefix_len is_run (y ++ r) = ap (λ (t : Bool). cond t (1 + prefix_len is_run (y ++ r)) 0) ((digit_is b k.0).run) in
     omega (arith, here, more)
@@ -140,7 +135,7 @@ run_over (b ∷ y) r e =
 pub number_piece : (b : ℕ) (y r : List ℕ) → list_all is_digit (b ∷ y) ≡ true → piece_at (b ∷ (y ++ r)) ≡ token (1 + (length y + prefix_len is_run r))
 unfolding piece_at
 number_piece b y r e =
-    let k = both_true (is_digit b) (list_all is_digit y) e in
+    let k = and_parts (is_digit b) (list_all is_digit y) e in
     let d = digit_is b k.0 in
     let d1 = d.blank in
     let d2 = d.quote in
@@ -268,7 +263,7 @@ number_here (c ∷ x) (d ∷ y) r s a b same e =
 last_blank : (v x y r s : List ℕ) → 0 < length v → IsNumber x → IsNumber y → piece_at (v ++ (x ++ r)) ≡ Blank (length v) → piece_at (v ++ (y ++ s)) ≡ Blank (length v)
 last_blank [] x y r s some a b e = absurd (omega arith)
 last_blank (c ∷ v) [] y r s some a b e = absurd (let k = a.some in omega (arith, k))
-last_blank (c ∷ v) (d ∷ x) y r s some a b e = blank_last d (digit_is d (both_true (is_digit d) (list_all is_digit x) a.digits).0) (x ++ r) (y ++ s) c v e
+last_blank (c ∷ v) (d ∷ x) y r s some a b e = blank_last d (digit_is d (and_parts (is_digit d) (list_all is_digit x) a.digits).0) (x ++ r) (y ++ s) c v e
 
 pub number_law : NumberLaw
 number_law [] behind x y z w f g a b are =

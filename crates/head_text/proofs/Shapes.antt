@@ -7,6 +7,7 @@ use Rattle.std.proofs.lemmas.Bool.{cases_Bool, true≢false, eqb-false}
 use Rattle.std.proofs.lemmas.List.{append-nil}
 use Rattle.std.proofs.lemmas.Slice.Eq.{bytes_eq-Decides}
 use Rattle.base_types.specs.declared.span.Span.{Span}
+use Rattle.base_types.proofs.TruthValues.{and_false}
 use Rattle.token_forms.specs.declared.piece.Piece.TheVariants.{Blank, Token as token}
 use Rattle.token_forms.specs.Classes.{But, is_in}
 use Rattle.token_forms.specs.Tokens.{Token, front_of}
@@ -61,10 +62,6 @@ free_end w e = mid (is_only 123 w) (is_only 125 w) (is_only 59 w) _ _ e
     mid true b true d f e = absurd cc
     mid false true true d f e = absurd cc
     mid false false true d f e = absurd cc
-
-and_false : (b : Bool) → (b && false) ≡ false
-and_false true = refl
-and_false false = refl
 
 no_run : (w : List ℕ) → is_string w ≡ true → is_word w ≡ false
 no_run [] e = absurd cc

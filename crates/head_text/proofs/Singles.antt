@@ -1,7 +1,7 @@
 -- Pieces before other bytes than those they stood before: alone, and behind a name.
 use Rattle.std.proofs.Common.{◌≡◌, ℕ, zero, suc, ◌+◌, ◌-◌, ◌<◌, ◌≤◌, Bool, true, false, cond, eqb, ◌&&◌, ◌||◌, not, inl, inr, List, [], ◌∷◌, ◌++◌, length, codes, refl, sym, ap, ◌∙◌, subst, arith, append_assoc}
 use Rattle.std.specs.List.{prefix_len}
-use Rattle.std.proofs.lemmas.Bool.{cases_Bool, true≢false, eqb-true}
+use Rattle.std.proofs.lemmas.Bool.{cases_Bool, true≢false, eqb-true, not-true, and_parts}
 use Rattle.std.proofs.lemmas.List.{append-nil}
 use Rattle.token_forms.specs.declared.piece.Piece.{Piece}
 use Rattle.token_forms.specs.declared.piece.Piece.TheVariants.{Blank, Token as token}
@@ -14,7 +14,7 @@ use Rattle.head_alike.specs.Steps.{changed_words}
 use Rattle.head_alike.proofs.Words.{changed}
 use Rattle.head_text.specs.Mixes.{bytes_in, piece_for, AreLaid}
 use Rattle.head_text.proofs.Mixes.{stay_before, run_ends, bytes_append}
-use Rattle.head_text.proofs.Ready.{stops_of, both_true}
+use Rattle.head_text.proofs.Ready.{stops_of}
 
 -- pieces in front of others
 pub are_front : (z : List ℕ) (ps qs : List (Bool × List ℕ)) → AreLaid z (ps ++ qs) → AreLaid (bytes_in qs ++ z) ps
@@ -174,14 +174,10 @@ none_of false false true e = absurd cc
 none_of false true c e = absurd cc
 none_of true b c e = absurd cc
 
-not_true : (b : Bool) → not b ≡ true → b ≡ false
-not_true true e = absurd cc
-not_true false e = refl
-
 word_there : (b : ℕ) (x r s : List ℕ) → is_word (b ∷ x) ≡ true → goes_on s ≡ false → piece_at (b ∷ (x ++ r)) ≡ token (suc (length x)) → piece_at (b ∷ (x ++ s)) ≡ token (suc (length x))
 unfolding piece_at
 word_there b x r s word stops e =
-    let n = none_of (eqb b 34) (eqb b 39) (eqb b 123) (not_true (is_enclosed (b ∷ x)) (both_true _ (not (is_enclosed (b ∷ x))) word).1) in
+    let n = none_of (eqb b 34) (eqb b 39) (eqb b 123) (not-true (is_enclosed (b ∷ x)) (and_parts _ (not (is_enclosed (b ∷ x))) word).1) in
     let quote : is_quote b ≡ false = (let n0 = n.0 in let n1 = n.1 in rw (n0, n1) refl) in
     let w = token (suc (length x)) in
     pick (is_blank b) _ _ _ _ w e (λ t e. e)

@@ -3,9 +3,9 @@ use Rattle.std.proofs.Common.{◌≡◌, ℕ, zero, suc, ◌+◌, ◌==◌, Bool
 use Rattle.std.specs.Prelude.{codes}
 use Rattle.std.specs.Str.{bytes_eq}
 use Rattle.std.proofs.Math.ListN.{get_or-map}
-use Rattle.std.proofs.lemmas.Bool.{cases_Bool, eqb-true}
+use Rattle.std.proofs.lemmas.Bool.{cases_Bool, eqb-true, and_from}
+use Rattle.base_types.proofs.TruthValues.{bytes_are, bytes_same}
 use Rattle.token_forms.specs.Tokens.{Token}
-use Rattle.token_forms.proofs.Spelled.{same_bytes, same_text}
 use Rattle.def_tokens.specs.Numbers.{is_integer, is_decimal}
 use Rattle.lef_pins.specs.Statements.{no_token, text_at, is_word_at, are_decimals, is_size, is_origin, is_masked, corner_place, is_read_rect, are_corners, is_rect, values_from, rect_values, begins_size, begins_origin, size_values, origin_values}
 use Rattle.lef_pins.specs.Forms.{texts_of, SpellsSize, SpellsOrigin, Corners, corner_texts, AreCorners, SpellsRect, Plain, Masked, SizeLaw, OriginLaw, RectLaw}
@@ -18,10 +18,6 @@ pub record Both (a b : Bool) : Type 0 where
 pub both : (a b : Bool) → (a && b) ≡ true → Both a b
 both true b e = record { left = refl; right = e }
 both false b e = absurd cc
-
-join : (a b : Bool) → a ≡ true → b ≡ true → (a && b) ≡ true
-join true b e f = f
-join false b e f = absurd cc
 
 -- the texts of so many tokens from a place on
 texts_from : ℕ → List Token → ℕ → List (List ℕ)
@@ -55,7 +51,7 @@ counted : (s : List Token) (texts : List (List ℕ)) → texts_of s ≡ texts �
 counted s texts e = eq-eqb (length s) (length texts) (same_length s ∙ ap (λ (l : List (List ℕ)). length l) e)
 
 word_is : (s : List Token) (texts : List (List ℕ)) (k : ℕ) (w : List ℕ) → texts_of s ≡ texts → get_or texts k [] ≡ w → is_word_at s k w ≡ true
-word_is s texts k w e is = same_text (text_at s k) w (text_is s texts k e ∙ is)
+word_is s texts k w e is = bytes_same (text_at s k) w (text_is s texts k e ∙ is)
 
 decimal_is : (s : List Token) (texts : List (List ℕ)) (k : ℕ) → texts_of s ≡ texts → is_decimal (get_or texts k []) ≡ true → is_decimal (text_at s k) ≡ true
 decimal_is s texts k e is = ap is_decimal (text_is s texts k e) ∙ is
@@ -70,9 +66,9 @@ size_there s e =
     let front = both (length s == 5) (are_decimals s 1 3) parts.left in
     let words = both (is_word_at s 2 (codes "BY")) (is_word_at s 4 (codes ";")) parts.right in
     let numbers = both (is_decimal (text_at s 1)) (is_decimal (text_at s 3)) front.right in
-    let size = same_bytes (text_at s 0) (codes "SIZE") first.left in
-    let by = same_bytes (text_at s 2) (codes "BY") words.left in
-    let end = same_bytes (text_at s 4) (codes ";") words.right in
+    let size = bytes_are (text_at s 0) (codes "SIZE") first.left in
+    let by = bytes_are (text_at s 2) (codes "BY") words.left in
+    let end = bytes_are (text_at s 4) (codes ";") words.right in
     record {
       w = text_at s 1;
       h = text_at s 3;
@@ -86,9 +82,9 @@ size_back : (s : List Token) → SpellsSize s → (begins_size s && is_size s) �
 unfolding begins_size is_size
 size_back s p =
     let texts = codes "SIZE" ∷ p.w ∷ codes "BY" ∷ p.h ∷ codes ";" ∷ [] in
-    join _ _ (word_is s texts 0 (codes "SIZE") p.texts refl)
-    (join _ _ (join _ _ (counted s texts p.texts) (join _ _ (decimal_is s texts 1 p.texts p.w_is) (decimal_is s texts 3 p.texts p.h_is)))
-    (join _ _ (word_is s texts 2 (codes "BY") p.texts refl) (word_is s texts 4 (codes ";") p.texts refl)))
+    and_from _ _ (word_is s texts 0 (codes "SIZE") p.texts refl)
+    (and_from _ _ (and_from _ _ (counted s texts p.texts) (and_from _ _ (decimal_is s texts 1 p.texts p.w_is) (decimal_is s texts 3 p.texts p.h_is)))
+    (and_from _ _ (word_is s texts 2 (codes "BY") p.texts refl) (word_is s texts 4 (codes ";") p.texts refl)))
 
 pub size_law : SizeLaw
 size_law = record { there = size_there; back = size_back }
@@ -102,8 +98,8 @@ origin_there s e =
     let parts = both (length s == 4 && are_decimals s 1 2) (is_word_at s 3 (codes ";")) first.right in
     let front = both (length s == 4) (are_decimals s 1 2) parts.left in
     let numbers = both (is_decimal (text_at s 1)) (is_decimal (text_at s 2)) front.right in
-    let origin = same_bytes (text_at s 0) (codes "ORIGIN") first.left in
-    let end = same_bytes (text_at s 3) (codes ";") parts.right in
+    let origin = bytes_are (text_at s 0) (codes "ORIGIN") first.left in
+    let end = bytes_are (text_at s 3) (codes ";") parts.right in
     record {
       x = text_at s 1;
       y = text_at s 2;
@@ -117,8 +113,8 @@ origin_back : (s : List Token) → SpellsOrigin s → (begins_origin s && is_ori
 unfolding begins_origin is_origin
 origin_back s p =
     let texts = codes "ORIGIN" ∷ p.x ∷ p.y ∷ codes ";" ∷ [] in
-    join _ _ (word_is s texts 0 (codes "ORIGIN") p.texts refl)
-    (join _ _ (join _ _ (counted s texts p.texts) (join _ _ (decimal_is s texts 1 p.texts p.x_is) (decimal_is s texts 2 p.texts p.y_is)))
+    and_from _ _ (word_is s texts 0 (codes "ORIGIN") p.texts refl)
+    (and_from _ _ (and_from _ _ (counted s texts p.texts) (and_from _ _ (decimal_is s texts 1 p.texts p.x_is) (decimal_is s texts 2 p.texts p.y_is)))
     (word_is s texts 3 (codes ";") p.texts refl))
 
 pub origin_law : OriginLaw
@@ -141,7 +137,7 @@ are_four s k e =
     let numbers = both (are_decimals s k (k + 1)) (are_decimals s (k + 2) (k + 3)) parts.right in
     let a = both (is_decimal (text_at s k)) (is_decimal (text_at s (k + 1))) numbers.left in
     let b = both (is_decimal (text_at s (k + 2))) (is_decimal (text_at s (k + 3))) numbers.right in
-    record { long = has_length s (k + 5) front.left; end = same_bytes (text_at s (k + 4)) (codes ";") front.right; x1_is = a.left; y1_is = a.right; x2_is = b.left; y2_is = b.right }
+    record { long = has_length s (k + 5) front.left; end = bytes_are (text_at s (k + 4)) (codes ";") front.right; x1_is = a.left; y1_is = a.right; x2_is = b.left; y2_is = b.right }
 
 corners_at : List Token → ℕ → Corners
 corners_at s k = record { x1 = text_at s k; y1 = text_at s (k + 1); x2 = text_at s (k + 2); y2 = text_at s (k + 3) }
@@ -149,7 +145,7 @@ corners_at s k = record { x1 = text_at s k; y1 = text_at s (k + 1); x2 = text_at
 plain_there : (s : List Token) → is_word_at s 0 (codes "RECT") ≡ true → is_masked s ≡ false → are_corners s 1 ≡ true → SpellsRect s
 unfolding corners_at texts_from rect_values
 plain_there s word plain e =
-    let rect = same_bytes (text_at s 0) (codes "RECT") word in
+    let rect = bytes_are (text_at s 0) (codes "RECT") word in
     let four = are_four s 1 e in
     let end = four.end in
     Plain (corners_at s 1) (texts_are s 6 four.long ∙ (λ k. rect k ∷ text_at s 1 ∷ text_at s 2 ∷ text_at s 3 ∷ text_at s 4 ∷ end k ∷ []))
@@ -158,8 +154,8 @@ plain_there s word plain e =
 masked_there : (s : List Token) → is_word_at s 0 (codes "RECT") ≡ true → is_masked s ≡ true → is_integer (text_at s 2) ≡ true → are_corners s 3 ≡ true → SpellsRect s
 unfolding corners_at texts_from rect_values
 masked_there s word masked number e =
-    let rect = same_bytes (text_at s 0) (codes "RECT") word in
-    let mask = same_bytes (text_at s 1) (codes "MASK") masked in
+    let rect = bytes_are (text_at s 0) (codes "RECT") word in
+    let mask = bytes_are (text_at s 1) (codes "MASK") masked in
     let four = are_four s 3 e in
     let end = four.end in
     Masked (text_at s 2) (corners_at s 3) (texts_are s 8 four.long ∙ (λ k. rect k ∷ mask k ∷ text_at s 2 ∷ text_at s 3 ∷ text_at s 4 ∷ text_at s 5 ∷ text_at s 6 ∷ end k ∷ [])) number
@@ -184,7 +180,7 @@ rect_there s e =
 no_word : (w v : List ℕ) → is_decimal w ≡ true → is_decimal v ≡ false → bytes_eq w v ≡ false
 no_word w v e f =
     elim (cases_Bool (bytes_eq w v)) [
-      | inl same ↦ let both_same = same_bytes w v same in let clash : is_decimal v ≡ true = ap is_decimal (sym both_same) ∙ e in absurd cc
+      | inl same ↦ let both_same = bytes_are w v same in let clash : is_decimal v ≡ true = ap is_decimal (sym both_same) ∙ e in absurd cc
       | inr other ↦ other
     ]
 
@@ -198,9 +194,9 @@ plain_back s c e are =
     let plain = not_it s texts 1 (codes "MASK") e are.x1_is refl in
     let read : not (is_word_at s (corner_place s) (codes "ITERATE")) ≡ true =
     ap (λ (b : Bool). not (is_word_at s (cond b 3 1) (codes "ITERATE"))) plain ∙ ap not (not_it s texts 1 (codes "ITERATE") e are.x1_is refl) in
-    let corners = join _ _ (join _ _ (counted s texts e) (word_is s texts 5 (codes ";") e refl))
-    (join _ _ (join _ _ (decimal_is s texts 1 e are.x1_is) (decimal_is s texts 2 e are.y1_is)) (join _ _ (decimal_is s texts 3 e are.x2_is) (decimal_is s texts 4 e are.y2_is))) in
-    join _ _ (join _ _ (word_is s texts 0 (codes "RECT") e refl) read)
+    let corners = and_from _ _ (and_from _ _ (counted s texts e) (word_is s texts 5 (codes ";") e refl))
+    (and_from _ _ (and_from _ _ (decimal_is s texts 1 e are.x1_is) (decimal_is s texts 2 e are.y1_is)) (and_from _ _ (decimal_is s texts 3 e are.x2_is) (decimal_is s texts 4 e are.y2_is))) in
+    and_from _ _ (and_from _ _ (word_is s texts 0 (codes "RECT") e refl) read)
     (ap (λ (b : Bool). cond b (is_integer (text_at s 2) && are_corners s 3) (are_corners s 1)) plain ∙ corners)
 
 masked_back : (s : List Token) (n : List ℕ) (c : Corners) → texts_of s ≡ codes "RECT" ∷ codes "MASK" ∷ n ∷ corner_texts c → is_integer n ≡ true → AreCorners s c → (is_read_rect s && is_rect s) ≡ true
@@ -211,10 +207,10 @@ masked_back s n c e number are =
     let read : not (is_word_at s (corner_place s) (codes "ITERATE")) ≡ true =
     ap (λ (b : Bool). not (is_word_at s (cond b 3 1) (codes "ITERATE"))) masked ∙ ap not (not_it s texts 3 (codes "ITERATE") e are.x1_is refl) in
     let integer : is_integer (text_at s 2) ≡ true = ap is_integer (text_is s texts 2 e) ∙ number in
-    let corners = join _ _ (join _ _ (counted s texts e) (word_is s texts 7 (codes ";") e refl))
-    (join _ _ (join _ _ (decimal_is s texts 3 e are.x1_is) (decimal_is s texts 4 e are.y1_is)) (join _ _ (decimal_is s texts 5 e are.x2_is) (decimal_is s texts 6 e are.y2_is))) in
-    join _ _ (join _ _ (word_is s texts 0 (codes "RECT") e refl) read)
-    (ap (λ (b : Bool). cond b (is_integer (text_at s 2) && are_corners s 3) (are_corners s 1)) masked ∙ join _ _ integer corners)
+    let corners = and_from _ _ (and_from _ _ (counted s texts e) (word_is s texts 7 (codes ";") e refl))
+    (and_from _ _ (and_from _ _ (decimal_is s texts 3 e are.x1_is) (decimal_is s texts 4 e are.y1_is)) (and_from _ _ (decimal_is s texts 5 e are.x2_is) (decimal_is s texts 6 e are.y2_is))) in
+    and_from _ _ (and_from _ _ (word_is s texts 0 (codes "RECT") e refl) read)
+    (ap (λ (b : Bool). cond b (is_integer (text_at s 2) && are_corners s 3) (are_corners s 1)) masked ∙ and_from _ _ integer corners)
 
 rect_back : (s : List Token) → SpellsRect s → (is_read_rect s && is_rect s) ≡ true
 rect_back s (Plain c e are) = plain_back s c e are

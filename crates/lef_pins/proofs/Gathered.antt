@@ -4,6 +4,7 @@ use Rattle.std.specs.Prelude.{ℤ}
 use Rattle.std.specs.List.{flat_map, list_any}
 use Rattle.std.specs.Option.{option_or}
 use Rattle.std.proofs.lemmas.List.{append-nil}
+use Rattle.base_types.proofs.TruthValues.{or_assoc as shared_or_assoc}
 use Rattle.token_forms.specs.Tokens.{Token}
 use Rattle.lef_pins.specs.declared.least.Least.{Least}
 use Rattle.lef_pins.specs.declared.pins.PinReading.{PinReading}
@@ -118,14 +119,10 @@ sized_next m (Pin name b) = sym (or_false m.sized)
 sized_next m (Shapes b) = sym (or_false m.sized)
 sized_next m (OfMacro s) = refl
 
-or_assoc_bool : (a b c : Bool) → ((a || b) || c) ≡ (a || (b || c))
-or_assoc_bool true b c = refl
-or_assoc_bool false b c = refl
-
 pub macro_sized : (m : MacroReading) (is : List MacroItem) → (gathered put_macro_item m is).sized ≡ (m.sized || list_any is_size_item is)
 macro_sized m [] = sym (or_false m.sized)
 macro_sized m (i ∷ is) =
-    macro_sized (put_macro_item m i) is ∙ ap (λ (b : Bool). b || list_any is_size_item is) (sized_next m i) ∙ or_assoc_bool m.sized (is_size_item i) (list_any is_size_item is)
+    macro_sized (put_macro_item m i) is ∙ ap (λ (b : Bool). b || list_any is_size_item is) (sized_next m i) ∙ shared_or_assoc m.sized (is_size_item i) (list_any is_size_item is)
 
 pub macro_syntax : (m : MacroReading) (is : List MacroItem) → (gathered put_macro_item m is).least.syntax ≡ lesser m.least.syntax (least_of (syntax_in_items m.sized is))
 macro_syntax m [] = sym (lesser_none m.least.syntax)

@@ -1,6 +1,7 @@
 -- A loop over a block's items gathers what all its items give.
 use Rattle.std.proofs.Common.{◌≡◌, ℕ, suc, ◌<◌, ◌≤◌, ◌==◌, Bool, true, false, ◌||◌, not, List, [], ◌∷◌, length, refl, sym, ap, ◌∙◌, arith}
 use Rattle.std.proofs.lemmas.Bool.Decides.{nat_tests}
+use Rattle.std.proofs.lemmas.Bool.{not-true, not-false}
 use Rattle.token_forms.specs.Tokens.{Token}
 use Rattle.lef_pins.specs.BlockReading.{Taken, items_within, found_at}
 use Rattle.lef_pins.specs.Blocks.{Kind, ends_never}
@@ -28,22 +29,14 @@ pub record Gathered {S I : Type 0} (ends : List Token → Bool) (item : List Tok
   pub same : state ≡ gathered put start (found_at ends item all).0
   pub end : left ≡ (found_at ends item all).1
 
-not_true : (b : Bool) → not b ≡ true → b ≡ false
-not_true true e = absurd cc
-not_true false e = refl
-
-not_false : (b : Bool) → not b ≡ false → b ≡ true
-not_false true e = refl
-not_false false e = absurd cc
-
 some : (n : ℕ) → (suc n == 0) ≡ false
 some n = grind (arith, nat_tests)
 
 goes : {ends : Bool} (n : ℕ) → not (suc n == 0 || ends) ≡ true → ends ≡ false
-goes {ends} n e = not_true ends (sym (ap (λ (b : Bool). not (b || ends)) (some n)) ∙ e)
+goes {ends} n e = not-true ends (sym (ap (λ (b : Bool). not (b || ends)) (some n)) ∙ e)
 
 stops : {ends : Bool} (n : ℕ) → not (suc n == 0 || ends) ≡ false → ends ≡ true
-stops {ends} n e = not_false ends (sym (ap (λ (b : Bool). not (b || ends)) (some n)) ∙ e)
+stops {ends} n e = not-false ends (sym (ap (λ (b : Bool). not (b || ends)) (some n)) ∙ e)
 
 module _ {I : Type 0} (ends : List Token → Bool) (kind : Kind I) (item : List Token → Taken I) (reads : Reads ends kind item) where
   -- the items don't hang on how many may be found

@@ -5,6 +5,7 @@ use Rattle.std.specs.Option.{unwrap_or, option_or}
 use Rattle.std.proofs.lemmas.Bool.{cond_both}
 use Rattle.std.proofs.lemmas.Bool.Decides.{nat_tests}
 use Rattle.std.proofs.lemmas.Int.{ints}
+use Rattle.base_types.proofs.TruthValues.{and_second}
 use Rattle.token_forms.specs.Tokens.{Token}
 use Rattle.def_tokens.specs.Numbers.{is_decimal, fraction_of, millionths_of, with_sign, has_minus, decimal_of}
 use Rattle.lef_pins.specs.declared.macros.MacroPin.{MacroPin}
@@ -19,10 +20,6 @@ signed : (minus : Bool) (n : ℕ) → n ≤ 2 * 10 ^ 12 → IsLength (cond minus
 signed true n le = omega (arith, ints)
 signed false n le = omega (arith, ints)
 
-and_right : (a b : Bool) → (a && b) ≡ true → b ≡ true
-and_right true b e = e
-and_right false b e = absurd cc
-
 small : (n : ℕ) → Rattle.std.specs.Prelude.nat_le n (2 * 10 ^ 12) ≡ true → n ≤ 2 * 10 ^ 12
 small n e = grind (arith, nat_tests)
 
@@ -31,7 +28,7 @@ unfolding decimal_of
 decimal_length bytes =
     cond_both (is_decimal bytes && (Rattle.std.specs.Prelude.nat_le (length (fraction_of bytes)) 6 && Rattle.std.specs.Prelude.nat_le (millionths_of bytes) (2 * 10 ^ 12))) (Some (with_sign bytes (millionths_of bytes))) None
     (λ (o : Option ℤ). IsLength (unwrap_or o (pos 0)))
-    (λ e. signed (has_minus bytes) (millionths_of bytes) (small (millionths_of bytes) (and_right _ _ (and_right _ _ e))))
+    (λ e. signed (has_minus bytes) (millionths_of bytes) (small (millionths_of bytes) (and_second _ _ (and_second _ _ e))))
     (λ e. omega (arith, ints))
 
 value_length : (s : List Token) (k : ℕ) → IsLength (value_at s k)

@@ -5,17 +5,14 @@ use Rattle.std.proofs.Math.Seq.{take-append_seam, drop-append_seam}
 use Rattle.std.specs.List.{flat_map, list_all, AllByRecursion}
 use Rattle.std.specs.Str.{bytes_eq}
 use Rattle.std.proofs.lemmas.List.{append-nil}
+use Rattle.std.proofs.lemmas.Bool.{not-true}
+use Rattle.base_types.proofs.TruthValues.{bytes_are}
 use Rattle.token_forms.specs.Tokens.{Token}
 use Rattle.def_tokens.specs.DefStatements.{count_with}
 use Rattle.lef_pins.specs.BlockReading.{definitions_len, extended_behind, passing_len}
-use Rattle.token_forms.proofs.Spelled.{same_bytes}
 use Rattle.lef_pins.proofs.FormLaws.{both}
 use Rattle.lef_pins.specs.BlockReading.{OuterLaw, OpenLaw}
 use Rattle.lef_pins.specs.Outside.{is_other, is_plain, Piece, Plain, Extension, IsExtension, IsPiece, piece_tokens, End, Semicolon, Name, Definitions, AreDefinitions, IsEnd, end_tokens, Rest, Nothing, LastEnd, OpenDefinitions, OpenExtension, AreOpenDefinitions, IsRest, rest_tokens, IsPassed, Ended, Open}
-
-no : (b : Bool) → not b ≡ true → b ≡ false
-no true e = absurd cc
-no false e = refl
 
 plain_passes : (t : Token) (ts : List Token) → is_plain t ≡ true → passing_len false (t ∷ ts) ≡ 1 + passing_len false ts
 unfolding passing_len
@@ -23,10 +20,10 @@ plain_passes t ts e =
     let parts = both (is_other (codes ";") t && is_other (codes "END") t) (is_other (codes "PROPERTYDEFINITIONS") t && is_other (codes "BEGINEXT") t) e in
     let first = both (is_other (codes ";") t) (is_other (codes "END") t) parts.left in
     let second = both (is_other (codes "PROPERTYDEFINITIONS") t) (is_other (codes "BEGINEXT") t) parts.right in
-    let a = no (bytes_eq t.text (codes ";")) first.left in
-    let b = no (bytes_eq t.text (codes "END")) first.right in
-    let c = no (bytes_eq t.text (codes "PROPERTYDEFINITIONS")) second.left in
-    let d = no (bytes_eq t.text (codes "BEGINEXT")) second.right in
+    let a = not-true (bytes_eq t.text (codes ";")) first.left in
+    let b = not-true (bytes_eq t.text (codes "END")) first.right in
+    let c = not-true (bytes_eq t.text (codes "PROPERTYDEFINITIONS")) second.left in
+    let d = not-true (bytes_eq t.text (codes "BEGINEXT")) second.right in
     rw (a, b, c, d) refl
 
 mark_passes : (t : Token) (ts : List Token) → t.text ≡ codes "BEGINEXT" → passing_len false (t ∷ ts) ≡ 1 + passing_len true ts
@@ -38,7 +35,7 @@ unfolding passing_len
 inner_passes [] ts e = omega arith
 inner_passes (t ∷ inner) ts e =
     let parts = both (is_other (codes "ENDEXT") t) (list_all (is_other (codes "ENDEXT")) inner) e in
-    let other = no (bytes_eq t.text (codes "ENDEXT")) parts.left in
+    let other = not-true (bytes_eq t.text (codes "ENDEXT")) parts.left in
     let more = inner_passes inner ts parts.right in
     let step : 1 + passing_len (not (bytes_eq t.text (codes "ENDEXT"))) (inner ++ ts) ≡ 1 + passing_len true (inner ++ ts) = ap (λ (b : Bool). 1 + passing_len (not b) (inner ++ ts)) other in
     step ∙ omega arith
@@ -74,7 +71,7 @@ counts : (inner ts : List Token) (end : Token) → list_all (is_other (codes "EN
 counts [] ts end e is = rw is refl
 counts (t ∷ inner) ts end e is =
     let parts = both (is_other (codes "END") t) (list_all (is_other (codes "END")) inner) e in
-    let other = no (bytes_eq t.text (codes "END")) parts.left in
+    let other = not-true (bytes_eq t.text (codes "END")) parts.left in
     let more = counts inner ts end parts.right is in
     let step : count_with (codes "END") (t ∷ (inner ++ end ∷ ts)) ≡ 1 + count_with (codes "END") (inner ++ end ∷ ts) = rw other refl in
     step ∙ omega arith
@@ -132,7 +129,7 @@ none_counts : (ts : List Token) → list_all (is_other (codes "END")) ts ≡ tru
 none_counts [] e = refl
 none_counts (t ∷ ts) e =
     let parts = both (is_other (codes "END") t) (list_all (is_other (codes "END")) ts) e in
-    let other = no (bytes_eq t.text (codes "END")) parts.left in
+    let other = not-true (bytes_eq t.text (codes "END")) parts.left in
     let more = none_counts ts parts.right in
     let step : count_with (codes "END") (t ∷ ts) ≡ 1 + count_with (codes "END") ts = rw other refl in
     step ∙ omega arith
@@ -197,7 +194,7 @@ find_word w [] = inr refl
 find_word w (t ∷ ts) = by_first (bytes_eq t.text w) refl (find_word w ts)
   where
     by_first : (b : Bool) → bytes_eq t.text w ≡ b → IsAt w ts ⊎ (list_all (is_other w) ts ≡ true) → IsAt w (t ∷ ts) ⊎ (list_all (is_other w) (t ∷ ts) ≡ true)
-    by_first true e more = inl (record { inner = []; token = t; behind = ts; is = refl; inside = refl; text = same_bytes t.text w e })
+    by_first true e more = inl (record { inner = []; token = t; behind = ts; is = refl; inside = refl; text = bytes_are t.text w e })
     by_first false e more =
         elim more [
           | inl f ↦ inl (record { inner = t ∷ f.inner; token = f.token; behind = f.behind; is = ap (λ (l : List Token). t ∷ l) f.is; inside = rw e f.inside; text = f.text })
@@ -284,10 +281,10 @@ one_front : (t : Token) (ts : List Token) → ((rest : List Token) → length re
 one_front t ts more = by_word (bytes_eq t.text (codes ";")) (bytes_eq t.text (codes "END")) (bytes_eq t.text (codes "PROPERTYDEFINITIONS")) (bytes_eq t.text (codes "BEGINEXT")) refl refl refl refl
   where
     by_word : (a b c d : Bool) → bytes_eq t.text (codes ";") ≡ a → bytes_eq t.text (codes "END") ≡ b → bytes_eq t.text (codes "PROPERTYDEFINITIONS") ≡ c → bytes_eq t.text (codes "BEGINEXT") ≡ d → Front (t ∷ ts)
-    by_word true b c d ae be ce de = an_end (t ∷ ts) ts (Semicolon t) (same_bytes t.text (codes ";") ae) refl
-    by_word false true c d ae be ce de = end_front t ts (same_bytes t.text (codes "END") be)
-    by_word false false true d ae be ce de = definitions_front t ts (same_bytes t.text (codes "PROPERTYDEFINITIONS") ce)
-    by_word false false false true ae be ce de = extension_front t ts more (same_bytes t.text (codes "BEGINEXT") de)
+    by_word true b c d ae be ce de = an_end (t ∷ ts) ts (Semicolon t) (bytes_are t.text (codes ";") ae) refl
+    by_word false true c d ae be ce de = end_front t ts (bytes_are t.text (codes "END") be)
+    by_word false false true d ae be ce de = definitions_front t ts (bytes_are t.text (codes "PROPERTYDEFINITIONS") ce)
+    by_word false false false true ae be ce de = extension_front t ts more (bytes_are t.text (codes "BEGINEXT") de)
     by_word false false false false ae be ce de = behind_piece (Plain t) (t ∷ ts) ts (plain_text t ae be ce de) refl (more ts (omega arith))
 
 front_within : (n : ℕ) (ts : List Token) → length ts ≤ n → Front ts

@@ -6,8 +6,8 @@ use Rattle.std.specs.Str.{bytes_eq}
 use Rattle.std.proofs.Math.Seq.{take-append_seam, drop-append_seam}
 use Rattle.std.proofs.lemmas.Bool.{cond_both}
 use Rattle.std.proofs.lemmas.List.{append-nil, take-append-drop, length-take-le}
+use Rattle.base_types.proofs.TruthValues.{and_false, bytes_are}
 use Rattle.token_forms.specs.Tokens.{Token}
-use Rattle.token_forms.proofs.Spelled.{same_bytes}
 use Rattle.def_tokens.proofs.DefCuts.{statement_len-some, statement_len-le}
 use Rattle.lef_pins.specs.BlockReading.{outer_len, Taken, items_within, end_at, block_at, inner_at, pin_item_at, pin_at, macro_item_at, macro_at, file_item_at, lef_at, LefLaw, OnlyLefLaw}
 use Rattle.lef_pins.specs.Blocks.{name_of, is_no_name, begins_with, begins_shapes, inner_len, Kind, Block, PinItem, Port, OfPin, MacroItem, Pin, Shapes, OfMacro, FileItem, Macro, Passed, tokens_within, AreItems, IsBlock, ends_shapes, ends_named, ends_never, IsInner, statements, is_port, is_shapes, begins_named, IsPinItem, pin_items, IsMacroItem, macro_items, IsFileItem, file_items, OneLefLaw}
@@ -206,10 +206,6 @@ shapes_whole (t ∷ end) rest e = e
 
 shapes_ending : IsEnding ends_shapes 1
 shapes_ending = record { none = refl; front = shapes_front; some = omega arith; whole = shapes_whole }
-
-and_false : (b : Bool) → (b && false) ≡ false
-and_false true = refl
-and_false false = refl
 
 -- END and a name
 named_front : (name : List ℕ) (ts : List Token) → ends_named name ts ≡ true → (ends_named name (take 2 ts) ≡ true) × (length (take 2 ts) ≡ 2)
@@ -412,7 +408,7 @@ named_by tokens w t n ts name b rest whole begins =
 
 -- PIN is no word of shapes
 pub pin_only : (w : List ℕ) → bytes_eq w (codes "PIN") ≡ true → is_shapes w ≡ false
-pin_only w e = let same = same_bytes w (codes "PIN") e in subst (λ (x : List ℕ). is_shapes x ≡ false) (sym same) refl
+pin_only w e = let same = bytes_are w (codes "PIN") e in subst (λ (x : List ℕ). is_shapes x ≡ false) (sym same) refl
 
 -- a statement of a macro
 macro_statement : (t : Token) (ts : List Token) → begins_named (codes "PIN") (t ∷ ts) ≡ false → is_shapes t.text ≡ false → IsTaken macro_items (OfMacro (inner_at (t ∷ ts)).0, (inner_at (t ∷ ts)).1) (t ∷ ts)

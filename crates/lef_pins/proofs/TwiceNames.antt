@@ -5,8 +5,8 @@ use Rattle.std.specs.List.{list_any}
 use Rattle.std.specs.Str.{bytes_eq}
 use Rattle.std.proofs.lemmas.Bool.{cases_Bool}
 use Rattle.std.proofs.lemmas.List.Folds.{list_any-append}
+use Rattle.base_types.proofs.TruthValues.{or_implied, bytes_are}
 use Rattle.token_forms.specs.Tokens.{Token}
-use Rattle.token_forms.proofs.Spelled.{same_bytes}
 use Rattle.lef_pins.specs.declared.macros.Macro.{Macro}
 use Rattle.lef_pins.specs.declared.blocks.MacroReading.{MacroReading}
 use Rattle.lef_pins.specs.Blocks.{name_of, Block, PinItem, MacroItem, Pin, Shapes, OfMacro}
@@ -25,13 +25,8 @@ or_comm_false false false = refl
 pub one_name : (q name : List ℕ) (before : List (List ℕ)) → list_any (bytes_eq q) (before ++ name ∷ []) ≡ (list_any (bytes_eq q) before || bytes_eq q name)
 one_name q name before = list_any-append (bytes_eq q) before (name ∷ []) ∙ or_comm_false (list_any (bytes_eq q) before) (bytes_eq q name)
 
-or_implied : (a b : Bool) → (b ≡ true → a ≡ true) → a ≡ (a || b)
-or_implied true b h = refl
-or_implied false true h = h refl
-or_implied false false h = refl
-
 same_name : (q name : List ℕ) (names : List (List ℕ)) → list_any (bytes_eq name) names ≡ true → bytes_eq q name ≡ true → list_any (bytes_eq q) names ≡ true
-same_name q name names known e = let same = same_bytes q name e in rw same known
+same_name q name names known e = let same = bytes_are q name e in rw same known
 
 -- names that stand once, with one more
 pub name_added : (q name : List ℕ) (names : List (List ℕ)) → list_any (bytes_eq q) (with_name names name) ≡ (list_any (bytes_eq q) names || bytes_eq q name)
@@ -82,7 +77,7 @@ has_more : (q name : List ℕ) (m : Macro) (e : List ℕ × Macro) (es : NamedMa
     → is_some (macro_at q (with_macro (e ∷ es) name m)) ≡ (is_some (macro_at q (e ∷ es)) || bytes_eq q name)
 has_more q name m e es true true is here more = rw (is, here) refl
 has_more q name m e es true false is other more =
-    let same = same_bytes name e.0 is in
+    let same = bytes_are name e.0 is in
     let none : bytes_eq q name ≡ false = ap (bytes_eq q) same ∙ other in
     rw (is, other, none) (sym (or_false (is_some (macro_at q es))))
 has_more q name m e es false true is here more = rw (is, here) refl

@@ -5,6 +5,7 @@ use Rattle.std.specs.Str.{bytes_eq}
 use Rattle.std.proofs.lemmas.Bool.{eqb-true, eq-eqb, cases_Bool, false≢true, and_from, or_left, or_right, or_cases}
 use Rattle.std.proofs.lemmas.Option.{same_Some, none-some, cond_some}
 use Rattle.std.proofs.lemmas.Slice.Eq.{bytes_eq-Decides}
+use Rattle.base_types.proofs.TruthValues.{and_first}
 use Rattle.netlist_core.specs.declared.netlist.NetId.{NetId}
 use Rattle.netlist_core.specs.declared.netlist.Port.{Port}
 use Rattle.netlist_core.specs.declared.netlist.Netlist.{Netlist}
@@ -28,7 +29,7 @@ use Rattle.path_links.specs.Edited.{input_of, is_edit_of_pin}
 use Rattle.path_links.specs.Direct.{last_of, is_direct_from}
 use Rattle.path_links.proofs.PathLists.{Has, has, contains, filter_from, filter_has}
 use Rattle.path_links.proofs.PathPorts.{no_pin}
-use Rattle.path_links.proofs.PathSame.{net_is, and_left, source_true, source_self}
+use Rattle.path_links.proofs.PathSame.{net_is, source_true, source_self}
 use Rattle.path_links.proofs.PathLinks.{out_step}
 use Rattle.net_edit.specs.Changes.{Change, changes, tail_or, tail_of, new_net}
 use Rattle.net_edit.specs.Rearranged.{AreRearranged}
@@ -239,7 +240,7 @@ module _ (n : Netlist) (cells : Cells) (names : List (List ℕ)) (old new : List
   any_port [] net e = e
   any_port (p ∷ ps) net e =
       elim (or_cases (p.net.0 == net && drives p.direction) (list_any (λ (port : Port). port.net.0 == net && drives port.direction) ps) e) [
-        | inl a ↦ or_left (p.net.0 == net && true) (list_any (λ (port : Port). port.net.0 == net && is_any port.direction) ps) (and_from (p.net.0 == net) true (and_left (p.net.0 == net) (drives p.direction) a) refl)
+        | inl a ↦ or_left (p.net.0 == net && true) (list_any (λ (port : Port). port.net.0 == net && is_any port.direction) ps) (and_from (p.net.0 == net) true (and_first (p.net.0 == net) (drives p.direction) a) refl)
         | inr b ↦ or_right (p.net.0 == net && true) (list_any (λ (port : Port). port.net.0 == net && is_any port.direction) ps) (any_port ps net b)
       ]
 

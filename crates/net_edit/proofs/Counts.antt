@@ -7,6 +7,7 @@ use Rattle.std.proofs.lemmas.Bool.{eqb-true, eq-eqb, or_cases, cases_Bool, false
 use Rattle.std.proofs.lemmas.Option.{none-some, same_Some}
 use Rattle.std.proofs.lemmas.List.Sums.{sum_by-cons}
 use Rattle.std.proofs.lemmas.Slice.Eq.{bytes_eq-Decides}
+use Rattle.base_types.proofs.TruthValues.{bytes_are, and_first, and_second}
 use Rattle.netlist_core.specs.declared.netlist.NetId.{NetId}
 use Rattle.netlist_core.specs.declared.netlist.Bit.{Bit}
 use Rattle.netlist_core.specs.declared.netlist.Bit.TheVariants.{Net, Zero, One, Unknown}
@@ -19,7 +20,7 @@ use Rattle.chain_trace.specs.Paths.{pin_net}
 use Rattle.chain_trace.proofs.Ranges.{then_some}
 use Rattle.path_links.specs.Free.{count_in, count_in_assign, count_in_instance, count_of, is_one_net, is_assign_of, is_free}
 use Rattle.path_links.specs.Edits.{assign_at}
-use Rattle.path_links.proofs.PathSame.{and_left, and_right, net_is}
+use Rattle.path_links.proofs.PathSame.{net_is}
 use Rattle.path_links.proofs.PathAssigns.{single_is, any_count, count_parts}
 
 pub sum_one : {X : Type 0} (f : X → ℕ) (xs : List X) (i : ℕ) (a : X) → slice_get xs i ≡ Some a → f a ≤ sum_by f xs
@@ -60,15 +61,12 @@ pin_count : (o : NetId) (pin : List ℕ) (net : NetId) (cs : List Connection) �
 pin_count o pin net [] same e = absurd (none-some net e)
 pin_count o pin net (c ∷ cs) same e = pin_case o pin net c cs (bytes_eq c.pin pin) same (pin_count o pin net cs same) e
 
-pin_is : (a b : List ℕ) → bytes_eq a b ≡ true → a ≡ b
-pin_is a b e = (bytes_eq-Decides a b).0 e
-
 two_case : (o : NetId) (p q : List ℕ) (x y : NetId) (c : Connection) (cs : List Connection) (s t : Bool) → bytes_eq c.pin p ≡ s → bytes_eq c.pin q ≡ t → p ≢ q → x.0 ≡ o.0 → y.0 ≡ o.0
     → (net_in p cs ≡ Some x → net_in q cs ≡ Some y → 2 ≤ sum_by (count_at o) cs)
     → option_and_then (λ (d : Connection). single_net d.expr.bits) (cond s (Some c) (connection_at p cs)) ≡ Some x
     → option_and_then (λ (d : Connection). single_net d.expr.bits) (cond t (Some c) (connection_at q cs)) ≡ Some y
     → 2 ≤ sum_by (count_at o) (c ∷ cs)
-two_case o p q x y c cs true true sp sq ne sx sy more ex ey = absurd (ne (sym (pin_is c.pin p sp) ∙ pin_is c.pin q sq))
+two_case o p q x y c cs true true sp sq ne sx sy more ex ey = absurd (ne (sym (bytes_are c.pin p sp) ∙ bytes_are c.pin q sq))
 two_case o p q x y c cs true false sp sq ne sx sy more ex ey =
     let s = sum_by-cons (count_at o) c cs in let one = single_count o c.expr.bits x ex sx in let rest = pin_count o q y cs sy ey in omega (arith, s, one, rest)
 two_case o p q x y c cs false true sp sq ne sx sy more ex ey =
@@ -119,7 +117,7 @@ one_pin n o i j p q x y few ex ey sx sy =
           record {
             instance = same;
             pin = elim (cases_Bool (bytes_eq p q)) [
-              | inl f ↦ pin_is p q f
+              | inl f ↦ bytes_are p q f
               | inr f ↦ absurd (pins_same n o j p q x y few (subst (λ (k : ℕ). pin_net n k p ≡ Some x) same ex) ey sx sy (λ s. false≢true (sym f ∙ (bytes_eq-Decides p q).1 s)))
             ];
           }
@@ -162,8 +160,8 @@ right_apart o right bits is none e =
 assigned_here : (o : NetId) (a : Assign) (assigns : List Assign) → sum_by (count_in_assign o) (a ∷ assigns) ≡ 1 → is_assign_of o a ≡ true → IsAssigned o (a ∷ assigns)
 assigned_here o a assigns count e =
     let c = sum_by-cons (count_in_assign o) a assigns in
-    let one = and_left (is_one_net o a.left.bits) (is_some (single_net a.right.bits)) e in
-    let single = some_net (single_net a.right.bits) (and_right (is_one_net o a.left.bits) (is_some (single_net a.right.bits)) e) in
+    let one = and_first (is_one_net o a.left.bits) (is_some (single_net a.right.bits)) e in
+    let single = some_net (single_net a.right.bits) (and_second (is_one_net o a.left.bits) (is_some (single_net a.right.bits)) e) in
     let left = one_count o a.left.bits one in
     let right = single_is a.right.bits single.0 single.1 in
     record {
@@ -212,8 +210,8 @@ pub record IsAssignedPort (n : Netlist) (o : NetId) : Type 0 where
 
 pub assigned_port : (n : Netlist) (o : NetId) → is_free n o ≡ true → IsAssignedPort n o
 assigned_port n o free =
-    let count : count_of n o ≡ 1 = eqb-true (count_of n o) 1 (and_left (count_of n o == 1) (list_any (is_assign_of o) n.assigns) free) in
-    let any = and_right (count_of n o == 1) (list_any (is_assign_of o) n.assigns) free in
+    let count : count_of n o ≡ 1 = eqb-true (count_of n o) 1 (and_first (count_of n o == 1) (list_any (is_assign_of o) n.assigns) free) in
+    let any = and_second (count_of n o == 1) (list_any (is_assign_of o) n.assigns) free in
     let some = any_count o n.assigns any in
     let s = assigned_one o n.assigns (omega (arith, count, some)) any in
     let here : 1 ≤ count_in_assign o s.assign = let one : count_in o s.assign.left.bits ≡ 1 = ap (count_in o) s.left ∙ ap (λ (b : Bool). 0 + cond b 1 0) (eq-eqb o.0 o.0 refl) in omega (arith, one) in

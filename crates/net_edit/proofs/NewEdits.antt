@@ -3,8 +3,9 @@ use Rattle.std.proofs.Common.{◌≡◌, ℕ, suc, ◌+◌, ◌==◌, Bool, true
 use Rattle.std.specs.List.{list_any, slice_get, position_from}
 use Rattle.std.specs.Str.{bytes_eq}
 use Rattle.std.proofs.lemmas.Slice.Eq.{bytes_eq-Decides}
-use Rattle.std.proofs.lemmas.Bool.{eqb-true, eq-eqb, and_from, cases_Bool, false≢true, false_from_ne_true}
+use Rattle.std.proofs.lemmas.Bool.{eqb-true, eq-eqb, and_from, cases_Bool, false≢true, false_from_ne_true, not-true}
 use Rattle.std.proofs.lemmas.Option.{same_Some, none-some}
+use Rattle.base_types.proofs.TruthValues.{and_first, and_second}
 use Rattle.netlist_core.specs.declared.netlist.NetId.{NetId}
 use Rattle.netlist_core.specs.declared.netlist.Netlist.{Netlist}
 use Rattle.cell_table.specs.declared.paths.ScanPath.{ScanPath}
@@ -21,7 +22,7 @@ use Rattle.path_links.specs.declared.edits.PinEdit.{PinEdit}
 use Rattle.path_links.specs.Edits.{Link, links, same_source, same_link, moved, pin_edit_of}
 use Rattle.path_links.specs.Edited.{input_of, is_edit_of_pin, pin_source}
 use Rattle.path_links.proofs.PathLists.{Has, flat_from, flat_has, filter_from, filter_has, find_none, find_one}
-use Rattle.path_links.proofs.PathSame.{and_left, and_right, any_has, has_any, source_true, source_self}
+use Rattle.path_links.proofs.PathSame.{any_has, has_any, source_true, source_self}
 use Rattle.net_edit.specs.Changes.{Change, tail_or, tail_of, new_net}
 use Rattle.net_edit.specs.Rearranged.{AreRearranged}
 use Rattle.net_edit.specs.Tails.{new_pin_edit, pin_edits, is_pin, is_out_pin, tail_at, new_at}
@@ -76,12 +77,8 @@ position_not test k (y ∷ ys) e x h passes = not_case test k y ys (test y) refl
 abbrev pub is_moved : List Path → Link → Bool
 is_moved old l = not (list_any (same_link l) (flat_map links old))
 
-not_false : (b : Bool) → not b ≡ true → b ≡ false
-not_false true e = absurd (false≢true e)
-not_false false e = refl
-
 pub moved_not : (old : List Path) (l : Link) → is_moved old l ≡ true → Has (flat_map links old) l → ⊥
-moved_not old l e h = false≢true (sym (not_false (list_any (same_link l) (flat_map links old)) e) ∙ has_any l (flat_map links old) h)
+moved_not old l e h = false≢true (sym (not-true (list_any (same_link l) (flat_map links old)) e) ∙ has_any l (flat_map links old) h)
 
 pub moved_or : (old : List Path) (l : Link) → Has (flat_map links old) l ⊎ (is_moved old l ≡ true)
 moved_or old l =
@@ -137,8 +134,8 @@ module _ (n : Netlist) (cells : Cells) (old new : List Path) (r : AreRearranged 
 
   pub is_here : (i : ℕ) (pin : List ℕ) (e : PinEdit) → is_edit_of_pin n cells i pin e ≡ true → IsHere i pin e
   is_here i pin e t = record {
-    instance = eqb-true e.instance i (and_left (e.instance == i) (bytes_eq (input_of (scan_path_at n cells e.instance e.path)) pin) t);
-    pin_is = (bytes_eq-Decides (input_of (scan_path_at n cells e.instance e.path)) pin).0 (and_right (e.instance == i) (bytes_eq (input_of (scan_path_at n cells e.instance e.path)) pin) t);
+    instance = eqb-true e.instance i (and_first (e.instance == i) (bytes_eq (input_of (scan_path_at n cells e.instance e.path)) pin) t);
+    pin_is = (bytes_eq-Decides (input_of (scan_path_at n cells e.instance e.path)) pin).0 (and_second (e.instance == i) (bytes_eq (input_of (scan_path_at n cells e.instance e.path)) pin) t);
   }
 
   -- no edit is of an out pin
@@ -157,8 +154,8 @@ module _ (n : Netlist) (cells : Cells) (old new : List Path) (r : AreRearranged 
   pub out_case : (i : ℕ) (pin : List ℕ) (x : Source) → is_out_pin n cells i pin x ≡ true → (t : Step) × (x ≡ sources.Out t) × (t.instance ≡ i) × ((out : OutPin) × (out_pin_at n cells t ≡ Some out) × (out.pin ≡ pin))
   out_case i pin (sources.Port net) e = absurd (false≢true e)
   out_case i pin (sources.Out t) e =
-      let named = pin_case (out_pin_at n cells t) (and_right (t.instance == i) (is_pin pin (out_pin_at n cells t)) e) in
-      (t, refl, eqb-true t.instance i (and_left (t.instance == i) (is_pin pin (out_pin_at n cells t)) e), named)
+      let named = pin_case (out_pin_at n cells t) (and_second (t.instance == i) (is_pin pin (out_pin_at n cells t)) e) in
+      (t, refl, eqb-true t.instance i (and_first (t.instance == i) (is_pin pin (out_pin_at n cells t)) e), named)
     where
       pin_case : (o : Option OutPin) → is_pin pin o ≡ true → (out : OutPin) × (o ≡ Some out) × (out.pin ≡ pin)
       pin_case None e = absurd (false≢true e)

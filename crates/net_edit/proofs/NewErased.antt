@@ -7,7 +7,7 @@ use Rattle.std.proofs.lemmas.Option.{same_Some, none-some, slice_get_within, get
 use Rattle.std.proofs.lemmas.List.{length-append, length-map, map-append, append-nil, get_or_append_left, get_or-append_right}
 use Rattle.std.proofs.Math.Seq.{take-append-le}
 use Rattle.std.proofs.lemmas.List.Elements.{All-head, All-tail, filter-append}
-use Rattle.std.proofs.lemmas.Slice.Eq.{bytes_eq-Decides}
+use Rattle.base_types.proofs.TruthValues.{bytes_self, bytes_are, and_second}
 use Rattle.netlist_core.specs.declared.netlist.NetId.{NetId}
 use Rattle.netlist_core.specs.declared.netlist.NetName.{NetName}
 use Rattle.netlist_core.specs.declared.netlist.Bit.{Bit}
@@ -36,7 +36,7 @@ use Rattle.path_links.specs.Erasure.{sink_pin_of, sink_pin, is_sink_pin, erased_
 use Rattle.path_links.proofs.EditNetlist.{map-map_from, map_twice}
 use Rattle.path_links.proofs.PathLists.{Has, contains, has_left, has_right, has_split, flat_from, flat_has, find_none, find_one}
 use Rattle.path_links.proofs.PathLinks.{out_step}
-use Rattle.path_links.proofs.PathSame.{and_right, net_is}
+use Rattle.path_links.proofs.PathSame.{net_is}
 use Rattle.path_links.proofs.PathAssigns.{single_is, count_parts}
 use Rattle.net_edit.specs.Changes.{Change, tail_or, new_net}
 use Rattle.net_edit.specs.Rearranged.{steps_of, AreRearranged}
@@ -48,12 +48,6 @@ use Rattle.net_edit.proofs.Ports.{IsDirectPort, is_freed}
 use Rattle.net_edit.proofs.NewEdits.{position_some, edit_from, pins, out_case, is_here}
 use Rattle.net_edit.proofs.Stood.{count, changed, tails, port_in}
 use Rattle.net_edit.proofs.NewAssigns.{has_index, index_has, finds, IsEdited, Same, New, is_edited, edited_assigns, freed_assigns, ports, mapped_from}
-
-same_bytes : (xs : List ℕ) → bytes_eq xs xs ≡ true
-same_bytes xs = (bytes_eq-Decides xs xs).1 refl
-
-bytes_are : (xs ys : List ℕ) → bytes_eq xs ys ≡ true → xs ≡ ys
-bytes_are xs ys e = (bytes_eq-Decides xs ys).0 e
 
 any_of : {X : Type 0} (test : X → Bool) (xs : List X) (x : X) → Has xs x → test x ≡ true → list_any test xs ≡ true
 any_of test [] x h e = absurd h
@@ -146,7 +140,7 @@ at_case c d ds false e ne more = more
 connection_is : (c : Connection) (ds : List Connection) → AreDistinct (map (λ (d : Connection). d.pin) ds) → Has ds c → connection_at c.pin ds ≡ Some c
 connection_is c [] distinct h = absurd h
 connection_is c (d ∷ ds) distinct (inl e) =
-    ap (λ (b : Bool). cond b (Some d) (connection_at c.pin ds)) (ap (bytes_eq d.pin) (ap (λ (x : Connection). x.pin) (sym e)) ∙ same_bytes d.pin) ∙ ap (λ (x : Connection). Some x) e
+    ap (λ (b : Bool). cond b (Some d) (connection_at c.pin ds)) (ap (bytes_eq d.pin) (ap (λ (x : Connection). x.pin) (sym e)) ∙ bytes_self d.pin) ∙ ap (λ (x : Connection). Some x) e
 connection_is c (d ∷ ds) distinct (inr h) =
     at_case c d ds (bytes_eq d.pin c.pin) refl
     (λ e. distinct_apart (d.pin ∷ []) (map (λ (x : Connection). x.pin) ds) c.pin distinct (inl e) (to_map (λ (x : Connection). x.pin) ds c h))
@@ -383,7 +377,7 @@ module _ (n : Netlist) (cells : Cells) (names : List (List ℕ)) (old new : List
       let here : Has (free_port n free i.before) (plain_of n.nets c.port) =
       subst (λ (b : Bool). Has (cond b (plain_of n.nets i.before.output ∷ []) []) (plain_of n.nets c.port)) (sym (ap free (sym i.port) ∙ frees c there)) (inl (ap (plain_of n.nets) (sym i.port))) in
       any_of (λ (other : List ℕ). bytes_eq other (plain_of n.nets c.port)) S.ports (plain_of n.nets c.port)
-      (flat_has (free_port n free) old i.before (plain_of n.nets c.port) (has_old old new i.before i.after i.pair) here) (same_bytes (plain_of n.nets c.port))
+      (flat_has (free_port n free) old i.before (plain_of n.nets c.port) (has_old old new i.before i.after i.pair) here) (bytes_self (plain_of n.nets c.port))
 
   erased_one : (port : NetId) (a b : NamedBit) → has_name S.ports (plain_of n.nets port) ≡ true
       → erased_assign S ((Named (plain_of n.nets port), a) ∷ []) ≡ erased_assign S ((Named (plain_of n.nets port), b) ∷ [])
@@ -460,7 +454,7 @@ module _ (n : Netlist) (cells : Cells) (names : List (List ℕ)) (old new : List
       let h = has_tail k.index c name.name d.step p.placed d.out k.get name.get d.is p.placed_is d.out_is in
       let plain : plain_of m.nets c.port ≡ plain_of n.nets c.port = plain_front n.nets (map net_named names) c.port (port_in n cells old new ok r c f.change) in
       let found : is_of_freed T ((Named (plain_of m.nets c.port), named_bit m.nets (Net net)) ∷ []) ≡ true =
-      any_of (λ (x : NamedTail). bytes_eq (plain_of m.nets c.port) x.port) T t h (ap (λ (x : List ℕ). bytes_eq x (plain_of n.nets c.port)) plain ∙ same_bytes (plain_of n.nets c.port)) in
+      any_of (λ (x : NamedTail). bytes_eq (plain_of m.nets c.port) x.port) T t h (ap (λ (x : List ℕ). bytes_eq x (plain_of n.nets c.port)) plain ∙ bytes_self (plain_of n.nets c.port)) in
       subst (λ (x : Assign). not (is_of_freed T (named_assign m.nets x)) ≡ false) e (ap not found)
 
   abbrev keep : List (NamedBit × NamedBit) → Bool
@@ -524,7 +518,7 @@ module _ (n : Netlist) (cells : Cells) (names : List (List ℕ)) (old new : List
       let name : entered.entered.input ≡ pin = sym (ap input_of entered.entered_is) ∙ here.pin_is in
       any_of (λ (s : SinkPin). bytes_eq s.instance placed.name && bytes_eq s.pin pin) S.pins one
       (flat_has (sink_pin n cells) (steps_of old) step.step one (step_old n cells old new r step.step step.there) there_one)
-      (and_from (bytes_eq placed.name placed.name) (bytes_eq entered.entered.input pin) (same_bytes placed.name) (ap (λ (x : List ℕ). bytes_eq x pin) name ∙ same_bytes pin))
+      (and_from (bytes_eq placed.name placed.name) (bytes_eq entered.entered.input pin) (bytes_self placed.name) (ap (λ (x : List ℕ). bytes_eq x pin) name ∙ bytes_self pin))
 
   -- nothing is changed where no tail stands
   plain_untailed : (placed : Instance) (c : Connection) → All (IsBitWithin (length n.nets)) c.expr.bits → untailed T placed.name (named_pin m.nets c) ≡ named_pin n.nets c
@@ -536,7 +530,7 @@ module _ (n : Netlist) (cells : Cells) (names : List (List ℕ)) (old new : List
     where
       not_tail : (t : NamedTail) → Has T t → is_tail_at placed.name c.pin (map (named_bit n.nets) c.expr.bits) t ≡ true → ⊥
       not_tail t h e =
-          let just = just_is t.tail (map (named_bit n.nets) c.expr.bits) (and_right (bytes_eq t.instance placed.name && bytes_eq t.pin c.pin) (is_just t.tail (map (named_bit n.nets) c.expr.bits)) e) in
+          let just = just_is t.tail (map (named_bit n.nets) c.expr.bits) (and_second (bytes_eq t.instance placed.name && bytes_eq t.pin c.pin) (is_just t.tail (map (named_bit n.nets) c.expr.bits)) e) in
           let one = one_named n.nets t.tail c.expr.bits just.is in
           let net = one.3 in
           let lt : net.net.0 < length n.nets = subst (IsBitWithin (length n.nets)) net.is (All-head (IsBitWithin (length n.nets)) one.0 one.1 (subst (All (IsBitWithin (length n.nets))) one.2 within)) in
@@ -578,11 +572,11 @@ module _ (n : Netlist) (cells : Cells) (names : List (List ℕ)) (old new : List
       let passes : test entry ≡ true =
       and_from (bytes_eq entry.instance placed.name && bytes_eq entry.pin c.pin) (bytes_eq name.name name.name)
       (and_from (bytes_eq entry.instance placed.name) (bytes_eq entry.pin c.pin)
-      (ap (λ (x : Instance). bytes_eq x.name placed.name) same_placed ∙ same_bytes placed.name) (ap (λ (x : List ℕ). bytes_eq x c.pin) pin ∙ same_bytes c.pin))
-      (same_bytes name.name) in
+      (ap (λ (x : Instance). bytes_eq x.name placed.name) same_placed ∙ bytes_self placed.name) (ap (λ (x : List ℕ). bytes_eq x c.pin) pin ∙ bytes_self c.pin))
+      (bytes_self name.name) in
       let found : option_map (λ (x : NamedTail). x.port) (find test T) ≡ Some (plain_of n.nets s.member.port) =
       find_one (λ (x : NamedTail). x.port) (plain_of n.nets s.member.port) test T entry has_entry passes (λ x h e. one_port x h s.index s.member name.name s.get name.get
-      (bytes_are name.name x.tail (and_right (bytes_eq x.instance placed.name && bytes_eq x.pin c.pin) (bytes_eq name.name x.tail) e))) in
+      (bytes_are name.name x.tail (and_second (bytes_eq x.instance placed.name && bytes_eq x.pin c.pin) (bytes_eq name.name x.tail) e))) in
       ap (λ (x : List ℕ). (c.pin, port_for (find (is_tail_at placed.name c.pin (Named x ∷ [])) T) (Named x ∷ []))) named_t
       ∙ ap (λ (x : List NamedBit). (c.pin, x)) (port_found (find test T) (plain_of n.nets s.member.port) (Named name.name ∷ []) found)
       ∙ ap (λ (x : NetId). (c.pin, Named (plain_of n.nets x) ∷ [])) (sym port)

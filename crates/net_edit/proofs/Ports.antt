@@ -3,6 +3,7 @@ use Rattle.std.proofs.Common.{◌≡◌, ◌≢◌, ℕ, ◌≤◌, ◌==◌, �
 use Rattle.std.specs.List.{slice_get}
 use Rattle.std.proofs.lemmas.Bool.{eqb-true, false≢true}
 use Rattle.std.proofs.lemmas.Option.{cond_some}
+use Rattle.base_types.proofs.TruthValues.{and_first, and_second}
 use Rattle.netlist_core.specs.declared.netlist.NetId.{NetId}
 use Rattle.netlist_core.specs.declared.netlist.Assign.{Assign}
 use Rattle.netlist_core.specs.declared.netlist.Netlist.{Netlist}
@@ -21,7 +22,7 @@ use Rattle.chain_trace.proofs.Ranges.{then_some}
 use Rattle.path_links.specs.Direct.{is_output, is_net, is_left_at, is_direct_from}
 use Rattle.path_links.specs.Free.{count_in_assign, count_in_instance, count_of, is_free}
 use Rattle.path_links.proofs.PathLists.{Has, filter_from, filter_has}
-use Rattle.path_links.proofs.PathSame.{and_left, and_right, net_is}
+use Rattle.path_links.proofs.PathSame.{net_is}
 use Rattle.path_links.proofs.PathPorts.{no_in, port_net, only_port}
 use Rattle.net_edit.specs.Changes.{Change, changes, freed}
 use Rattle.net_edit.specs.Rearranged.{AreRearranged}
@@ -66,9 +67,9 @@ direct_case n cells port (sources.Out step) count e =
 
 pub direct_port : (n : Netlist) (cells : Cells) (port : NetId) (source : Source) → is_direct_from n cells port source ≡ true → IsDirectPort n cells port source
 direct_port n cells port source e =
-    let front = and_left (has_port is_output n port && (count_of n port == 1)) (is_left_at n cells port source) e in
-    direct_case n cells port source (eqb-true (count_of n port) 1 (and_right (has_port is_output n port) (count_of n port == 1) front))
-    (and_right (has_port is_output n port && (count_of n port == 1)) (is_left_at n cells port source) e)
+    let front = and_first (has_port is_output n port && (count_of n port == 1)) (is_left_at n cells port source) e in
+    direct_case n cells port source (eqb-true (count_of n port) 1 (and_second (has_port is_output n port) (count_of n port == 1) front))
+    (and_second (has_port is_output n port && (count_of n port == 1)) (is_left_at n cells port source) e)
 
 module _ (n : Netlist) (cells : Cells) (old new : List Path) (r : AreRearranged n cells old new) where
   abbrev pub cs : List Change

@@ -3,7 +3,7 @@ use Rattle.std.proofs.Common.{◌≡◌, ℕ, suc, zero, ◌+◌, ◌<◌, ◌^�
 use Rattle.std.specs.Prelude.{codes, decimal}
 use Rattle.std.specs.Str.{bytes_eq}
 use Rattle.std.specs.Cmp.Lexicographic.{pointwise}
-use Rattle.std.proofs.lemmas.Bool.{false≢true, false_from_ne_true, ne_eqb}
+use Rattle.std.proofs.lemmas.Bool.{false≢true, false_from_ne_true, ne_eqb, and_right, and_left}
 use Rattle.std.proofs.lemmas.Bool.Decides.{Decides-eqb}
 use Rattle.std.proofs.lemmas.Cmp.{nat_eq_equiv}
 use Rattle.std.proofs.lemmas.Fmt.{decimal_by_steps}
@@ -54,20 +54,12 @@ and_true : (b : Bool) → (b && true) ≡ b
 and_true true = refl
 and_true false = refl
 
-and_false : (b c : Bool) → c ≡ false → (b && c) ≡ false
-and_false true c e = e
-and_false false c e = refl
-
-head_false : (b c : Bool) → b ≡ false → (b && c) ≡ false
-head_false true c e = absurd (false≢true (sym e))
-head_false false c e = refl
-
 -- what stands before the first bracket is the name, or the text doesn't begin with the name and a bracket
 front_at : (text name : List ℕ) (end : ℕ) → end < length text → ((k : ℕ) → k < end → get_or text k 0 ≡ 91 → ⊥) → get_or text end 0 ≡ 91 → HasNoBracket name → bytes_eq (take end text) name ≡ is_front name text
 front_at [] name end lt none at free = absurd (omega (arith, lt))
 front_at (t ∷ ts) [] zero lt none at free = sym (and_true (91 == t) ∙ ap (λ (b : ℕ). 91 == b) at)
-front_at (t ∷ ts) (a ∷ bs) zero lt none at free = sym (head_false (a == t) (is_front bs ts) (ap (λ (b : ℕ). a == b) at ∙ free.0))
-front_at (t ∷ ts) [] (suc end) lt none at free = sym (head_false (91 == t) true (ne_eqb 91 t (λ e. none 0 (omega arith) (sym e))))
+front_at (t ∷ ts) (a ∷ bs) zero lt none at free = sym (and_left (a == t) (is_front bs ts) (ap (λ (b : ℕ). a == b) at ∙ free.0))
+front_at (t ∷ ts) [] (suc end) lt none at free = sym (and_left (91 == t) true (ne_eqb 91 t (λ e. none 0 (omega arith) (sym e))))
 front_at (t ∷ ts) (a ∷ bs) (suc end) lt none at free =
     ap₂ (λ (b c : Bool). b && c) (turned t a) (front_at ts bs end (omega (arith, lt)) (λ k below. none (suc k) (omega (arith, below))) at free.1)
 
@@ -75,8 +67,8 @@ front_at (t ∷ ts) (a ∷ bs) (suc end) lt none at free =
 pub no_front : (text name : List ℕ) → ((k : ℕ) → k < length text → get_or text k 0 ≡ 91 → ⊥) → is_bit_of_vector name text ≡ false
 no_front [] [] none = refl
 no_front [] (a ∷ bs) none = refl
-no_front (t ∷ ts) [] none = head_false (91 == t) true (ne_eqb 91 t (λ e. none 0 (omega arith) (sym e)))
-no_front (t ∷ ts) (a ∷ bs) none = and_false (a == t) (is_front bs ts) (no_front ts bs (λ k below. none (suc k) (omega (arith, below))))
+no_front (t ∷ ts) [] none = and_left (91 == t) true (ne_eqb 91 t (λ e. none 0 (omega arith) (sym e)))
+no_front (t ∷ ts) (a ∷ bs) none = and_right (a == t) (is_front bs ts) (no_front ts bs (λ k below. none (suc k) (omega (arith, below))))
 
 pub front_is : (text name : List ℕ) (end : ℕ) → end < length text → ((k : ℕ) → k < end → get_or text k 0 ≡ 91 → ⊥) → get_or text end 0 ≡ 91 → HasNoBracket name → bytes_eq (take end text) name ≡ is_bit_of_vector name text
 front_is text name end lt none at free = front_at text name end lt none at free

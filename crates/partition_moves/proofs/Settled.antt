@@ -4,6 +4,7 @@ use Rattle.std.proofs.lemmas.Bool.{cases_eq, cases_lt}
 use Rattle.std.proofs.lemmas.Bool.Decides.{nat_tests}
 use Rattle.std.proofs.lemmas.List.{map_push, take_all, take_more}
 use Rattle.std.proofs.lemmas.List.Edits.{get_or-remove_above, get_or-remove_below, length-remove}
+use Rattle.base_types.proofs.TruthValues.{not_both}
 use Rattle.chain_rules.specs.Legality.{IsLegal, chain_at, taken_out}
 use Rattle.chain_rules.specs.Plans.{lists_of}
 use Rattle.chain_rules.specs.declared.plan.Plan.{Plan}
@@ -91,10 +92,6 @@ still_quiet T p q n e all last k h = elim (cases_lt k n) [
   | inl a ↦ all k a
   | inr b ↦ (let m : n ≡ k = omega arith in subst (T p) m (subst (λ (x : Plan). T x n) e last))
 ]
-
-pub not_both : (b : Bool) → b ≡ true → b ≡ false → ⊥
-not_both true p q = cc
-not_both false p q = cc
 
 pub not_true : (b : Bool) → b ≡ false → ¬ IsTrue b
 not_true b e h = not_both b h e

@@ -4,13 +4,14 @@ use Rattle.std.specs.List.{list_any}
 use Rattle.std.proofs.lemmas.Bool.{eqb-true, eq-eqb, or_cases, false≢true}
 use Rattle.std.proofs.lemmas.Option.{none-some, same_Some}
 use Rattle.std.proofs.lemmas.List.Sums.{sum_by-cons}
+use Rattle.base_types.proofs.TruthValues.{and_first}
 use Rattle.netlist_core.specs.declared.netlist.NetId.{NetId}
 use Rattle.netlist_core.specs.declared.netlist.Bit.{Bit}
 use Rattle.netlist_core.specs.declared.netlist.Bit.TheVariants.{Net, Zero, One, Unknown}
 use Rattle.netlist_core.specs.declared.netlist.Assign.{Assign}
 use Rattle.netlist_core.specs.Netlists.{single_net}
 use Rattle.path_links.specs.Free.{is_bit_of, count_in, count_in_assign, is_one_net, is_assign_of}
-use Rattle.path_links.proofs.PathSame.{net_is, and_left}
+use Rattle.path_links.proofs.PathSame.{net_is}
 
 no_count : (b : Bool) → ◌≡◌ {A = ℕ} (cond b 1 0) 0 → b ≡ false
 no_count true e = absurd (omega (arith, e))
@@ -48,6 +49,6 @@ any_count o [] e = absurd (false≢true e)
 any_count o (a ∷ assigns) e =
     let c = sum_by-cons (count_in_assign o) a assigns in
     elim (or_cases (is_assign_of o a) (list_any (is_assign_of o) assigns) e) [
-      | inl h ↦ let one = one_count o a.left.bits (and_left (is_one_net o a.left.bits) (is_some (single_net a.right.bits)) h) in omega (arith, c, one)
+      | inl h ↦ let one = one_count o a.left.bits (and_first (is_one_net o a.left.bits) (is_some (single_net a.right.bits)) h) in omega (arith, c, one)
       | inr h ↦ let more = any_count o assigns h in omega (arith, c, more)
     ]

@@ -2,6 +2,7 @@
 use Rattle.std.proofs.Common.{◌≡◌, ◌≢◌, ℕ, ◌==◌, ◌&&◌, Bool, true, false, List, [], ◌∷◌, ◌⊎◌, inl, inr, refl, sym, ap, ◌∙◌, subst}
 use Rattle.std.specs.List.{list_any}
 use Rattle.std.proofs.lemmas.Bool.{eqb-true, eq-eqb, and_from, or_left, or_right, or_cases, cases_Bool, false≢true}
+use Rattle.base_types.proofs.TruthValues.{and_first, and_second}
 use Rattle.netlist_core.specs.declared.netlist.NetId.{NetId}
 use Rattle.chain_trace.specs.declared.path.Step.{Step}
 use Rattle.chain_trace.specs.declared.path.Source.{Source}
@@ -10,14 +11,6 @@ use Rattle.chain_trace.specs.declared.path.Sink.{Sink}
 use Rattle.chain_trace.specs.declared.path.Sink.TheVariants as sinks
 use Rattle.path_links.specs.Edits.{Link, same_step, same_source, same_sink, same_link}
 use Rattle.path_links.proofs.PathLists.{Has}
-
-pub and_left : (a b : Bool) → (a && b) ≡ true → a ≡ true
-and_left true b e = refl
-and_left false b e = e
-
-pub and_right : (a b : Bool) → (a && b) ≡ true → b ≡ true
-and_right true b e = e
-and_right false b e = absurd (false≢true e)
 
 pub net_is : (a b : NetId) → a.0 ≡ b.0 → a ≡ b
 net_is a b e = ap (λ (x : ℕ). record { 0 = x }) e
@@ -62,7 +55,7 @@ sink_true (sinks.Port a) (sinks.Port b) e = ap (λ (n : NetId). sinks.Port n) (n
 sink_true (sinks.Port a) (sinks.In i k) e = absurd (false≢true e)
 sink_true (sinks.In i k) (sinks.Port b) e = absurd (false≢true e)
 sink_true (sinks.In i k) (sinks.In j l) e =
-    ap (λ (x : ℕ). sinks.In x k) (eqb-true i j (and_left (i == j) (k == l) e)) ∙ ap (λ (x : ℕ). sinks.In j x) (eqb-true k l (and_right (i == j) (k == l) e))
+    ap (λ (x : ℕ). sinks.In x k) (eqb-true i j (and_first (i == j) (k == l) e)) ∙ ap (λ (x : ℕ). sinks.In j x) (eqb-true k l (and_second (i == j) (k == l) e))
 
 sink_self : (a : Sink) → same_sink a a ≡ true
 sink_self (sinks.Port a) = eq-eqb a.0 a.0 refl
@@ -70,8 +63,8 @@ sink_self (sinks.In i k) = and_from (i == i) (k == k) (eq-eqb i i refl) (eq-eqb 
 
 link_true : (a b : Link) → same_link a b ≡ true → a ≡ b
 link_true a b e =
-    ap (λ (x : Source). (x, a.1)) (source_true a.0 b.0 (and_left (same_source a.0 b.0) (same_sink a.1 b.1) e))
-    ∙ ap (λ (s : Sink). (b.0, s)) (sink_true a.1 b.1 (and_right (same_source a.0 b.0) (same_sink a.1 b.1) e))
+    ap (λ (x : Source). (x, a.1)) (source_true a.0 b.0 (and_first (same_source a.0 b.0) (same_sink a.1 b.1) e))
+    ∙ ap (λ (s : Sink). (b.0, s)) (sink_true a.1 b.1 (and_second (same_source a.0 b.0) (same_sink a.1 b.1) e))
 
 link_self : (a : Link) → same_link a a ≡ true
 link_self a = and_from (same_source a.0 a.0) (same_sink a.1 a.1) (source_self a.0) (sink_self a.1)

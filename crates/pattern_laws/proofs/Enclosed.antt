@@ -3,7 +3,7 @@ use Rattle.std.specs.Prelude.{⊤}
 use Rattle.std.proofs.Common.{◌≡◌, inl, inr, ℕ, zero, suc, ◌+◌, ◌-◌, ◌<◌, ◌≤◌, Bool, true, false, cond, eqb, ◌&&◌, ◌||◌, not, filter, List, [], ◌∷◌, ◌++◌, length, take, drop, Some, None, refl, sym, ap, ◌∙◌, subst, arith, append_assoc, length-append}
 use Rattle.std.specs.List.{AllByRecursion as Each}
 use Rattle.std.proofs.Math.Dec.{eqb-suc-zero}
-use Rattle.std.proofs.lemmas.Bool.{cases_Bool, true≢false, eqb-true}
+use Rattle.std.proofs.lemmas.Bool.{cases_Bool, true≢false, eqb-true, and_parts, or_parts}
 use Rattle.std.proofs.lemmas.List.{append-nil, take-append-drop, length-take-le, length-drop}
 use Rattle.std.proofs.lemmas.Option.{same_Some}
 use Rattle.token_forms.specs.Pieces.{piece_len}
@@ -84,10 +84,6 @@ deep : (d : ℕ) (w : List ℕ) → token_ends (suc d) w ≡ (is_only 125 w && e
 deep d w =
     ap (λ (z : Bool). (is_only 59 w && z) || ((is_only 125 w && eqb (suc d) 1) || (is_note w && z))) (eqb-suc-zero d) ∙ ends_deep (is_only 59 w) (is_only 125 w) (is_note w) (eqb (suc d) 1)
 
-and_both : (a b : Bool) → (a && b) ≡ true → (a ≡ true) × (b ≡ true)
-and_both true b e = (refl, e)
-and_both false b e = absurd (true≢false (sym e))
-
 -- behind a token in a block, that doesn't close it, the block is open
 still_as : (o c : Bool) (d : ℕ) → (c && eqb (suc d) 1) ≡ false → (e : ℕ) × (cond o (suc d + 1) (cond c (suc d - 1) (suc d)) ≡ suc e)
 still_as true c d h = (d + 1, omega arith)
@@ -112,7 +108,7 @@ close_of ((true, w) ∷ ps) d at n z h e a = elim (cases_Bool (token_ends (suc d
   | inl c ↦ (
       let k : at + length w ≡ n = same_Some _ _ (sym (ap (λ (b : Bool). cond b (Some (at + length w)) (statement_end (depth_behind (suc d) w) (laid (at + length w) ps))) c) ∙ h) in
       let none = none_left ps z a.2 (omega (arith, k, e, length-append w (bytes_in ps))) in
-      let only = and_both (is_only 125 w) (eqb (suc d) 1) (sym (deep d w) ∙ c) in
+      let only = and_parts (is_only 125 w) (eqb (suc d) 1) (sym (deep d w) ∙ c) in
       record { inner = []; is = ap (λ (l : Pieces). (true, w) ∷ l) none ∙ ap (λ (v : List ℕ). (true, v) ∷ []) (close_is w only.0) })
   | inr c ↦ (
       let s = still_as (is_only 123 w) (is_only 125 w) d (sym (deep d w) ∙ c) in
@@ -121,11 +117,6 @@ close_of ((true, w) ∷ ps) d at n z h e a = elim (cases_Bool (token_ends (suc d
       let m = close_of ps s.0 (at + length w) n z more (omega (arith, e, length-append w (bytes_in ps))) a.2 in
       record { inner = (true, w) ∷ m.inner; is = ap (λ (l : Pieces). (true, w) ∷ l) m.is })
 ]
-
--- a statement in a block is passed
-or_none : (a b : Bool) → (a || b) ≡ false → (a ≡ false) × (b ≡ false)
-or_none true b e = absurd (true≢false e)
-or_none false b e = (refl, e)
 
 one_zero : (d : ℕ) → eqb (suc d) 1 ≡ eqb d 0
 one_zero zero = refl
@@ -159,12 +150,12 @@ last_as false o false false d e f g h i j k = absurd (true≢false (sym e))
 
 note_opens : (w : List ℕ) → is_note w ≡ true → is_only 123 w ≡ false
 note_opens [] e = refl
-note_opens (b ∷ []) e = absurd (true≢false (sym (and_both (eqb b 123) false e).1))
+note_opens (b ∷ []) e = absurd (true≢false (sym (and_parts (eqb b 123) false e).1))
 note_opens (b ∷ c ∷ w) e = refl
 
 note_closes : (w : List ℕ) → is_note w ≡ true → is_only 125 w ≡ false
 note_closes [] e = refl
-note_closes (b ∷ []) e = absurd (true≢false (sym (and_both (eqb b 123) false e).1))
+note_closes (b ∷ []) e = absurd (true≢false (sym (and_parts (eqb b 123) false e).1))
 note_closes (b ∷ c ∷ w) e = refl
 
 semi_opens : (w : List ℕ) → is_only 59 w ≡ true → is_only 123 w ≡ false
@@ -213,10 +204,10 @@ last_passes d t rest h depth =
 pub pass : (d : ℕ) (s rest : List Token) → IsOneFrom d s → closes_nothing d s ≡ false → Passed d s rest
 pass d [] rest o c = absurd o
 pass d (t ∷ []) rest o c =
-    let h = (or_none (is_only 125 t.text && eqb d 0) false c).0 in
+    let h = (or_parts (is_only 125 t.text && eqb d 0) false c).0 in
     last_passes d t rest h (last_as (is_only 59 t.text) (is_only 123 t.text) (is_only 125 t.text) (is_note t.text) d o h (note_opens t.text) (semi_opens t.text) (close_opens t.text) (semi_closes t.text) (note_closes t.text))
 pass d (t ∷ u ∷ us) rest o c =
-    let h = or_none (is_only 125 t.text && eqb d 0) (closes_nothing (depth_behind d t.text) (u ∷ us)) c in
+    let h = or_parts (is_only 125 t.text && eqb d 0) (closes_nothing (depth_behind d t.text) (u ∷ us)) c in
     passes d t (u ∷ us) rest (depth_behind d t.text) h.0 (deeper_as (is_only 123 t.text) (is_only 125 t.text) d h.0) (pass (depth_behind d t.text) (u ∷ us) rest o.1 h.1)
 
 -- statements close nothing of the block

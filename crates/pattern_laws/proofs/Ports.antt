@@ -3,15 +3,15 @@ use Rattle.std.proofs.Common.{◌≡◌, inl, inr, ℕ, zero, suc, ◌+◌, ◌-
 use Rattle.std.specs.Prelude.{IfSome}
 use Rattle.std.specs.List.{AllByRecursion as Each, list_any, list_all, prefix_len}
 use Rattle.std.specs.Str.{bytes_eq}
-use Rattle.std.proofs.lemmas.Bool.{cases_Bool, true≢false, eqb-true}
+use Rattle.std.proofs.lemmas.Bool.{cases_Bool, true≢false, eqb-true, and_from, and_parts, or_parts, or_from, or_left, or_right}
 use Rattle.base_types.specs.Names.{plain_name}
 use Rattle.base_types.specs.declared.span.Span.{Span}
+use Rattle.base_types.proofs.TruthValues.{bytes_are, bytes_same}
 use Rattle.token_forms.specs.declared.piece.Piece.TheVariants.{Blank, Token as token}
 use Rattle.token_forms.specs.Parsing.{◌>>=◌}
 use Rattle.token_forms.specs.Forms.{put_all}
 use Rattle.token_forms.specs.Pieces.{piece_len}
 use Rattle.token_forms.specs.Tokens.{Token}
-use Rattle.token_forms.proofs.Spelled.{same_bytes, same_text}
 use Rattle.stil_tokens.specs.StilTokens.{is_blank, is_quote, is_mark, is_run, quoted_len, slash_piece, piece_at, tokens_in}
 use Rattle.stil_tokens.specs.StilStatements.{is_only, statement_len, statements_within}
 use Rattle.stil_tokens.proofs.StilSplitLaw.{choose}
@@ -38,17 +38,6 @@ use Rattle.pattern_laws.specs.Laws.{SamePorts, PortsLaw, SamePortsLaw}
 use Rattle.pattern_laws.proofs.Cuts.{Pieces}
 use Rattle.pattern_laws.proofs.Enclosed.{pieces_of}
 
-and_two : (a b : Bool) → a ≡ true → b ≡ true → (a && b) ≡ true
-and_two a b e f = ap (λ (t : Bool). t && b) e ∙ f
-
-and_both : (a b : Bool) → (a && b) ≡ true → (a ≡ true) × (b ≡ true)
-and_both true b e = (refl, e)
-and_both false b e = absurd (true≢false (sym e))
-
-or_both : (a b : Bool) → (a || b) ≡ false → (a ≡ false) × (b ≡ false)
-or_both true b e = absurd (true≢false e)
-or_both false b e = (refl, e)
-
 -- no "
 abbrev unquoted : ℕ → Bool
 unquoted b = not (eqb b 34)
@@ -72,7 +61,7 @@ run_all : (v rest : List ℕ) → prefix_len is_run (v ++ rest) ≡ length v →
 run_all [] rest e = refl
 run_all (c ∷ v) rest e =
     let p = prefix_as (is_run c) (prefix_len is_run (v ++ rest)) (length v) e in
-    and_two (unquoted c) (list_all unquoted v) (run_one c p.0) (run_all v rest p.1)
+    and_from (unquoted c) (list_all unquoted v) (run_one c p.0) (run_all v rest p.1)
 
 quoted_as : (t : Bool) (m k : ℕ) → cond t 1 (1 + m) ≡ suc (suc k) → (t ≡ false) × (m ≡ suc k)
 quoted_as true m k e = absurd (omega (arith, e))
@@ -85,11 +74,11 @@ quoted_all (c ∷ d ∷ v) rest e =
     let q = quoted_as (eqb c 34) (quoted_len 34 (d ∷ v ++ rest)) (length v) e in
     let more = quoted_all (d ∷ v) rest q.1 in
     let n : length (c ∷ d ∷ v) - 1 ≡ suc (length (d ∷ v) - 1) = omega arith in
-    ap (λ (k : ℕ). list_all unquoted (take k (c ∷ d ∷ v))) n ∙ and_two (unquoted c) (list_all unquoted (take (length (d ∷ v) - 1) (d ∷ v))) (ap not q.0) more
+    ap (λ (k : ℕ). list_all unquoted (take k (c ∷ d ∷ v))) n ∙ and_from (unquoted c) (list_all unquoted (take (length (d ∷ v) - 1) (d ∷ v))) (ap not q.0) more
 
 -- a text in quotes, or an annotation, is no word
 no_word : (x e : Bool) → e ≡ true → (x && not e) ≡ true → ⊥
-no_word x e f h = true≢false (sym ((and_both x (not e) h).1) ∙ ap not f)
+no_word x e f h = true≢false (sym ((and_parts x (not e) h).1) ∙ ap not f)
 
 quote_encloses : (a c d : Bool) → (a || c) ≡ true → (a || (c || d)) ≡ true
 quote_encloses true c d e = refl
@@ -110,12 +99,12 @@ slash_run [] n e = ap piece_len e
 slash_run (c ∷ bs) n e = choose (eqb c 47) _ _ _ e (λ t f. absurd (blank_not _ n f)) (λ t f. choose (eqb c 42) _ _ _ f (λ u g. absurd (blank_not _ n g)) (λ u g. ap piece_len g))
 
 one_clean : (b : ℕ) (v : List ℕ) → eqb b 34 ≡ false → length v ≡ 0 → IsClean (b ∷ v)
-one_clean b [] q e = record { word = λ h. and_two (unquoted b) true (ap not q) refl; string = λ h. absurd (true≢false (sym h ∙ q)) }
+one_clean b [] q e = record { word = λ h. and_from (unquoted b) true (ap not q) refl; string = λ h. absurd (true≢false (sym h ∙ q)) }
 one_clean b (c ∷ v) q e = absurd (omega (arith, e))
 
 module _ (b : ℕ) (v rest : List ℕ) where
   clean_run : eqb b 34 ≡ false → prefix_len is_run (v ++ rest) ≡ length v → IsClean (b ∷ v)
-  clean_run q e = record { word = λ h. and_two (unquoted b) (list_all unquoted v) (ap not q) (run_all v rest e); string = λ h. absurd (true≢false (sym h ∙ q)) }
+  clean_run q e = record { word = λ h. and_from (unquoted b) (list_all unquoted v) (ap not q) (run_all v rest e); string = λ h. absurd (true≢false (sym h ∙ q)) }
 
   clean_brace : eqb b 34 ≡ false → eqb b 123 ≡ true → IsClean (b ∷ v)
   clean_brace q e = record {
@@ -137,7 +126,7 @@ module _ (b : ℕ) (v rest : List ℕ) where
   clean_piece e =
       choose (is_blank b) _ _ _ e (λ t f. absurd (blank_not _ (length (b ∷ v)) f))
       (λ t e1. choose (is_quote b) _ _ _ e1 (λ q f. let k : 1 + quoted_len b (v ++ rest) ≡ length (b ∷ v) = ap piece_len f in clean_quote q (omega (arith, k)))
-      (λ q e2. let o = or_both (eqb b 34) (eqb b 39) q in
+      (λ q e2. let o = or_parts (eqb b 34) (eqb b 39) q in
       choose (eqb b 123) _ _ _ e2 (λ c f. clean_brace o.0 c)
       (λ c e3. choose (is_mark b) _ _ _ e3 (λ m f. let k : 1 ≡ length (b ∷ v) = ap piece_len f in one_clean b v o.0 (omega (arith, k)))
       (λ m e4. choose (eqb b 47) _ _ _ e4 (λ s f. let k = slash_run (v ++ rest) (length (b ∷ v)) f in clean_run o.0 (omega (arith, k)))
@@ -206,7 +195,7 @@ labels_clean ts e = let h = labels_law ts in each_behind IsCleanToken h.stand.fr
 
 all_append : (x y : List ℕ) → list_all unquoted x ≡ true → list_all unquoted y ≡ true → list_all unquoted (x ++ y) ≡ true
 all_append [] y e f = f
-all_append (b ∷ x) y e f = let p = and_both (unquoted b) (list_all unquoted x) e in and_two (unquoted b) (list_all unquoted (x ++ y)) p.0 (all_append x y p.1 f)
+all_append (b ∷ x) y e f = let p = and_parts (unquoted b) (list_all unquoted x) e in and_from (unquoted b) (list_all unquoted (x ++ y)) p.0 (all_append x y p.1 f)
 
 abbrev with_rest : List ℕ → List Token → List ℕ × List Token
 with_rest x ts = (x, ts)
@@ -237,12 +226,12 @@ name_clean (t ∷ ts) e = name_as (is_word t.text) (is_string t.text) t.text ts 
 plain_of : (name : List ℕ) → list_all unquoted name ≡ true → is_plain (plain_name name) ≡ true
 plain_of [] h = refl
 plain_of (b ∷ bs) h =
-    let e = and_both (unquoted b) (list_all unquoted bs) h in
+    let e = and_parts (unquoted b) (list_all unquoted bs) h in
     let more = plain_of bs e.1 in
     elim (cases_Bool (eqb b 92)) [
       | inl k ↦ ap (λ (t : Bool). is_plain (cond (not t) (b ∷ plain_name bs) (plain_name bs))) k ∙ more
       | inr k ↦ ap (λ (t : Bool). is_plain (cond (not t) (b ∷ plain_name bs) (plain_name bs))) k
-          ∙ and_two (not (eqb b 34) && not (eqb b 92)) (is_plain (plain_name bs)) (and_two (not (eqb b 34)) (not (eqb b 92)) e.0 (ap not k)) more
+          ∙ and_from (not (eqb b 34) && not (eqb b 92)) (is_plain (plain_name bs)) (and_from (not (eqb b 34)) (not (eqb b 92)) e.0 (ap not k)) more
     ]
 
 abbrev IsPlain : List ℕ → Type 0
@@ -391,7 +380,7 @@ ports_plain : (cs : List ReadChain) → Each ArePlain cs → list_all is_plain (
 ports_plain [] e = refl
 ports_plain (c ∷ cs) e =
     let more = list_all is_plain (ports_of (decls cs)) in
-    and_two (is_plain c.decl.scan_in) (is_plain c.decl.scan_out && more) (e.0.0) (and_two (is_plain c.decl.scan_out) more (e.0.1) (ports_plain cs e.1))
+    and_from (is_plain c.decl.scan_in) (is_plain c.decl.scan_out && more) (e.0.0) (and_from (is_plain c.decl.scan_out) more (e.0.1) (ports_plain cs e.1))
 
 -- no port stands twice
 
@@ -416,19 +405,9 @@ record AreFresh (before : List (List ℕ)) (rows : List Row) : Type 0 where
   once : AreOnce (row_names rows)
   others : (q : List ℕ) → list_any (bytes_eq q) before ≡ true → list_any (bytes_eq q) (row_names rows) ≡ false
 
-or_no : (a b : Bool) → a ≡ false → b ≡ false → (a || b) ≡ false
-or_no a b e f = ap (λ (t : Bool). t || b) e ∙ f
-
-or_left : (a b : Bool) → a ≡ true → (a || b) ≡ true
-or_left a b e = ap (λ (t : Bool). t || b) e
-
-or_right : (a b : Bool) → b ≡ true → (a || b) ≡ true
-or_right true b e = refl
-or_right false b e = e
-
 not_same : (before : List (List ℕ)) (name : List ℕ) → list_any (bytes_eq name) before ≡ false → (q : List ℕ) → list_any (bytes_eq q) before ≡ true → bytes_eq q name ≡ false
 not_same before name new q h = elim (cases_Bool (bytes_eq q name)) [
-  | inl e ↦ absurd (true≢false (sym h ∙ ap (λ (n : List ℕ). list_any (bytes_eq n) before) (same_bytes q name e) ∙ new))
+  | inl e ↦ absurd (true≢false (sym h ∙ ap (λ (n : List ℕ). list_any (bytes_eq n) before) (bytes_are q name e) ∙ new))
   | inr e ↦ e
 ]
 
@@ -440,8 +419,8 @@ fresh before (row ∷ rows) e =
     let new : list_any (bytes_eq row.0) before ≡ false = not_placed (list_any (bytes_eq row.0) before) row.1 parts.0 in
     let more = fresh behind rows parts.1 in
     record {
-      once = (more.others row.0 (one_name row.0 row.0 before ∙ or_right (list_any (bytes_eq row.0) before) (bytes_eq row.0 row.0) (same_text row.0 row.0 refl)), more.once);
-      others = λ q h. or_no (bytes_eq q row.0) (list_any (bytes_eq q) (row_names rows)) (not_same before row.0 new q h) (more.others q (one_name q row.0 before ∙ or_left (list_any (bytes_eq q) before) (bytes_eq q row.0) h));
+      once = (more.others row.0 (one_name row.0 row.0 before ∙ or_right (list_any (bytes_eq row.0) before) (bytes_eq row.0 row.0) (bytes_same row.0 row.0 refl)), more.once);
+      others = λ q h. or_from (bytes_eq q row.0) (list_any (bytes_eq q) (row_names rows)) (not_same before row.0 new q h) (more.others q (one_name q row.0 before ∙ or_left (list_any (bytes_eq q) before) (bytes_eq q row.0) h));
     }
 
 pub ports_law : PortsLaw

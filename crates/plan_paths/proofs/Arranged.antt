@@ -7,6 +7,7 @@ use Rattle.std.proofs.lemmas.Option.{same_Some, none-some, get_or_from_slice_get
 use Rattle.std.proofs.lemmas.List.{length-map, map-append, append-nil}
 use Rattle.std.proofs.lemmas.List.Concat.{flat_map-append}
 use Rattle.std.proofs.lemmas.List.Elements.{All-head, All-tail}
+use Rattle.std.proofs.lemmas.List.Folds.{flat_map-map}
 use Rattle.netlist_core.specs.declared.netlist.Netlist.{Netlist}
 use Rattle.cell_table.specs.Cells.{Cells}
 use Rattle.chain_trace.specs.declared.path.Step.{Step}
@@ -48,10 +49,6 @@ all_has : {X : Type 0} (P : X → Type 0) (xs : List X) (x : X) → All P xs →
 all_has P [] x all h = absurd h
 all_has P (y ∷ ys) x all (inl e) = subst P e (All-head P y ys all)
 all_has P (y ∷ ys) x all (inr h) = all_has P ys x (All-tail P y ys all) h
-
-flat_of_map : {X Y Z : Type 0} (g : Y → List Z) (f : X → Y) (xs : List X) → flat_map g (map f xs) ≡ flat_map (λ x. g (f x)) xs
-flat_of_map g f [] = refl
-flat_of_map g f (x ∷ xs) = ap (λ (zs : List _). g (f x) ++ zs) (flat_of_map g f xs)
 
 map_of_flat : {X Y Z : Type 0} (s : Y → Z) (f : X → List Y) (xs : List X) → flat_map (λ x. map s (f x)) xs ≡ map s (flat_map f xs)
 map_of_flat s f [] = refl
@@ -172,7 +169,7 @@ module _ (N : PathNumbers) (old : List Path) (chains : List ChainSpec) (rules : 
 
   new_steps : steps_of (new_paths old rules plan) ≡ map (step_in old) places
   new_steps =
-      flat_of_map (λ (p : Path). p.steps) (new_path old rules plan) (range_with_len 0 (length old))
+      flat_map-map (λ (p : Path). p.steps) (new_path old rules plan) (range_with_len 0 (length old))
       ∙ map_of_flat (step_in old) (λ (k : ℕ). new_places rules plan k (length (path_in old k).steps)) (range_with_len 0 (length old))
       ∙ ap (map (step_in old)) (flat_alike (λ (k : ℕ). new_places rules plan k (length (path_in old k).steps)) (λ (k : ℕ). new_places rules plan k (count k)) (range_with_len 0 (length old)) (λ k. ap (new_places rules plan k) (sym (count_is k))))
       ∙ ap (λ (m : ℕ). map (step_in old) (flat_map (λ (k : ℕ). new_places rules plan k (count k)) (range_with_len 0 m))) (sym spec_count)

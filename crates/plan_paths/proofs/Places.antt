@@ -4,13 +4,13 @@ use Rattle.std.specs.Prelude.{nat_le}
 use Rattle.std.specs.List.{range_with_len}
 use Rattle.std.proofs.lemmas.Bool.{eqb-true, eq-eqb, leb-true, le-leb, cases_Bool, false≢true, and_from}
 use Rattle.std.proofs.lemmas.Option.{get_or_from_slice_get, slice_get_within}
+use Rattle.base_types.proofs.TruthValues.{and_first, and_second}
 use Rattle.chain_rules.specs.declared.unit.Unit.{Unit as MovedUnit}
 use Rattle.chain_rules.specs.declared.unit.ChainRule.{ChainRule}
 use Rattle.chain_rules.specs.declared.unit.Rules.{Rules}
 use Rattle.chain_rules.specs.declared.plan.Plan.{Plan}
 use Rattle.chain_rules.specs.Legality.{unit_at, rule_at, chain_at}
 use Rattle.path_links.proofs.PathLists.{Has, has_split, flat_from, flat_has}
-use Rattle.path_links.proofs.PathSame.{and_left, and_right}
 use Rattle.net_edit.proofs.Links.{has_get}
 use Rattle.net_edit.proofs.NewEdits.{position_some, position_not}
 use Rattle.plan_paths.specs.NewPaths.{Site, run_places, runs_places, lies_in, chain_on, filling, places_at, new_places}
@@ -104,11 +104,11 @@ pub record InRange (r : ChainRule) (z : Site) : Type 0 where
 
 on_is : (k i : ℕ) (r : ChainRule) → lies_in k i r ≡ true → InRange r (k, i)
 on_is k i r e =
-    let rest = and_right (r.path == k) (nat_le r.first i && nat_le i r.last) e in
+    let rest = and_second (r.path == k) (nat_le r.first i && nat_le i r.last) e in
     record {
-      path = eqb-true r.path k (and_left (r.path == k) (nat_le r.first i && nat_le i r.last) e);
-      low = leb-true r.first i (and_left (nat_le r.first i) (nat_le i r.last) rest);
-      high = leb-true i r.last (and_right (nat_le r.first i) (nat_le i r.last) rest);
+      path = eqb-true r.path k (and_first (r.path == k) (nat_le r.first i && nat_le i r.last) e);
+      low = leb-true r.first i (and_first (nat_le r.first i) (nat_le i r.last) rest);
+      high = leb-true i r.last (and_second (nat_le r.first i) (nat_le i r.last) rest);
     }
 
 is_on_of : (k i : ℕ) (r : ChainRule) → InRange r (k, i) → lies_in k i r ≡ true

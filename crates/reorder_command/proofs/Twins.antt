@@ -7,6 +7,7 @@ use Rattle.std.proofs.lemmas.Bool.Decides.{nat_tests}
 use Rattle.std.proofs.lemmas.List.Elements.{All-head, All-tail}
 use Rattle.std.proofs.lemmas.Option.{none-some, same_Some, cond_some}
 use Rattle.std.proofs.lemmas.Slice.Eq.{bytes_eq-Decides}
+use Rattle.base_types.proofs.TruthValues.{and_first}
 use Rattle.netlist_core.specs.declared.netlist.NetId.{NetId}
 use Rattle.netlist_core.specs.declared.netlist.Direction.{Direction}
 use Rattle.netlist_core.specs.declared.netlist.Port.{Port as PortRow}
@@ -15,7 +16,7 @@ use Rattle.netlist_core.specs.Netlists.{NamedNetlist, named, named_port, plain_o
 use Rattle.cell_table.specs.Cells.{Cells}
 use Rattle.chain_trace.specs.declared.path.Path.{Path}
 use Rattle.chain_trace.specs.Paths.{pin_net, has_port}
-use Rattle.chain_trace.proofs.Ranges.{then_some, all_at, net_at_within, and_left, port_within}
+use Rattle.chain_trace.proofs.Ranges.{then_some, all_at, net_at_within, port_within}
 use Rattle.chain_trace.proofs.NamedNets.{IsSameNet, same_wiring, turned_wiring, turned, is_port_named, has_port_named, port_by_name, pin_name, pin_by_name}
 use Rattle.chain_trace.proofs.NamedSides.{joined_there}
 use Rattle.net_edit.specs.Tails.{net_named, rewired}
@@ -56,7 +57,7 @@ port_of_name : (m : Netlist) (test : Direction → Bool) (name : List ℕ) (port
 port_of_name m test name [] all e = absurd cc
 port_of_name m test name (p ∷ ps) all e =
     either (is_port_named test name (named_port m.nets p)) (list_any (is_port_named test name) (map (named_port m.nets) ps))
-    (λ t. (p.net, All-head (λ (port : PortRow). port.net.0 < length m.nets) p ps all, (bytes_eq-Decides (plain_of m.nets p.net) name).0 (and_left (bytes_eq (plain_of m.nets p.net) name) (test p.direction) t)))
+    (λ t. (p.net, All-head (λ (port : PortRow). port.net.0 < length m.nets) p ps all, (bytes_eq-Decides (plain_of m.nets p.net) name).0 (and_first (bytes_eq (plain_of m.nets p.net) name) (test p.direction) t)))
     (λ t. port_of_name m test name ps (All-tail (λ (port : PortRow). port.net.0 < length m.nets) p ps all) t) e
 
 module _ (w m : Netlist) (w_ok : IsNetlist w) (m_ok : IsNetlist m) (same : AreWiredAlike w m) where

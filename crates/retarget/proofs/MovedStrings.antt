@@ -9,6 +9,7 @@ use Rattle.std.proofs.lemmas.List.Folds.{list_any_at}
 use Rattle.std.proofs.lemmas.List.FromFn.{get_or-map-range_with_len, length-map-range_with_len}
 use Rattle.std.proofs.lemmas.List.Sorted.{IsPermutation-reverse, list_any-IsPermutation}
 use Rattle.std.proofs.lemmas.Simd.{get_or-zip2, length-zip2}
+use Rattle.base_types.proofs.TruthValues.{same_truth}
 use Rattle.lane_kernels.specs.Kernels.{flipped_where}
 use Rattle.stil_tester.specs.declared.chains.ChainBits.{ChainBits}
 use Rattle.stil_tester.specs.declared.chains.Chains.{Chains}
@@ -26,7 +27,7 @@ use Rattle.retarget.proofs.AllChains.{chain_is, number_within, standing, start_o
 use Rattle.retarget.proofs.ExitOrder.{exit_cell, exit_character, exit_parity, length-exit_cells, length-exit_characters}
 use Rattle.retarget.proofs.MovedCalls.{says, says_at}
 use Rattle.retarget.proofs.Routes.{exits_apart, one_place}
-use Rattle.retarget.proofs.SameMeaning.{bits_within, cell_within, same_verdict}
+use Rattle.retarget.proofs.SameMeaning.{bits_within, cell_within}
 use Rattle.retarget.proofs.Standing.{stands_there}
 
 -- ---- one character
@@ -133,7 +134,7 @@ string_is side old new strings d =
 -- whether it says something
 pub says_is : (side : Side) (characters : List ℕ) (answer : Bool) → IsTrue answer ↔ ((k : ℕ) × (k < length characters) × (get_or characters k (filler_of side) ≢ filler_of side)) → answer ≡ list_any (says side) characters
 says_is side characters answer law =
-    same_verdict answer (list_any (says side) characters)
+    same_truth answer (list_any (says side) characters)
     (λ yes.
     let at : (k : ℕ) × (k < length characters) × (get_or characters k (filler_of side) ≢ filler_of side) = law.0 yes in
     list_any_at (says side) characters at.0 (filler_of side) at.1 (ap not (ne_eqb (get_or characters at.0 (filler_of side)) (filler_of side) at.2)))

@@ -2,6 +2,7 @@
 use Rattle.std.proofs.Common.{◌≡◌, ℕ, ◌+◌, ◌<◌, ◌≤◌, List, [], ◌∷◌, length, map, Bool, true, false, cond, refl, sym, ap, ◌∙◌, arith, suc, zero, get_or, ⊎_elim, subst, eqb}
 use Rattle.std.proofs.lemmas.Bool.{cases_lt, cases_eq, ne_eqb, or_parts}
 use Rattle.std.proofs.lemmas.List.{ext_get_or}
+use Rattle.base_types.proofs.TruthValues.{same_truth}
 use Rattle.stil_types.specs.declared.statement.ScanCall.{ScanCall}
 use Rattle.stil_tester.specs.declared.symbol.Symbol.{Symbol}
 use Rattle.stil_tester.specs.declared.symbol.Symbol.TheVariants.{Zero, One, Unknown}
@@ -93,11 +94,6 @@ same_comparison true false ch x = ap (λ e. meets e x) (expect_of-flip_character
 same_comparison false true ch x = ap (λ e. meets e (flip x)) (expect_of-flip_character ch) ∙ meets-flip (expect_of ch) x
 same_comparison false false ch x = refl
 
-pub same_verdict : (a b : Bool) → (a ≡ true → b ≡ true) → (b ≡ true → a ≡ true) → a ≡ b
-same_verdict true b f g = sym (f refl)
-same_verdict false true f g = g refl
-same_verdict false false f g = refl
-
 -- ---- lengths
 
 pub length_within : (chains : List ChainBits) (c : ℕ) → length (get_or chains c no_bits).cells ≤ most_bits (map (λ (chain : ChainBits). length chain.cells) chains)
@@ -140,7 +136,7 @@ same_loaded old new call written same fits fits' long long' keeps cells room =
 pub same_passed : (old new : Chains) (call written : ScanCall) → HaveSameCells old new → IsCallFor old call → IsCallFor new written → longest old ≤ call.shifts → longest new ≤ written.shifts → ((c k : ℕ) → c < length old.chains → bits_at old c ≤ k → expect_of (compare_at call c k) ≡ Any) → KeepsCompares old new call written
     → (cells : List Symbol) → HasCells old cells → (scan_call new cells written).passed ≡ (scan_call old cells call).passed
 same_passed old new call written same fits fits' long long' quiet keeps cells room =
-    same_verdict (scan_call new cells written).passed (scan_call old cells call).passed
+    same_truth (scan_call new cells written).passed (scan_call old cells call).passed
     (λ h. passed_from old cells call same.old_chains room fits quiet (λ cell c i k stands at l.
     let there : (d : ℕ) × (j : ℕ) × StandsAt new cell d j = standing new same.new_chains cell (omega (arith, same.cells, cell_within old same.old_chains cell c i stands)) in
     let e : exit_of old c i ≡ k = omega arith in

@@ -1,6 +1,7 @@
 -- But for the scan sinks and the tail, what is written denotes the read netlist by names.
 use Rattle.std.proofs.Common.{◌≡◌, ◌≢◌, ℕ, true, List, [], ◌∷◌, inl, inr, sym, ap, ◌∙◌}
 use Rattle.std.specs.Prelude.{Contains}
+use Rattle.std.proofs.lemmas.Bool.{or_left, or_right}
 use Rattle.netlist_core.specs.declared.netlist.NetId.{NetId}
 use Rattle.netlist_core.specs.declared.netlist.Netlist.{Netlist}
 use Rattle.cell_table.specs.Cells.{Cells}
@@ -22,7 +23,7 @@ use Rattle.verilog_writer.specs.Written.{DenotesAlike}
 use Rattle.verilog_writer.specs.Wired.{DeclareBehind}
 use Rattle.rewire_command.specs.declared.rewire.Rewire.{Rewire}
 use Rattle.rewire_command.specs.Rewiring.{cells_of, ordered, freed_of, is_free_at_end, sinks_of, IsTraced, AreErasedAlike}
-use Rattle.verilog_writer.proofs.TailErased.{or_left, or_right, written_alike, each_tail}
+use Rattle.verilog_writer.proofs.TailErased.{written_alike, each_tail}
 
 module _ (n : Netlist) (w : Rewire) (path : Path) where
   abbrev new : Path

@@ -1,6 +1,7 @@
 -- The first fault, stage by stage, and that what is rewired excludes every fault: a text denotes one netlist, a name tells the
 -- port, and that has one path or one fault.
-use Rattle.std.proofs.Common.{◌≡◌, ◌≢◌, ◌<◌, ◌⊎◌, inl, inr, ℕ, Bool, true, false, ◌||◌, List, Err, refl, sym, ap, ap₂, ◌∙◌, subst, arith}
+use Rattle.std.proofs.Common.{◌≡◌, ◌≢◌, ◌<◌, ◌⊎◌, inl, inr, ℕ, false, List, Err, refl, sym, ap, ap₂, ◌∙◌, subst, arith}
+use Rattle.std.proofs.lemmas.Bool.{or_from}
 use Rattle.base_types.specs.declared.fault.Fault.{Fault}
 use Rattle.base_types.specs.declared.fault.ReadFault.{ReadFault}
 use Rattle.base_types.specs.declared.fault.ReadFault.TheVariants as faults
@@ -9,6 +10,7 @@ use Rattle.base_types.specs.declared.kind.Kind.TheVariants.{NoPort, WrongPort, N
 use Rattle.base_types.specs.Faults.{number_of, of_words}
 use Rattle.base_types.specs.FirstFault.{ComesBefore, IsFirstFault, IfFault}
 use Rattle.base_types.proofs.FirstFaults.{first_of}
+use Rattle.base_types.proofs.TruthValues.{or_first, or_second}
 use Rattle.netlist_core.specs.declared.netlist.NetId.{NetId}
 use Rattle.netlist_core.specs.declared.netlist.Netlist.{Netlist}
 use Rattle.netlist_core.specs.Netlists.{plain_of}
@@ -33,19 +35,6 @@ use Rattle.rewire_command.proofs.Ports.{same_port, input_drives}
 
 of_kind : (g : Fault) (kind : Kind) → g ≡ of_words kind → number_of g.kind ≡ number_of kind
 of_kind g kind e = ap (λ (x : Fault). number_of x.kind) e
-
--- neither of two tests passes
-left_false : (a b : Bool) → (a || b) ≡ false → a ≡ false
-left_false true b e = absurd cc
-left_false false b e = refl
-
-right_false : (a b : Bool) → (a || b) ≡ false → b ≡ false
-right_false true b e = absurd cc
-right_false false b e = e
-
-pub both_false : (a b : Bool) → a ≡ false → b ≡ false → (a || b) ≡ false
-both_false true b e f = absurd cc
-both_false false b e f = f
 
 module _ (text : List ℕ) (w : Rewire) where
   abbrev pub First : Fault → Type 0
@@ -182,14 +171,14 @@ module _ (text : List ℕ) (w : Rewire) where
           let assigned = is_free n path.output in
           let direct = is_direct_from n (cells_of w) path.output (last_of path) in
           let it : IsLastFault text w (of_words PinnedLast)
-          = record { netlist = n; path = path; found = of_traced; pinned = left_false assigned direct pinned; indirect = right_false assigned direct pinned; other = other; is = refl }
+          = record { netlist = n; path = path; found = of_traced; pinned = or_first assigned direct pinned; indirect = or_second assigned direct pinned; other = other; is = refl }
           in
           first_of (HoldsInRewire text w) (of_words PinnedLast) (OfLast it) (of_last (of_words PinnedLast) refl)
 
       no_last : (IsPinned → last_name w.units ≡ last_name (instance_names n path)) → (g : Fault) → IsLastFault text w g → ⊥
       no_last last g h =
           let pinned : is_free_at_end h.netlist w h.path h.path.output ≡ false
-          = both_false (is_free h.netlist h.path.output) (is_direct_from h.netlist (cells_of w) h.path.output (last_of h.path)) h.pinned h.indirect
+          = or_from (is_free h.netlist h.path.output) (is_direct_from h.netlist (cells_of w) h.path.output (last_of h.path)) h.pinned h.indirect
           in
           let free : IsPinned
           = sym (ap₂ (λ (m : Netlist) (p : Path). is_free_at_end m w p p.output) (same_netlist n traced.reads h.netlist h.found.reads) (same_path n traced.reads path of_traced ports h.netlist h.path h.found)) ∙ pinned

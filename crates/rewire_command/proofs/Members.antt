@@ -2,8 +2,8 @@
 use Rattle.std.proofs.Common.{◌≡◌, ℕ, Bool, true, false, not, ◌&&◌, ◌||◌, List, [], ◌∷◌, ◌++◌, map, refl, sym, ap, ◌∙◌, subst, inl, inr, ◌⊎◌}
 use Rattle.std.specs.List.{list_all, IsDistinct, AllByRecursion}
 use Rattle.std.specs.Str.{bytes_eq}
-use Rattle.std.proofs.lemmas.Slice.Eq.{bytes_eq-Decides}
-use Rattle.std.proofs.lemmas.Bool.{cases_Bool}
+use Rattle.std.proofs.lemmas.Bool.{cases_Bool, and_parts, and_from}
+use Rattle.base_types.proofs.TruthValues.{bytes_are, bytes_same, or_true}
 use Rattle.rewire_command.specs.Faults.{has}
 use Rattle.rewire_command.specs.Names.{are_new, are_distinct}
 
@@ -11,12 +11,6 @@ use Rattle.rewire_command.specs.Names.{are_new, are_distinct}
 abbrev pub IsIn : {X : Type 0} → X → List X → Type 0
 IsIn x [] = ⊥
 IsIn x (y ∷ ys) = (x ≡ y) ⊎ IsIn x ys
-
-pub same_name : (a b : List ℕ) → bytes_eq a b ≡ true → a ≡ b
-same_name a b e = (bytes_eq-Decides a b).0 e
-
-pub name_same : (a b : List ℕ) → a ≡ b → bytes_eq a b ≡ true
-name_same a b e = (bytes_eq-Decides a b).1 e
 
 -- two names are one or they differ
 pub data Names (a b : List ℕ) : Type 0 where
@@ -26,8 +20,8 @@ pub data Names (a b : List ℕ) : Type 0 where
 pub names : (a b : List ℕ) → Names a b
 names a b =
     elim (cases_Bool (bytes_eq a b)) [
-      | inl is ↦ Same (same_name a b is)
-      | inr other ↦ Other other (λ e. let c = name_same a b e in cc)
+      | inl is ↦ Same (bytes_are a b is)
+      | inr other ↦ Other other (λ e. let c = bytes_same a b e in cc)
     ]
 
 pub in_left : {X : Type 0} (x : X) (xs ys : List X) → IsIn x xs → IsIn x (xs ++ ys)
@@ -53,13 +47,9 @@ has_in name (x ∷ xs) e =
       | Other other no_is ↦ inr (has_in name xs (subst (λ (t : Bool). (t || has xs name) ≡ true) other e))
     ]
 
-pub or_true : (a : Bool) → (a || true) ≡ true
-or_true true = refl
-or_true false = refl
-
 pub in_has : (name : List ℕ) (xs : List (List ℕ)) → IsIn name xs → has xs name ≡ true
 in_has name [] i = absurd i
-in_has name (x ∷ xs) (inl e) = ap (λ (t : Bool). t || has xs name) (name_same x name (sym e))
+in_has name (x ∷ xs) (inl e) = ap (λ (t : Bool). t || has xs name) (bytes_same x name (sym e))
 in_has name (x ∷ xs) (inr i) = ap (λ (t : Bool). bytes_eq x name || t) (in_has name xs i) ∙ or_true (bytes_eq x name)
 
 pub in_map : {X Y : Type 0} (f : X → Y) (xs : List X) (x : X) → IsIn x xs → IsIn (f x) (map f xs)
@@ -93,10 +83,6 @@ not_has : (b : Bool) → not b ≡ true → b ≡ true → ⊥
 not_has true e f = cc
 not_has false e f = cc
 
-pub and_parts : (a b : Bool) → (a && b) ≡ true → (a ≡ true) × (b ≡ true)
-and_parts true b e = (refl, e)
-and_parts false b e = absurd cc
-
 record NewApart (before xs : List (List ℕ)) : Type 0 where
   pub each : (x : List ℕ) → IsIn x xs → IsIn x before → ⊥
   pub apart : AreApart xs
@@ -117,11 +103,6 @@ new_apart before (x ∷ xs) e =
 pub distinct_apart : (xs : List (List ℕ)) → are_distinct xs ≡ true → AreApart xs
 distinct_apart xs e = (new_apart [] xs e).apart
 
--- the way back
-pub true_and : (a b : Bool) → a ≡ true → b ≡ true → (a && b) ≡ true
-true_and true b e f = f
-true_and false b e f = absurd cc
-
 not_true : (b : Bool) → (b ≡ true → ⊥) → not b ≡ true
 not_true true f = absurd (f refl)
 not_true false f = refl
@@ -129,7 +110,7 @@ not_true false f = refl
 apart_new : (before xs : List (List ℕ)) → ((x : List ℕ) → IsIn x xs → IsIn x before → ⊥) → AreApart xs → are_new before xs ≡ true
 apart_new before [] each apart = refl
 apart_new before (x ∷ xs) each apart =
-    true_and (not (has before x)) (are_new (before ++ x ∷ []) xs) (not_true (has before x) (λ e. each x (inl refl) (has_in x before e)))
+    and_from (not (has before x)) (are_new (before ++ x ∷ []) xs) (not_true (has before x) (λ e. each x (inl refl) (has_in x before e)))
     (apart_new (before ++ x ∷ []) xs
     (λ y i j. elim (in_split y before (x ∷ []) j) [
       | inl a ↦ each y (inr i) a
@@ -153,7 +134,7 @@ apart_IsDistinct (x ∷ xs) apart = (all_other x xs apart.0, apart_IsDistinct xs
 
 other_all : (x : List ℕ) (ys : List (List ℕ)) → AllByRecursion (λ (y : List ℕ). bytes_eq x y ≡ false) ys → Apart x ys
 other_all x [] all = λ i. i
-other_all x (y ∷ ys) all = λ i. elim i [ inl is ↦ (let c = name_same x y is in let d = all.0 in cc) | inr j ↦ other_all x ys all.1 j ]
+other_all x (y ∷ ys) all = λ i. elim i [ inl is ↦ (let c = bytes_same x y is in let d = all.0 in cc) | inr j ↦ other_all x ys all.1 j ]
 
 pub IsDistinct_apart : (xs : List (List ℕ)) → IsDistinct bytes_eq xs → AreApart xs
 unfolding IsDistinct

@@ -2,6 +2,7 @@
 use Rattle.std.proofs.Common.{◌≡◌, ℕ, ◌+◌, ◌<◌, ◌≤◌, Bool, true, false, cond, not, ◌&&◌, ◌||◌, List, [], ◌∷◌, ◌++◌, length, get_or, take, drop, Bor, refl, sym, ap, ◌∙◌}
 use Rattle.std.specs.Str.{bytes_eq}
 use Rattle.std.proofs.lemmas.List.{drop_more, drop_all, take_more, map-append}
+use Rattle.base_types.proofs.TruthValues.{or_false}
 use Rattle.rewire_command.specs.Faults.{has}
 use Rattle.rewire_command.specs.Names.{now_of, have_all, are_new}
 
@@ -26,10 +27,6 @@ or_assoc false b c = refl
 pub has_append : (name : List ℕ) (xs ys : List (List ℕ)) → has (xs ++ ys) name ≡ (has xs name || has ys name)
 has_append name [] ys = refl
 has_append name (x ∷ xs) ys = ap (λ (b : Bool). bytes_eq x name || b) (has_append name xs ys) ∙ or_assoc (bytes_eq x name) (has xs name) (has ys name)
-
-or_false : (a : Bool) → (a || false) ≡ a
-or_false true = refl
-or_false false = refl
 
 -- one name more
 pub has_more : (xs : List (Bor (List ℕ))) (i : ℕ) (d : Bor (List ℕ)) (name : List ℕ) → i < length xs → has (now_of (take (i + 1) xs)) name ≡ cond (bytes_eq (get_or xs i d).now name) true (has (now_of (take i xs)) name)
@@ -58,15 +55,6 @@ new_fails xs i d total lt there so_far = sym (new_more xs i d lt ∙ ap (λ (b :
 
 pub new_passed : (xs : List (Bor (List ℕ))) (i : ℕ) (total : Bool) → length xs ≤ i → Front xs i ≡ total → true ≡ total
 new_passed xs i total le so_far = sym (ap (λ (l : List (Bor (List ℕ))). are_new (now_of (take i xs)) (now_of l)) (drop_all i xs le)) ∙ so_far
-
--- a key that an insert did not add was there, and one that it added was not
-pub was_there : (added there : Bool) → added ≡ not there → added ≡ false → there ≡ true
-was_there added true e f = refl
-was_there added false e f = cc
-
-pub was_new : (added there : Bool) → added ≡ not there → added ≡ true → there ≡ false
-was_new added true e f = cc
-was_new added false e f = refl
 
 -- names that are all among others
 abbrev Behind : List (List ℕ) → List (Bor (List ℕ)) → ℕ → Bool

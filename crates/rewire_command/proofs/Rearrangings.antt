@@ -1,7 +1,7 @@
 -- The path in the order of the words is the read one rearranged, where another last one is only asked of an output that is
 -- assigned or direct.
 use Rattle.std.proofs.Common.{◌≡◌, ◌≢◌, ℕ, false, List, [], ◌∷◌, ◌++◌, inl, inr, refl, sym, ap, ◌∙◌, subst, arith}
-use Rattle.std.proofs.lemmas.Bool.{cases_Bool}
+use Rattle.std.proofs.lemmas.Bool.{cases_Bool, or_from}
 use Rattle.std.proofs.lemmas.List.{append-nil}
 use Rattle.std.specs.Prelude.{Contains, filter_map}
 use Rattle.netlist_core.specs.declared.netlist.Netlist.{Netlist}
@@ -19,7 +19,6 @@ use Rattle.rewire_command.specs.declared.rewire.Rewire.{Rewire}
 use Rattle.rewire_command.specs.Rewiring.{cells_of, instance_names, step_named, ordered, is_free_at_end, IsTraced}
 use Rattle.rewire_command.specs.Faults.{last_name, AreInstances}
 use Rattle.rewire_command.proofs.Members.{IsIn}
-use Rattle.rewire_command.proofs.Firsts.{both_false}
 use Rattle.rewire_command.proofs.Reorderings.{in_contains, contains_in, last_same, ordered_names, units, new_units, to_old, to_new, once}
 
 none_left : {X : Type 0} (xs ys : List X) → ((x : X) → IsIn x ys → IsIn x xs) → xs ≡ [] → ys ≡ []
@@ -54,7 +53,7 @@ module _ (text : List ℕ) (w : Rewire) (n : Netlist) (path : Path) (traced : Is
               | inr pinned ↦ elim (cases_Bool (is_direct_from n (cells_of w) path.output (last_of path))) [
                 | inl direct ↦ inr direct
                 | inr indirect ↦ absurd (moved (last_same n (sources.Port path.input) new path.steps traced.reads.sound (new_units text w n path traced are) (units text w n path traced are) old_in new_in
-                    (ap last_name (ordered_names text w n path traced are) ∙ last (both_false (is_free n path.output) (is_direct_from n (cells_of w) path.output (last_of path)) pinned indirect))))
+                    (ap last_name (ordered_names text w n path traced are) ∙ last (or_from (is_free n path.output) (is_direct_from n (cells_of w) path.output (last_of path)) pinned indirect))))
               ]
             ];
           },

@@ -3,6 +3,7 @@ use Rattle.std.proofs.Common.{◌≡◌, ℕ, zero, suc, ◌<◌, Bool, cond, Li
 use Rattle.std.specs.List.{cons_option}
 use Rattle.std.specs.Str.{bytes_eq}
 use Rattle.std.specs.List.{AllByRecursion as Each}
+use Rattle.base_types.proofs.TruthValues.{bytes_same}
 use Rattle.netlist_core.specs.declared.netlist.Netlist.{Netlist}
 use Rattle.netlist_core.specs.Netlists.{IsNetlist}
 use Rattle.chain_trace.specs.declared.path.Step.{Step}
@@ -15,7 +16,7 @@ use Rattle.path_links.specs.Direct.{last_source}
 use Rattle.rewire_command.specs.declared.rewire.Rewire.{Rewire}
 use Rattle.rewire_command.specs.Rewiring.{name_of, instance_name, instance_names, step_named, ordered, IsTraced}
 use Rattle.rewire_command.specs.Faults.{last_from, last_name, AreInstances}
-use Rattle.rewire_command.proofs.Members.{IsIn, Same, Other, names, name_same, has_in, in_has, in_map, AreApart, IsDistinct_apart}
+use Rattle.rewire_command.proofs.Members.{IsIn, Same, Other, names, has_in, in_has, in_map, AreApart, IsDistinct_apart}
 use Rattle.rewire_command.proofs.Units.{IsUnit, lead_units, same_unit}
 
 -- members by their places
@@ -75,7 +76,7 @@ found n (s ∷ ss) name i =
     elim (names (instance_name n s) name) [
       | Same same ↦ record {
         step = s;
-        is = ap (λ (t : Bool). cond t (Some s) (find (λ step. bytes_eq (instance_name n step) name) ss)) (name_same (instance_name n s) name same);
+        is = ap (λ (t : Bool). cond t (Some s) (find (λ step. bytes_eq (instance_name n step) name) ss)) (bytes_same (instance_name n s) name same);
         there = inl refl;
         called = same;
       }

@@ -110,9 +110,5 @@ pub none_left : (values : Values) (given : List Text) → each_value values [] �
 unfolding each_value
 none_left values given h = sym (same_Some _ _ h)
 
-pub and_right : (a b : Bool) → (a && b) ≡ true → b ≡ true
-and_right true b h = h
-and_right false b h = absurd cc
-
 pub zero_is : (n : ℕ) → (n == 0) ≡ true → n ≡ 0
 zero_is n h = grind (arith, nat_tests)

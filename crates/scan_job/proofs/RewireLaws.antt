@@ -14,12 +14,13 @@ use Rattle.scan_job.specs.Requests.{Request, order_of}
 use Rattle.scan_job.specs.declared.commands.rewire.RewireRequest.{RewireRequest}
 use Rattle.scan_job.specs.Commands.Rewire.{rewire_of, AreRewired}
 use Rattle.base_types.specs.declared.fault.Fault.{Fault}
+use Rattle.base_types.proofs.TruthValues.{and_second}
 use Rattle.desk_io.specs.declared.outputs.Outputs.{Outputs}
 use Rattle.scan_job.specs.Commands.{Files}
 use Rattle.scan_job.specs.Faults.{IsCommandFault}
 use Rattle.scan_job.specs.Texts.{AreTexts}
 use Rattle.scan_job.proofs.Agreeing.{AgreeAt}
-use Rattle.scan_job.proofs.Options.{IsMade, first, none_left, and_right}
+use Rattle.scan_job.proofs.Options.{IsMade, first, none_left}
 
 -- the request of some values and the further words
 pub rewire_by : List Text → List Text → Request → Request
@@ -54,7 +55,7 @@ made_rewire values given further h apart =
     record {
       request = requests.Rewire (record { verilog = a.value; cell = b.value; in_pin = c.value; out_pin = d.value; scan_in = e.value; scan_out = f.value; out_verilog = g.value; units = further });
       order_is = ap (λ (vs : List Text). record { verb = verbs.Rewire; values = vs; further = further }) same;
-      sound = distinct_pins (values (codes "in-pin")) (values (codes "out-pin")) c.value d.value c.is d.is (and_right _ _ apart);
+      sound = distinct_pins (values (codes "in-pin")) (values (codes "out-pin")) c.value d.value c.is d.is (and_second _ _ apart);
     }
 
 -- it looks at its inputs alone

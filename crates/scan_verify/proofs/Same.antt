@@ -6,6 +6,7 @@ use Rattle.std.specs.Option.{is_some, unwrap_or}
 use Rattle.std.proofs.lemmas.Bool.{cases_lt, false≢true, ne_eqb}
 use Rattle.std.proofs.lemmas.List.{ext_get_or, get_or-replicate, length-replicate}
 use Rattle.std.proofs.lemmas.List.FromFn.{get_or-map-range_with_len, length-map-range_with_len}
+use Rattle.base_types.proofs.TruthValues.{same_truth}
 use Rattle.stil_types.specs.declared.statement.ScanCall.{ScanCall}
 use Rattle.stil_types.specs.Calls.{longest_string, compare_at}
 use Rattle.stil_tester.specs.declared.symbol.Symbol.{Symbol}
@@ -26,7 +27,7 @@ use Rattle.retarget.specs.Homes.{home_in, home_of}
 use Rattle.retarget.specs.Judging.{exit_of, IsAccepted}
 use Rattle.retarget.specs.Retargeting.{HaveSameCells}
 use Rattle.retarget.proofs.AllChains.{chain_is}
-use Rattle.retarget.proofs.SameMeaning.{cell_within, same_verdict, still_call}
+use Rattle.retarget.proofs.SameMeaning.{cell_within, still_call}
 use Rattle.retarget.proofs.Accepted.{accepted_loads, accepted_compares}
 use Rattle.retarget.proofs.Placed.{at_home, home_where}
 use Rattle.scan_verify.specs.Sameness.{flip_expect, flip_expect_if, loaded_by, expected_by, effect_at, IsSameAt, AreSame, IsFirstDifference}
@@ -125,7 +126,7 @@ same_shown old new a b e is is' same cells room =
     ∙ sym (other_cell new cells b is'.good v b.shifts (omega (arith, e, outside))))
     (cases_lt v old.cells)) in
     let passed : (scan_call old cells a).passed ≡ (scan_call new cells b).passed =
-    same_verdict (scan_call old cells a).passed (scan_call new cells b).passed
+    same_truth (scan_call old cells a).passed (scan_call new cells b).passed
     (λ h. passed_from_homes new b is' cells room' (λ v l.
     ap (λ x. meets x (cell_at cells v)) (sym (same v (omega (arith, e, l))).expects)
     ∙ passed_at_homes old a is cells room h v (omega (arith, e, l))))

@@ -6,6 +6,7 @@ use Rattle.std.specs.Str.{bytes_eq}
 use Rattle.std.proofs.lemmas.Bool.Decides.{nat_tests}
 use Rattle.std.proofs.lemmas.Option.{same_Some}
 use Rattle.std.proofs.lemmas.Slice.Eq.{bytes_eq-Decides}
+use Rattle.base_types.proofs.TruthValues.{and_first, and_second}
 use Rattle.clap.specs.Lexer.{has_byte, strip_byte, name_and_value, long_of_rest, long_of}
 use Rattle.clap.proofs.CutLemmas.{Lacks}
 use Rattle.clap.proofs.LexerLemmas.{name_and_value-at, name_and_value-without}
@@ -38,21 +39,13 @@ clear_names Bench = refl
 clear_names Balance = refl
 clear_names Draw = refl
 
-and_left : (a b : Bool) → (a && b) ≡ true → a ≡ true
-and_left true b h = refl
-and_left false b h = absurd cc
-
-and_right : (a b : Bool) → (a && b) ≡ true → b ≡ true
-and_right true b h = h
-and_right false b h = absurd cc
-
 clear_among : (names : List Text) (name : Text) → list_all is_clear names ≡ true → is_name names name ≡ true → is_clear name ≡ true
 clear_among [] name all h = absurd cc
 clear_among (n ∷ ns) name all h =
     let cases : (b : Bool) → bytes_eq n name ≡ b → (b || is_name ns name) ≡ true → is_clear name ≡ true
     = λ b. elim b as (λ b. bytes_eq n name ≡ b → (b || is_name ns name) ≡ true → is_clear name ≡ true) [
-      | true ↦ λ e k. subst (λ (t : Text). is_clear t ≡ true) ((bytes_eq-Decides n name).0 e) (and_left (is_clear n) (list_all is_clear ns) all)
-      | false ↦ λ e k. clear_among ns name (and_right (is_clear n) (list_all is_clear ns) all) k
+      | true ↦ λ e k. subst (λ (t : Text). is_clear t ≡ true) ((bytes_eq-Decides n name).0 e) (and_first (is_clear n) (list_all is_clear ns) all)
+      | false ↦ λ e k. clear_among ns name (and_second (is_clear n) (list_all is_clear ns) all) k
     ]
     in cases (bytes_eq n name) refl h
 
@@ -236,7 +229,7 @@ module _ (verb : Verb) where
     long_read (Some (name, Some value)) is h =
         let cases : (b : Bool) → (is_name (option_names verb) name && is_value value) ≡ b → word_parts (takes_further verb) w (cond b kinds.Attached kinds.Wrong) (Some (name, Some value)) (λ want. parts want ws) ≡ Some ps → AreSpelled verb ps (w ∷ ws)
         = λ b. elim b as (λ b. (is_name (option_names verb) name && is_value value) ≡ b → word_parts (takes_further verb) w (cond b kinds.Attached kinds.Wrong) (Some (name, Some value)) (λ want. parts want ws) ≡ Some ps → AreSpelled verb ps (w ∷ ws)) [
-          | true ↦ λ e k. first_is (name, value) (and_right _ _ e) (inr (inl (and_left _ _ e, ap (λ (a : Text). a ∷ ws) (long_back w name (Some value) is)))) k
+          | true ↦ λ e k. first_is (name, value) (and_second _ _ e) (inr (inl (and_first _ _ e, ap (λ (a : Text). a ∷ ws) (long_back w name (Some value) is)))) k
           | false ↦ λ e k. absurd cc
         ]
         in cases (is_name (option_names verb) name && is_value value) refl h

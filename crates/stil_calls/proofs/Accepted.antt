@@ -1,7 +1,7 @@
 -- A scan call that no test refuses is one that the chains accept.
-use Rattle.std.proofs.Common.{◌≡◌, ◌<◌, ◌≤◌, ℕ, zero, suc, ◌+◌, ◌-◌, Bool, true, false, ◌&&◌, not, nat_lt, cond, max, IsTrue, List, [], ◌∷◌, ◌++◌, length, length-append, All, get_or, replicate, Option, Some, None, refl, sym, ap, ◌∙◌, subst, arith, inl, inr, ◌⊎◌}
+use Rattle.std.proofs.Common.{◌≡◌, ◌<◌, ◌≤◌, ℕ, zero, suc, ◌+◌, ◌-◌, Bool, true, false, nat_lt, cond, max, IsTrue, List, [], ◌∷◌, ◌++◌, length, length-append, All, get_or, replicate, Option, Some, None, refl, sym, ap, ◌∙◌, subst, arith, inl, inr, ◌⊎◌}
 use Rattle.std.specs.List.{list_all, AllPass}
-use Rattle.std.proofs.lemmas.Bool.{or_parts, false≢true, ltb-false}
+use Rattle.std.proofs.lemmas.Bool.{or_parts, false≢true, ltb-false, and_parts, not-false, cases_lt}
 use Rattle.std.proofs.lemmas.Bool.Decides.{Decides-ltb}
 use Rattle.std.proofs.lemmas.List.{length-replicate, get_or-replicate, get_or_append_left, get_or-append_right}
 use Rattle.std.proofs.lemmas.List.Elements.{All-append, All-replicate, All-cons, All-nil}
@@ -35,26 +35,16 @@ longest-shifts (c ∷ cs) items =
     let compare = string-count (given Compare items c) in
     rw (load, compare, ← more) (four (count_in (given Load items c)) (longest_string (strings_of Load cs items)) (count_in (given Compare items c)) (longest_string (strings_of Compare cs items)))
 
--- what is sound is written in the alphabet
-and_both : (p q : Bool) → (p && q) ≡ true → (p ≡ true) × (q ≡ true)
-and_both true true e = (refl, refl)
-and_both true false e = absurd cc
-and_both false q e = absurd cc
-
 written-pass : (test : ℕ → Bool) (rs : List Repeat) → list_all (λ r. test r.character) rs ≡ true → AllPass test (written rs)
 written-pass test [] e = All-nil (λ x. test x ≡ true)
 written-pass test (r ∷ rs) e =
-    let b = and_both (test r.character) (list_all (λ r. test r.character) rs) e in
+    let b = and_parts (test r.character) (list_all (λ r. test r.character) rs) e in
     All-append (λ x. test x ≡ true) (replicate r.times r.character) (written rs) (All-replicate (λ x. test x ≡ true) r.times r.character (b.0)) (written-pass test rs (b.1))
-
-not-false : (b : Bool) → not b ≡ false → b ≡ true
-not-false true e = refl
-not-false false e = absurd cc
 
 string-of : (side : Side) (given : Option (List ℕ)) → is_unsound side given ≡ false → IsStringOf (is_character side) (written_in given)
 string-of side None e = tt
 string-of side (Some bytes) e =
-    written-pass (is_character side) (repeats_of bytes) ((and_both _ _ (not-false (is_sound side bytes) e)).1)
+    written-pass (is_character side) (repeats_of bytes) ((and_parts _ _ (not-false (is_sound side bytes) e)).1)
 
 strings-of-load : (chains : List ScanChainDecl) (items : List Item) → has_unsound chains items ≡ false → All (IsStringOf (is_character Load)) (strings_of Load chains items)
 strings-of-load [] items e = All-nil (IsStringOf (is_character Load))
@@ -104,17 +94,10 @@ beyond_by false r before more rest i is (inl near) h behind =
     let here : i < length (replicate r.times r.character) = rw (length-replicate r.times r.character) near in
     rw (get_or_append_left (replicate r.times r.character) rest 88 i here, get_or-replicate r.times i r.character 88 near) is
 
-pub near_or_far : (a b : ℕ) → (a < b) ⊎ (b ≤ a)
-near_or_far a b = by (nat_lt a b) refl
-  where
-    by : (t : Bool) → nat_lt a b ≡ t → (a < b) ⊎ (b ≤ a)
-    by true e = inl ((Decides-ltb a b).0 e)
-    by false e = inr (ltb-false a b e)
-
 beyond : (before : ℕ) (rs : List Repeat) (i : ℕ) → reach_from before rs ≤ before + i → is_expectation (get_or (written rs) i 88) ≡ false
 beyond before [] i h = refl
 beyond before (r ∷ rs) i h =
-    beyond_by (is_expectation r.character) r before (reach_from (before + r.times) rs) (written rs) i refl (near_or_far i r.times) h
+    beyond_by (is_expectation r.character) r before (reach_from (before + r.times) rs) (written rs) i refl (cases_lt i r.times) h
     (λ far. beyond (before + r.times) rs (i - r.times) (omega arith))
 
 string-beyond : (given : Option (List ℕ)) (i : ℕ) → reach_in given ≤ i → is_expectation (compare_character (written_in given) i) ≡ false

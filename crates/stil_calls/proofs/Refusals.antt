@@ -1,6 +1,6 @@
 -- A scan call that a test refuses is refused as its strings, written out, are.
-use Rattle.std.proofs.Common.{◌≡◌, ◌<◌, ◌≤◌, ℕ, zero, suc, ◌+◌, ◌-◌, Bool, true, false, ◌&&◌, ◌||◌, nat_eq, nat_lt, cond, max, IsTrue, List, [], ◌∷◌, ◌++◌, length, get_or, replicate, Option, Some, None, refl, sym, subst, arith, inl, inr, ◌⊎◌}
-use Rattle.std.proofs.lemmas.Bool.{or_parts}
+use Rattle.std.proofs.Common.{◌≡◌, ◌<◌, ◌≤◌, ℕ, zero, suc, ◌+◌, ◌-◌, Bool, true, false, ◌||◌, nat_eq, nat_lt, cond, max, IsTrue, List, [], ◌∷◌, ◌++◌, length, get_or, replicate, Option, Some, None, refl, sym, subst, arith, inl, inr, ◌⊎◌}
+use Rattle.std.proofs.lemmas.Bool.{or_parts, true_from_ne_false, and_parts, cases_lt}
 use Rattle.std.proofs.lemmas.Bool.Decides.{Decides-ltb}
 use Rattle.std.proofs.lemmas.List.{length-replicate, get_or-replicate, get_or_append_left, get_or-append-add}
 use Rattle.stil_types.specs.declared.head.ScanChainDecl.{ScanChainDecl}
@@ -14,7 +14,7 @@ use Rattle.stil_calls.specs.declared.repeats.Side.TheVariants.{Compare}
 use Rattle.stil_calls.specs.Repeats.{repeat, behind, completed, put_first, repeats_from, repeats_of, reach_from, written}
 use Rattle.stil_calls.specs.Scans.{given, reach_in, shifts_in, bits_of, is_short, is_long, strings_of, written_in, call_of, most_characters}
 use Rattle.stil_calls.specs.Laws.{ShortLaw, LongLaw, VastLaw}
-use Rattle.stil_calls.proofs.Accepted.{longest-shifts, short_is, near_or_far, long_none}
+use Rattle.stil_calls.proofs.Accepted.{longest-shifts, short_is, long_none}
 
 -- each repeat stands for one character at least
 abbrev AreSome : List Repeat → Type 0
@@ -95,7 +95,7 @@ stands_by bits before r rs some h more (inr ge) = here (is_expectation r.charact
 
 stands : (bits before : ℕ) (rs : List Repeat) → AreSome rs → bits < reach_from before rs → Stands bits before rs
 stands bits before [] some h = absurd (omega arith)
-stands bits before (r ∷ rs) some h = stands_by bits before r rs (some.0) h (λ lt. stands bits (before + r.times) rs (some.1) lt) (near_or_far bits (reach_from (before + r.times) rs))
+stands bits before (r ∷ rs) some h = stands_by bits before r rs (some.0) h (λ lt. stands bits (before + r.times) rs (some.1) lt) (cases_lt bits (reach_from (before + r.times) rs))
 
 string-stands : (bits : ℕ) (given : Option (List ℕ)) → bits < reach_in given → (i : ℕ) × (bits ≤ i) × IsTrue (is_expectation (compare_character (written_in given) i))
 string-stands bits None h = absurd (omega arith)
@@ -123,23 +123,15 @@ long_at : (chains : List ScanChainDecl) (items : List Item) → is_long chains i
 long_at [] items e = absurd cc
 long_at (c ∷ cs) items e = long_by c cs items (nat_lt c.length (reach_in (given Compare items c))) refl e (long_at cs items)
 
-decided : (t : Bool) → (t ≡ false → ⊥) → t ≡ true
-decided true never = refl
-decided false never = absurd (never refl)
-
 pub long_law : LongLaw
 long_law chains items = (
   λ e. let b = long_at chains items e in record { chain = b.chain; index = b.index; is_chain = b.is_chain; beyond = b.beyond; stands = b.stands },
-  λ l. decided (is_long chains items) (λ e. long_none chains items e l.chain l.index l.is_chain l.beyond l.stands),
+  λ l. true_from_ne_false (is_long chains items) (λ e. long_none chains items e l.chain l.index l.is_chain l.beyond l.stands),
 )
-
-both-true : (p q : Bool) → (p && q) ≡ true → (p ≡ true) × (q ≡ true)
-both-true true q e = (refl, e)
-both-true false q e = absurd cc
 
 short_found : (chains : List ScanChainDecl) (items : List Item) → is_short chains items ≡ true → IsShortLoadOn (bits_of chains) (call_of chains items)
 short_found chains items e =
-    let b = both-true (nat_lt 0 (shifts_in chains items)) (nat_lt (shifts_in chains items) (most_bits (bits_of chains))) e in
+    let b = and_parts (nat_lt 0 (shifts_in chains items)) (nat_lt (shifts_in chains items) (most_bits (bits_of chains))) e in
     record {
       shifts = subst (λ (n : ℕ). 0 < n) (sym (longest-shifts chains items)) ((Decides-ltb 0 (shifts_in chains items)).0 (b.0));
       short = subst (λ (n : ℕ). n < most_bits (bits_of chains)) (sym (longest-shifts chains items)) ((Decides-ltb (shifts_in chains items) (most_bits (bits_of chains))).0 (b.1));

@@ -1,17 +1,16 @@
 -- Sorted names, beside one another, tell whether any stands twice.
-use Rattle.std.proofs.Common.{◌≡◌, ℕ, Bool, true, false, ◌&&◌, ◌||◌, List, [], ◌∷◌, map, Bor, Less, Equal, Greater, Ordering, refl, sym, ◌∙◌, subst}
+use Rattle.std.proofs.Common.{◌≡◌, ℕ, Bool, true, false, ◌||◌, List, [], ◌∷◌, map, Bor, Less, Equal, Greater, Ordering, refl, sym, ◌∙◌, subst}
 use Rattle.std.specs.List.{AllByRecursion, IsDistinct}
 use Rattle.std.specs.List.Sorted.{IsPermutation, IsStrictlySortedBy}
 use Rattle.std.specs.Str.{bytes_eq}
 use Rattle.std.specs.Ordering.{nat_cmp, is_lt, eq_by_cmp}
 use Rattle.std.specs.Cmp.Lexicographic.{slice_cmp}
-use Rattle.std.proofs.lemmas.Bool.{or_parts, or_from, false≢true}
+use Rattle.std.proofs.lemmas.Bool.{or_parts, or_from, false≢true, and_parts, true_from_ne_false}
 use Rattle.std.proofs.lemmas.Cmp.{nat_list_cmp_total}
 use Rattle.std.proofs.lemmas.Map.Keys.{IsDistinct-IsPermutation, IsDistinct-from_sorted}
 use Rattle.std.proofs.lemmas.Map.Text.{is_eq-slice_cmp}
 use Rattle.std.proofs.lemmas.List.Sorted.{IsPermutation-map, IsPermutation-sym}
-use Rattle.std.proofs.lemmas.Slice.Eq.{bytes_eq-Decides}
-use Rattle.std.proofs.lemmas.Bool.Decides.{same_from_decides}
+use Rattle.base_types.proofs.TruthValues.{bytes_turned}
 use Rattle.stil_syntax.specs.declared.item.Item.{Item}
 use Rattle.stil_calls.specs.Scans.{has_name, gives_twice}
 use Rattle.stil_calls.specs.Twice.{equal_beside, has_equal, rises_beside, rises}
@@ -19,20 +18,16 @@ use Rattle.stil_calls.specs.Twice.{equal_beside, has_equal, rises_beside, rises}
 abbrev names : List Item → List (List ℕ)
 names items = map (λ i. i.name) items
 
-same-sym : (x y : List ℕ) → bytes_eq x y ≡ bytes_eq y x
-same-sym x y =
-    same_from_decides _ (bytes_eq y x) (λ e. sym ((bytes_eq-Decides x y).0 e), λ e. (bytes_eq-Decides x y).1 (sym e)) (bytes_eq-Decides y x)
-
 -- no name is given twice exactly where the names are distinct
 apart : (name : List ℕ) (items : List Item) → has_name items name ≡ false → AllByRecursion (λ y. bytes_eq name y ≡ false) (names items)
 apart name [] e = tt
 apart name (i ∷ is) e =
     let p = or_parts (bytes_eq i.name name) (has_name is name) e in
-    (same-sym name i.name ∙ p.0, apart name is (p.1))
+    (bytes_turned name i.name ∙ p.0, apart name is (p.1))
 
 together : (name : List ℕ) (items : List Item) → AllByRecursion (λ y. bytes_eq name y ≡ false) (names items) → has_name items name ≡ false
 together name [] a = refl
-together name (i ∷ is) a = or_from (bytes_eq i.name name) (has_name is name) (same-sym i.name name ∙ a.0) (together name is (a.1))
+together name (i ∷ is) a = or_from (bytes_eq i.name name) (has_name is name) (bytes_turned i.name name ∙ a.0) (together name is (a.1))
 
 distinct : (items : List Item) → gives_twice items ≡ false → IsDistinct bytes_eq (names items)
 unfolding IsDistinct
@@ -69,10 +64,6 @@ less Less e = refl
 less Equal e = absurd cc
 less Greater e = absurd cc
 
-both : (p q : Bool) → (p && q) ≡ true → (p ≡ true) × (q ≡ true)
-both true q e = (refl, e)
-both false q e = absurd cc
-
 below_all : (last name : List ℕ) (more : List (List ℕ)) → Below last name → AllByRecursion (Below name) more → AllByRecursion (Below last) more
 below_all last name [] b a = tt
 below_all last name (m ∷ more) b a = (nat_list_cmp_total.trans last name m b (a.0), below_all last name more b (a.1))
@@ -81,7 +72,7 @@ sorted : (last : List ℕ) (more : List (List ℕ)) → rises_beside last more �
 unfolding IsStrictlySortedBy
 sorted last [] e = (tt, tt)
 sorted last (name ∷ more) e =
-    let p = both (is_lt (slice_cmp nat_cmp last name)) (rises_beside name more) e in
+    let p = and_parts (is_lt (slice_cmp nat_cmp last name)) (rises_beside name more) e in
     let s = sorted name more (p.1) in
     let b = less (slice_cmp nat_cmp last name) (p.0) in
     ((b, below_all last name more b (s.0)), s)
@@ -106,16 +97,12 @@ rising_distinct ns e = same_distinct ns (IsDistinct-from_sorted (slice_cmp nat_c
 abbrev nows : List (Bor (List ℕ)) → List (List ℕ)
 nows ts = map (λ t. t.now) ts
 
-decided : (t : Bool) → (t ≡ false → ⊥) → t ≡ true
-decided true never = refl
-decided false never = absurd (never refl)
-
 module _ (items : List Item) (xs ys : List (Bor (List ℕ))) (are : nows xs ≡ names items) (moved : IsPermutation xs ys) where
   pub equal_found : has_equal (nows ys) ≡ true → true ≡ gives_twice items
-  equal_found e = sym (decided (gives_twice items) (λ f.
-      equal_none (nows ys) e (IsDistinct-IsPermutation bytes_eq same-sym (nows xs) (nows ys) (IsPermutation-map (λ t. t.now) xs ys moved) (subst (IsDistinct bytes_eq) (sym are) (distinct items f)))))
+  equal_found e = sym (true_from_ne_false (gives_twice items) (λ f.
+      equal_none (nows ys) e (IsDistinct-IsPermutation bytes_eq bytes_turned (nows xs) (nows ys) (IsPermutation-map (λ t. t.now) xs ys moved) (subst (IsDistinct bytes_eq) (sym are) (distinct items f)))))
 
   pub none_found : rises (nows ys) ≡ true → false ≡ gives_twice items
   none_found e =
       sym (once items (subst (IsDistinct bytes_eq) are
-      (IsDistinct-IsPermutation bytes_eq same-sym (nows ys) (nows xs) (IsPermutation-map (λ t. t.now) ys xs (IsPermutation-sym xs ys moved)) (rising_distinct (nows ys) e))))
+      (IsDistinct-IsPermutation bytes_eq bytes_turned (nows ys) (nows xs) (IsPermutation-map (λ t. t.now) ys xs (IsPermutation-sym xs ys moved)) (rising_distinct (nows ys) e))))

@@ -2,8 +2,8 @@
 use Rattle.std.proofs.Common.{◌≡◌, ℕ, Bool, true, false, ◌||◌, ◌&&◌, List, [], ◌∷◌, codes, refl, sym, ap, ◌∙◌}
 use Rattle.std.specs.Str.{bytes_eq}
 use Rattle.std.specs.Prelude.{Result, Ok, Err, IfOk}
+use Rattle.base_types.proofs.TruthValues.{or_false, bytes_are}
 use Rattle.token_forms.specs.Tokens.{Token}
-use Rattle.token_forms.proofs.Spelled.{same_bytes}
 use Rattle.stil_syntax.specs.Shapes.{behind_labels}
 use Rattle.stil_blocks.specs.Statements.{begins_word, has_word, behind_word}
 use Rattle.stil_head.specs.Unsupported.{names_one, calls_scan}
@@ -11,15 +11,11 @@ use Rattle.stil_head.specs.Unsupported.{names_one, calls_scan}
 -- a statement with one word hasn't the other
 begins_one : (ts : List Token) → begins_word (codes "Call") ts ≡ true → begins_word (codes "Macro") ts ≡ false
 begins_one [] e = refl
-begins_one (t ∷ ts) e = ap (λ (text : List ℕ). bytes_eq text (codes "Macro")) (same_bytes t.text (codes "Call") e)
+begins_one (t ∷ ts) e = ap (λ (text : List ℕ). bytes_eq text (codes "Macro")) (bytes_are t.text (codes "Call") e)
 
 has_one : (s : List Token) → has_word (codes "Call") s ≡ true → has_word (codes "Macro") s ≡ false
 unfolding has_word
 has_one s e = begins_one (behind_labels s) e
-
-or_false : (b : Bool) → (b || false) ≡ b
-or_false true = refl
-or_false false = refl
 
 -- a Call
 pub calls_one : (f p : List ℕ → Bool) (s rest : List Token) (h is : Bool) → h ≡ has_word (codes "Call") s → h ≡ true → rest ≡ behind_word s → is ≡ names_one f rest → is ≡ calls_scan f p s

@@ -1,10 +1,12 @@
 -- What a head declares: chains of at least one bit each, and no ScanOut twice.
-use Rattle.std.proofs.Common.{◌≡◌, ℕ, ◌-◌, ◌≤◌, ◌||◌, Bool, true, false, List, [], ◌∷◌, ◌++◌, map, flat_map, refl, sym, ap, ◌∙◌, subst}
+use Rattle.std.proofs.Common.{◌≡◌, ℕ, ◌-◌, ◌≤◌, Bool, true, false, List, [], ◌∷◌, ◌++◌, map, flat_map, refl, sym, ap, ◌∙◌, subst}
 use Rattle.std.specs.Prelude.{All}
 use Rattle.std.specs.List.{list_any}
 use Rattle.std.specs.Str.{bytes_eq}
 use Rattle.std.proofs.lemmas.List.Elements.{All-map, All-same}
 use Rattle.std.proofs.lemmas.List.Folds.{list_any-append}
+use Rattle.std.proofs.lemmas.Bool.{or_from}
+use Rattle.base_types.proofs.TruthValues.{or_first, or_second}
 use Rattle.stil_types.specs.declared.head.ScanChainDecl.{ScanChainDecl}
 use Rattle.stil_types.specs.declared.head.StilHead.{StilHead}
 use Rattle.stil_blocks.specs.declared.chain.ReadChain.{ReadChain}
@@ -38,24 +40,12 @@ no_place false place e = refl
 abbrev any : List ℕ → List (List ℕ) → Bool
 any name names = list_any (bytes_eq name) names
 
-or_left : (a b : Bool) → (a || b) ≡ false → a ≡ false
-or_left true b e = e
-or_left false b e = refl
-
-or_right : (a b : Bool) → (a || b) ≡ false → b ≡ false
-or_right true b e = absurd cc
-or_right false b e = e
-
-or_both : (a b : Bool) → a ≡ false → b ≡ false → (a || b) ≡ false
-or_both true b p q = p
-or_both false b p q = q
-
 -- what is new behind some names is new among them
 fresh_front : (x : List ℕ) (names : List (List ℕ)) (name : List ℕ) → any x (names ++ name ∷ []) ≡ false → any x names ≡ false
-fresh_front x names name e = or_left (any x names) (any x (name ∷ [])) (sym (list_any-append (bytes_eq x) names (name ∷ [])) ∙ e)
+fresh_front x names name e = or_first (any x names) (any x (name ∷ [])) (sym (list_any-append (bytes_eq x) names (name ∷ [])) ∙ e)
 
 fresh_last : (x : List ℕ) (names : List (List ℕ)) (name : List ℕ) → any x (names ++ name ∷ []) ≡ false → bytes_eq x name ≡ false
-fresh_last x names name e = or_left (bytes_eq x name) false (or_right (any x names) (any x (name ∷ [])) (sym (list_any-append (bytes_eq x) names (name ∷ [])) ∙ e))
+fresh_last x names name e = or_first (bytes_eq x name) false (or_second (any x names) (any x (name ∷ [])) (sym (list_any-append (bytes_eq x) names (name ∷ [])) ∙ e))
 
 abbrev out_of : ReadChain → List ℕ
 out_of c = c.decl.scan_out
@@ -76,7 +66,7 @@ outs_new seen before (c ∷ cs) within none =
     let rest = nothing_behind (place_if (any output (seen ++ input ∷ [])) c.place) (again_in ((seen ++ input ∷ []) ++ output ∷ []) (flat_map port_rows cs)) behind in (
       within output (fresh_front output seen input new),
       outs_new ((seen ++ input ∷ []) ++ output ∷ []) (output ∷ before) cs
-          (λ x e. or_both (bytes_eq x output) (any x before) (fresh_last x (seen ++ input ∷ []) output e)
+          (λ x e. or_from (bytes_eq x output) (any x before) (fresh_last x (seen ++ input ∷ []) output e)
           (within x (fresh_front x seen input (fresh_front x (seen ++ input ∷ []) output e))))
           rest,
     )

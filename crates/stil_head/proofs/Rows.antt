@@ -5,8 +5,8 @@ use Rattle.std.proofs.lemmas.List.{drop_more, drop_all}
 use Rattle.std.specs.List.{list_any}
 use Rattle.std.specs.Str.{bytes_eq}
 use Rattle.std.proofs.lemmas.List.Folds.{list_any-append}
+use Rattle.base_types.proofs.TruthValues.{or_false, or_implied, or_assoc, bytes_are}
 use Rattle.indexmap.specs.IndexSet.{insert_key}
-use Rattle.token_forms.proofs.Spelled.{same_bytes}
 use Rattle.stil_head.specs.Leasts.{place_if, lesser, least_of, found_if}
 use Rattle.stil_head.specs.Twice.{Row, again_in}
 use Rattle.stil_blocks.specs.declared.callee.ReadCallee.{ReadCallee}
@@ -23,10 +23,6 @@ again_same f g same [] = refl
 again_same f g same (row ∷ rows) =
     ap (λ (b : Bool). place_if b row.1 ++ again_by (λ q. f q || bytes_eq q row.0) rows) (same row.0)
     ∙ ap (λ (l : List ℕ). place_if (g row.0) row.1 ++ l) (again_same (λ q. f q || bytes_eq q row.0) (λ q. g q || bytes_eq q row.0) (λ q. ap (λ (b : Bool). b || bytes_eq q row.0) (same q)) rows)
-
-or_false : (b : Bool) → (b || false) ≡ b
-or_false true = refl
-or_false false = refl
 
 pub one_name : (q name : List ℕ) (before : List (List ℕ)) → list_any (bytes_eq q) (before ++ name ∷ []) ≡ (list_any (bytes_eq q) before || bytes_eq q name)
 one_name q name before = list_any-append (bytes_eq q) before (name ∷ []) ∙ ap (λ (b : Bool). list_any (bytes_eq q) before || b) (or_false (bytes_eq q name))
@@ -59,13 +55,8 @@ key_test ks q = list_any (λ (k : Bor (List ℕ)). bytes_eq q k.now) ks
 key_among : (q : List ℕ) (ks : List (Bor (List ℕ))) (k : Bor (List ℕ)) → key_test (ks ++ k ∷ []) q ≡ (key_test ks q || bytes_eq q k.now)
 key_among q ks k = list_any-append (λ (x : Bor (List ℕ)). bytes_eq q x.now) ks (k ∷ []) ∙ ap (λ (b : Bool). key_test ks q || b) (or_false (bytes_eq q k.now))
 
-or_implied : (a b : Bool) → (b ≡ true → a ≡ true) → a ≡ (a || b)
-or_implied true b h = refl
-or_implied false true h = h refl
-or_implied false false h = refl
-
 key_known : (q : List ℕ) (ks : List (Bor (List ℕ))) (k : Bor (List ℕ)) → key_test ks k.now ≡ true → bytes_eq q k.now ≡ true → key_test ks q ≡ true
-key_known q ks k known e = let same = same_bytes q k.now e in rw same known
+key_known q ks k known e = let same = bytes_are q k.now e in rw same known
 
 inserted : (q : List ℕ) (ks : List (Bor (List ℕ))) (k : Bor (List ℕ)) (b : Bool) → key_test ks k.now ≡ b → key_test (cond b ks (ks ++ k ∷ [])) q ≡ (key_test ks q || bytes_eq q k.now)
 inserted q ks k true known = or_implied (key_test ks q) (bytes_eq q k.now) (key_known q ks k known)
@@ -134,15 +125,11 @@ scan_by : (q : List ℕ) (c : ReadCallee) (cs : List ReadCallee) (b : Bool) → 
 scan_by q c cs true = refl
 scan_by q c cs false = refl
 
-or_more : (a b c : Bool) → ((a || b) || c) ≡ (a || (b || c))
-or_more true b c = refl
-or_more false b c = refl
-
 pub scan_more : (q : List ℕ) (cs : List ReadCallee) (i : ℕ) (c : ReadCallee) (old new total : Bool) → i < length cs → c ≡ get_or cs i c → new ≡ (old || (c.callee.scan && bytes_eq q c.callee.name))
     → (old || is_name_of (scan_names (drop i cs)) q) ≡ total → (new || is_name_of (scan_names (drop (i + 1) cs)) q) ≡ total
 scan_more q cs i c old new total lt is more e =
     ap (λ (b : Bool). b || is_name_of (scan_names (drop (i + 1) cs)) q) more
-    ∙ or_more old (c.callee.scan && bytes_eq q c.callee.name) (is_name_of (scan_names (drop (i + 1) cs)) q)
+    ∙ or_assoc old (c.callee.scan && bytes_eq q c.callee.name) (is_name_of (scan_names (drop (i + 1) cs)) q)
     ∙ ap (λ (b : Bool). old || b) (sym (scan_by q c (drop (i + 1) cs) c.callee.scan))
     ∙ ap (λ (l : List ReadCallee). old || is_name_of (scan_names l) q) (sym (cut_at cs i c lt is)) ∙ e
 

@@ -5,6 +5,7 @@ use Rattle.std.proofs.lemmas.Bool.{ltb-false, true≢false}
 use Rattle.std.proofs.lemmas.List.{length-take-le}
 use Rattle.std.proofs.lemmas.Option.{none-some}
 use Rattle.base_types.specs.declared.fault.ReadFault.{ReadFault}
+use Rattle.base_types.proofs.TruthValues.{or_first}
 use Rattle.base_types.specs.declared.fault.ReadFault.TheVariants as faults
 use Rattle.desk_io.specs.Desk.{SlotState, IsOpen, with_unread, with_faults}
 use Rattle.desk_io.specs.Causes.{HasRisen, HasFailed}
@@ -96,11 +97,6 @@ come-none s slot d = record {
 pub come-as : (s a b : Streaming) (old new : SlotState) → b ≡ a → HasCome s a old new → HasCome s b old new
 come-as s a b old new e come = subst (λ (t : Streaming). HasCome s t old new) (sym e) come
 
--- more is wanted only where the input isn't ended and few bytes are kept
-or-left : (a b : Bool) → (a || b) ≡ false → a ≡ false
-or-left true b e = e
-or-left false b e = refl
-
 or-last : (a b c : Bool) → (a || (b || c)) ≡ false → c ≡ false
 or-last true b c e = absurd (true≢false e)
 or-last false true c e = absurd (true≢false e)
@@ -108,7 +104,7 @@ or-last false false c e = e
 
 wants-so : (last in_head : Bool) (p : Point) (kept : List ℕ) → (last || (if in_head then shows_head kept else shows_part p kept)) ≡ false → (last ≡ false) × (nat_lt largest (length kept) ≡ false)
 wants-so true in_head p kept e = absurd (true≢false e)
-wants-so false true p kept e = (refl, or-left (nat_lt largest (length kept)) (is_some (head_end false Outside 0 kept)) e)
+wants-so false true p kept e = (refl, or_first (nat_lt largest (length kept)) (is_some (head_end false Outside 0 kept)) e)
 wants-so false false p kept e = (refl, or-last (nat_lt 0 (gap_at p.place p.comment kept).len) (is_some (part_at false p.place kept)) (nat_lt largest (length kept)) e)
 
 pub wants-unended : (a b : Streaming) → Wants a b → b.ended ≡ false

@@ -3,9 +3,10 @@ use Rattle.std.proofs.Common.{◌≡◌, ◌<◌, ◌≤◌, ℕ, zero, suc, Boo
 use Rattle.std.specs.Str.{bytes_eq}
 use Rattle.std.proofs.Math.Dec.{eqb-suc-zero}
 use Rattle.std.proofs.lemmas.Option.{same_Some}
+use Rattle.base_types.proofs.TruthValues.{bytes_are}
 use Rattle.token_forms.specs.Tokens.{Token}
 use Rattle.token_forms.specs.Laws.{Stands}
-use Rattle.token_forms.proofs.Spelled.{same_bytes, choose}
+use Rattle.token_forms.proofs.Spelled.{choose}
 use Rattle.stil_syntax.specs.declared.item.Item.{Item}
 use Rattle.stil_syntax.specs.declared.shape.Shape.TheVariants.{NoForm, Scan}
 use Rattle.stil_syntax.specs.Names.{IsName, name_at}
@@ -56,7 +57,7 @@ labelled_by ts (Some (x, [])) rest read e = absurd cc
 labelled_by ts (Some (x, t ∷ us)) rest read e =
     choose (bytes_eq t.text (codes ":")) (Some us) None (Some rest) e
     (λ b e. let s = name-spelled ts x (t ∷ us) read in
-    record { name = x; front = s.front; colon = t; is = s.is ∙ ap (λ (l : List Token). s.front ++ (t ∷ l)) (same_Some _ _ e); named = s.holds; text = same_bytes t.text (codes ":") b })
+    record { name = x; front = s.front; colon = t; is = s.is ∙ ap (λ (l : List Token). s.front ++ (t ∷ l)) (same_Some _ _ e); named = s.holds; text = bytes_are t.text (codes ":") b })
     (λ b e. absurd cc)
 
 labelled : (ts rest : List Token) → label_at ts ≡ Some rest → Labelled ts rest

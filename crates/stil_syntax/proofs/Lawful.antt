@@ -1,13 +1,13 @@
 -- Each form of Grammar is lawful, and what stands behind the name of a scan call is clear.
 use Rattle.std.proofs.Common.{◌≡◌, ℕ, Bool, true, false, ◌&&◌, ◌||◌, nat_eq, List, [], ◌∷◌, ◌++◌, Some, refl, sym, ap, subst}
-use Rattle.std.proofs.lemmas.Bool.{eqb-true}
+use Rattle.std.proofs.lemmas.Bool.{eqb-true, and_parts}
 use Rattle.std.proofs.lemmas.Bool.Decides.{Decides-eqb}
 use Rattle.std.proofs.lemmas.Option.{same_Some}
+use Rattle.base_types.proofs.TruthValues.{and_false}
 use Rattle.token_forms.specs.Tokens.{Token}
 use Rattle.token_forms.specs.Classes.{But, is_in, is_in_any, begins}
 use Rattle.token_forms.specs.Laws.{Stands, IsLawful, IsStatement}
 use Rattle.token_forms.proofs.Spelled.{choose}
-use Rattle.token_forms.proofs.ClassLemmas.{both}
 use Rattle.token_forms.proofs.Laws.{word-lawful, text-lawful, seq-lawful, made-lawful, before-lawful, behind-lawful, or-lawful, many-lawful, gathered-lawful}
 use Rattle.stil_syntax.specs.Names.{marks, is_word, is_string, inner, IsName, Word, Quoted, Joined, string_at, name_at, name}
 use Rattle.stil_syntax.specs.Grammar.{item, entry, block, call_end}
@@ -18,7 +18,7 @@ string-spelled t [] x rest s e =
     record { front = t ∷ []; is = ap (λ (p : List ℕ × List Token). t ∷ p.1) e; holds = Quoted t refl s (ap (λ (p : List ℕ × List Token). p.0) e) }
 string-spelled t (u ∷ us) x rest s e =
     choose (is_word u.text && nat_eq u.start t.end) (inner t.text ++ u.text, us) (inner t.text, u ∷ us) (x, rest) e
-    (λ j e. let b = both (is_word u.text) (nat_eq u.start t.end) j in
+    (λ j e. let b = and_parts (is_word u.text) (nat_eq u.start t.end) j in
     record { front = t ∷ u ∷ []; is = ap (λ (p : List ℕ × List Token). t ∷ u ∷ p.1) e; holds = Joined t u refl s (b.0) (eqb-true u.start t.end (b.1)) (ap (λ (p : List ℕ × List Token). p.0) e) })
     (λ j e. record { front = t ∷ []; is = ap (λ (p : List ℕ × List Token). t ∷ p.1) e; holds = Quoted t refl s (ap (λ (p : List ℕ × List Token). p.0) e) })
 
@@ -31,13 +31,8 @@ name-spelled (t ∷ ts) x rest e =
     record { front = t ∷ []; is = ap (λ (p : List ℕ × List Token). t ∷ p.1) p; holds = Word t refl w (ap (λ (p : List ℕ × List Token). p.0) p) })
     (λ w e. choose (is_string t.text) _ _ _ e (λ s e. string-spelled t ts x rest s (same_Some _ _ e)) (λ s e. absurd cc))
 
--- a text in " is no run, and no mark
-and-false : (b : Bool) → (b && false) ≡ false
-and-false true = refl
-and-false false = refl
-
 string-no_word : (text : List ℕ) → is_string text ≡ true → is_word text ≡ false
-string-no_word text s = rw s (and-false (is_in (But marks) text))
+string-no_word text s = rw s (and_false (is_in (But marks) text))
 
 string-no_mark : (text : List ℕ) → is_string text ≡ true → is_in (But marks) text ≡ true
 string-no_mark [] s = absurd cc
@@ -69,7 +64,7 @@ or_false : (b : Bool) → b ≡ true → (b || false) ≡ true
 or_false b e = rw e refl
 
 name-first : (x : List ℕ) (t : Token) (ts : List Token) → IsName x (t ∷ ts) → is_in_any (But marks ∷ []) t.text ≡ true
-name-first x t ts (Word s is w e) = subst (λ (u : Token). is_in_any (But marks ∷ []) u.text ≡ true) (sym (head_is t s ts [] is)) (or_false _ ((both (is_in (But marks) s.text) _ w).0))
+name-first x t ts (Word s is w e) = subst (λ (u : Token). is_in_any (But marks ∷ []) u.text ≡ true) (sym (head_is t s ts [] is)) (or_false _ ((and_parts (is_in (But marks) s.text) _ w).0))
 name-first x t ts (Quoted s is q e) = subst (λ (u : Token). is_in_any (But marks ∷ []) u.text ≡ true) (sym (head_is t s ts [] is)) (or_false _ (string-no_mark s.text q))
 name-first x t ts (Joined s u is q w a e) = subst (λ (u : Token). is_in_any (But marks ∷ []) u.text ≡ true) (sym (head_is t s ts (u ∷ []) is)) (or_false _ (string-no_mark s.text q))
 

@@ -1,6 +1,7 @@
 -- Tokens at some spans, cut in two.
 use Rattle.std.proofs.Common.{◌≡◌, ◌<◌, ◌-◌, ℕ, zero, suc, Bool, true, false, cond, ◌&&◌, ◌||◌, nat_eq, List, [], ◌∷◌, ◌++◌, length, take, drop, Some, refl, sym, ap, ◌∙◌, subst, arith}
 use Rattle.std.proofs.lemmas.Option.{same_Some}
+use Rattle.std.proofs.lemmas.Bool.{and_parts}
 use Rattle.base_types.specs.declared.span.Span.{Span}
 use Rattle.token_forms.specs.Tokens.{Token, token_of, tokens_of, AreSpansOf}
 use Rattle.token_forms.proofs.Spelled.{choose}
@@ -66,13 +67,9 @@ unfolding behind_within
 holds_here head [] b e h = absurd cc
 holds_here head (t ∷ ts) b e h = rw (e, h) refl
 
-both_true : (a b : Bool) → (a && b) ≡ true → (a ≡ true) × (b ≡ true)
-both_true true b e = (refl, e)
-both_true false b e = absurd cc
-
 -- a scan call that begins here is held, and where none does, what is held stands behind the token
 pub holds_found : (head : StilHead) (ts : List Token) (b x : Bool) → x ≡ (b && is_scan_call head ts) → x ≡ true → true ≡ holds_scan head b ts
-holds_found head ts b x is sure = let k = both_true b (is_scan_call head ts) (sym is ∙ sure) in holds_here head ts b k.0 k.1
+holds_found head ts b x is sure = let k = and_parts b (is_scan_call head ts) (sym is ∙ sure) in holds_here head ts b k.0 k.1
 
 pub holds_on : (head : StilHead) (ts rest : List Token) (t : Token) (b x next total : Bool) → ts ≡ t ∷ rest → x ≡ (b && is_scan_call head ts) → x ≡ false → next ≡ begins_behind t.text → holds_scan head b ts ≡ total
     → holds_scan head next rest ≡ total

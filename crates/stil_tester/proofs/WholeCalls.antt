@@ -4,6 +4,7 @@ use Rattle.std.specs.Prelude.{All, IsTrue, ◌↔◌, nat_eq, slice_get}
 use Rattle.std.proofs.lemmas.Bool.{cases_lt, cases_eq, ne_eqb, and_parts, and_from}
 use Rattle.std.proofs.lemmas.List.{get_or-map, length-map, take_all, take_more, same_lists, get_or_default, get_or_past}
 use Rattle.std.proofs.lemmas.Option.{slice_get-get_or, slice_get_within, get_or_from_slice_get}
+use Rattle.base_types.proofs.TruthValues.{same_truth}
 use Rattle.stil_types.specs.declared.statement.ScanCall.{ScanCall}
 use Rattle.stil_types.specs.Calls.{string_length, longest_string}
 use Rattle.stil_tester.specs.declared.symbol.Symbol.{Symbol}
@@ -193,12 +194,6 @@ all_below-each (suc n) test k h l =
 all_below-from : (n : ℕ) (test : ℕ → Bool) → ((k : ℕ) → k < n → test k ≡ true) → all_below n test ≡ true
 all_below-from zero test h = refl
 all_below-from (suc n) test h = and_from (all_below n test) (test n) (all_below-from n test (λ k l. h k (omega arith))) (h n (omega arith))
-
-same_truth : (a b : Bool) → (a ≡ true → b ≡ true) → (b ≡ true → a ≡ true) → a ≡ b
-same_truth true true f g = refl
-same_truth true false f g = sym (f refl)
-same_truth false true f g = g refl
-same_truth false false f g = refl
 
 -- what comes out where all chains shift at once is what comes out of each alone
 pub output-is : (chains : Chains) (cells : List Symbol) (call : ScanCall) → AreChains chains → HasCells chains cells → IsCallFor chains call → (k n : ℕ) → k ≤ call.shifts → n < length chains.chains

@@ -1,7 +1,7 @@
 -- A STIL text has one split at most: its tokens.
 use Rattle.std.proofs.Common.{◌≡◌, ℕ, zero, suc, ◌+◌, ◌<◌, ◌≤◌, Bool, true, false, cond, not, ◌&&◌, ◌||◌, eqb, List, [], ◌∷◌, ◌++◌, length, take, drop, get_or, refl, sym, ap, ◌∙◌, subst, inl, inr, arith}
 use Rattle.std.specs.List.{prefix_len, list_all}
-use Rattle.std.proofs.lemmas.Bool.{and_parts, and_right, cases_Bool, eqb-true}
+use Rattle.std.proofs.lemmas.Bool.{and_parts, and_right, cases_Bool, eqb-true, or_parts}
 use Rattle.token_forms.specs.declared.piece.Piece.{Piece}
 use Rattle.token_forms.specs.declared.piece.Piece.TheVariants.{Blank, Token}
 use Rattle.token_forms.specs.Pieces.{piece_len, span_of, tokens_from}
@@ -158,20 +158,16 @@ none_of false true z h = absurd cc
 none_of false false true h = absurd cc
 none_of false false false h = (refl, refl, refl)
 
-none_or : (x y : Bool) → (x || y) ≡ false → (x ≡ false) × (y ≡ false)
-none_or true y h = absurd cc
-none_or false y h = (refl, h)
-
 run_slash : (bs : List ℕ) → begins_comment (47 ∷ bs) ≡ false → slash_piece bs ≡ Token (1 + prefix_len is_run bs)
 unfolding slash_piece
 run_slash [] none = refl
-run_slash (c ∷ cs) none = let e = none_or (eqb c 47) (eqb c 42) none in rw (e.0, e.1) refl
+run_slash (c ∷ cs) none = let e = or_parts (eqb c 47) (eqb c 42) none in rw (e.0, e.1) refl
 
 run_piece : (b : ℕ) (bs : List ℕ) → is_run b ≡ true → begins_comment (b ∷ bs) ≡ false → piece_at (b ∷ bs) ≡ Token (1 + prefix_len is_run bs)
 unfolding piece_at
 run_piece b bs r none =
     let e = none_of (is_blank b) (is_quote b) (is_mark b) r in
-    let f = none_or (eqb b 123) _ e.2 in
+    let f = or_parts (eqb b 123) _ e.2 in
     elim (cases_Bool (eqb b 47)) [
       | inl s ↦ let same = eqb-true b 47 s in let none' : begins_comment (47 ∷ bs) ≡ false = subst (λ (x : ℕ). begins_comment (x ∷ bs) ≡ false) same none in rw same (run_slash bs none')
       | inr s ↦ cond_no (is_blank b) _ _ e.0 ∙ cond_no (is_quote b) _ _ e.1 ∙ cond_no (eqb b 123) _ _ f.0 ∙ cond_no (is_mark b) _ _ e.2 ∙ cond_no (eqb b 47) _ _ s

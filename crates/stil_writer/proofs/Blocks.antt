@@ -1,7 +1,7 @@
 -- The block of a written call by its pieces, and what its tokens spell.
 use Rattle.std.proofs.Common.{◌≡◌, ℕ, ◌+◌, ◌<◌, Bool, true, false, eqb, ◌&&◌, not, List, [], ◌∷◌, ◌++◌, length, All, Option, Some, None, refl, sym, ap, ◌∙◌, arith, append_assoc}
 use Rattle.std.specs.List.{list_all, prefix_len}
-use Rattle.std.proofs.lemmas.Bool.{true≢false}
+use Rattle.std.proofs.lemmas.Bool.{not-true}
 use Rattle.std.proofs.lemmas.List.Elements.{All-head, All-tail}
 use Rattle.std.proofs.lemmas.List.Sums.{list_all-from_AllPass}
 use Rattle.token_forms.specs.declared.piece.Piece.TheVariants.{Blank, Token as token}
@@ -63,17 +63,13 @@ lines_bytes (c ∷ cs) (load ∷ loads) (compare ∷ compares) more =
     ∙ ap (λ (l : List ℕ). side_line c.scan_in load ++ l) (sym (append_assoc (side_line c.scan_out compare) rest (bytes_in more)))
     ∙ sym (append_assoc (side_line c.scan_in load) (side_line c.scan_out compare ++ rest) (bytes_in more))
 
-pub not_true : (t : Bool) → not t ≡ true → t ≡ false
-not_true true e = absurd (true≢false (sym e))
-not_true false e = refl
-
 -- each is a piece by itself
 quoted_whole : (port z : List ℕ) → is_plain port ≡ true → quoted_len 34 ((port ++ 34 ∷ []) ++ z) ≡ length (port ++ 34 ∷ [])
 quoted_whole [] z e = refl
 quoted_whole (b ∷ bs) z e =
     and_one (not (eqb b 34) && not (eqb b 92)) (is_plain bs) (quoted_len 34 (((b ∷ bs) ++ 34 ∷ []) ++ z) ≡ length ((b ∷ bs) ++ 34 ∷ [])) e
     (λ f g. and_one (not (eqb b 34)) (not (eqb b 92)) (quoted_len 34 (((b ∷ bs) ++ 34 ∷ []) ++ z) ≡ length ((b ∷ bs) ++ 34 ∷ [])) f
-    (λ h i. let k : eqb b 34 ≡ false = not_true (eqb b 34) h in rw k (omega (arith, quoted_whole bs z g))))
+    (λ h i. let k : eqb b 34 ≡ false = not-true (eqb b 34) h in rw k (omega (arith, quoted_whole bs z g))))
 
 string_piece : (port z : List ℕ) → is_plain port ≡ true → piece_at ((34 ∷ (port ++ 34 ∷ [])) ++ z) ≡ token (length (34 ∷ (port ++ 34 ∷ [])))
 unfolding piece_at

@@ -1,7 +1,7 @@
 -- A written block closes with its last token, and with none before.
 use Rattle.std.proofs.Common.{◌≡◌, inl, inr, ℕ, ◌+◌, ◌-◌, ◌<◌, Bool, true, false, cond, eqb, ◌&&◌, ◌||◌, List, [], ◌∷◌, ◌++◌, length, All, Option, Some, None, refl, sym, ap, ◌∙◌, subst, arith, length-append}
 use Rattle.std.specs.List.{AllByRecursion as Each, list_all}
-use Rattle.std.proofs.lemmas.Bool.{cases_Bool, true≢false}
+use Rattle.std.proofs.lemmas.Bool.{cases_Bool, true≢false, or_parts}
 use Rattle.std.proofs.lemmas.Option.{same_Some}
 use Rattle.std.proofs.lemmas.List.Elements.{All-head, All-tail}
 use Rattle.std.proofs.lemmas.List.Sums.{list_all-from_AllPass}
@@ -130,10 +130,6 @@ plain_laid at [] e = tt
 plain_laid at ((true, w) ∷ ps) e = (e.0 refl, plain_laid (at + length w) ps e.1)
 plain_laid at ((false, w) ∷ ps) e = plain_laid (at + length w) ps e.1
 
-or_two : (t u : Bool) → (t || u) ≡ false → (t ≡ false) × (u ≡ false)
-or_two true u e = absurd (true≢false e)
-or_two false u e = (refl, e)
-
 and_true : (t : Bool) → (t && true) ≡ false → t ≡ false
 and_true true e = absurd (true≢false e)
 and_true false e = refl
@@ -145,7 +141,7 @@ pub record IsFlat (us ts us' : List Token) : Type 0 where
 
 first_inner : (w : List ℕ) (more : List Token) → is_only 123 w ≡ false → ((is_only 125 w && true) || closes_nothing (depth_behind 0 w) more) ≡ false → IsInner w × (closes_nothing 0 more ≡ false)
 first_inner w more o e =
-    let a = or_two (is_only 125 w && true) (closes_nothing (depth_behind 0 w) more) e in
+    let a = or_parts (is_only 125 w && true) (closes_nothing (depth_behind 0 w) more) e in
     let i : IsInner w = record { opening = o; closing = and_true (is_only 125 w) a.0 } in
     (i, ap (λ (n : ℕ). closes_nothing n more) (sym (same_depth 0 w i)) ∙ a.1)
 

@@ -2,8 +2,8 @@
 use Rattle.std.proofs.Common.{◌≡◌, ℕ, Bool, true, false, eqb, ◌&&◌, ◌||◌, inl, inr, List, [], ◌∷◌, ◌++◌, Option, Some, None, refl, sym, ap, ◌∙◌, subst}
 use Rattle.std.specs.List.{list_any, list_all}
 use Rattle.std.specs.Str.{bytes_eq}
-use Rattle.std.proofs.lemmas.Bool.{cases_Bool, true≢false, eqb-true}
-use Rattle.token_forms.proofs.Spelled.{same_bytes, same_text}
+use Rattle.std.proofs.lemmas.Bool.{cases_Bool, true≢false, eqb-true, or_parts}
+use Rattle.base_types.proofs.TruthValues.{bytes_are, bytes_same}
 use Rattle.stil_types.specs.declared.head.ScanChainDecl.{ScanChainDecl}
 use Rattle.stil_syntax.specs.declared.item.Item.{Item}
 use Rattle.stil_tokens.specs.StilTokens.{is_blank, is_quote, is_mark, is_run}
@@ -97,13 +97,9 @@ NoneIs name names = list_any (bytes_eq name) names ≡ false
 
 pub same_ways : (a b : List ℕ) → bytes_eq a b ≡ false → bytes_eq b a ≡ false
 same_ways a b e = elim (cases_Bool (bytes_eq b a)) [
-  | inl f ↦ absurd (let k = same_text a b (sym (same_bytes b a f)) in true≢false (sym k ∙ e))
+  | inl f ↦ absurd (let k = bytes_same a b (sym (bytes_are b a f)) in true≢false (sym k ∙ e))
   | inr f ↦ f
 ]
-
-pub none_or : (t u : Bool) → (t || u) ≡ false → (t ≡ false) × (u ≡ false)
-none_or true u e = absurd (true≢false e)
-none_or false u e = (refl, e)
 
 pub put_absent : (name key : List ℕ) (string : Option (List ℕ)) (more : List Item) → bytes_eq key name ≡ false → data_for (put_item key string more) name ≡ data_for more name
 put_absent name key None more e = refl
@@ -111,7 +107,7 @@ put_absent name key (Some bytes) more e = rw e refl
 
 pub put_present : (key : List ℕ) (string : Option (List ℕ)) (more : List Item) → data_for more key ≡ None → data_for (put_item key string more) key ≡ elim string [ None ↦ None | Some bytes ↦ Some (data_text bytes) ]
 put_present key None more e = e
-put_present key (Some bytes) more e = rw (same_text key key refl) refl
+put_present key (Some bytes) more e = rw (bytes_same key key refl) refl
 
 -- data for a name that is no port
 pub absent : (chains : List ScanChainDecl) (loads compares : List (Option (List ℕ))) (name : List ℕ) → NoneIs name (ports_of chains) → data_for (items_for chains loads compares) name ≡ None
@@ -119,6 +115,6 @@ absent [] loads compares name e = refl
 absent (c ∷ cs) [] compares name e = refl
 absent (c ∷ cs) (load ∷ loads) [] name e = refl
 absent (c ∷ cs) (load ∷ loads) (compare ∷ compares) name e =
-    let a = none_or (bytes_eq name c.scan_in) _ e in
-    let b = none_or (bytes_eq name c.scan_out) _ a.1 in
+    let a = or_parts (bytes_eq name c.scan_in) _ e in
+    let b = or_parts (bytes_eq name c.scan_out) _ a.1 in
     put_absent name c.scan_in load _ (same_ways name c.scan_in a.0) ∙ put_absent name c.scan_out compare _ (same_ways name c.scan_out b.0) ∙ absent cs loads compares name b.1

@@ -2,10 +2,10 @@
 use Rattle.std.specs.Prelude.{⊤}
 use Rattle.std.proofs.Common.{◌≡◌, ℕ, suc, ◌≤◌, Bool, true, false, ◌||◌, not, List, [], ◌∷◌, length, max, All, Option, Some, None, refl, sym, ap, ◌∙◌, subst, arith}
 use Rattle.std.specs.Str.{bytes_eq}
-use Rattle.std.proofs.lemmas.Bool.{true≢false}
+use Rattle.std.proofs.lemmas.Bool.{true≢false, or_parts}
 use Rattle.std.proofs.lemmas.List.Elements.{All-head, All-tail}
 use Rattle.std.proofs.lemmas.List.Sums.{list_all-from_AllPass}
-use Rattle.token_forms.proofs.Spelled.{same_text}
+use Rattle.base_types.proofs.TruthValues.{bytes_same}
 use Rattle.stil_types.specs.Calls.{IsStringOf, is_load_character, is_compare_character, IsCallOn, IsShortLoadOn, IsLongCompareOn, IsAcceptedOn, longest_string}
 use Rattle.stil_types.specs.declared.head.ScanChainDecl.{ScanChainDecl}
 use Rattle.stil_types.specs.declared.head.StilHead.{StilHead}
@@ -20,7 +20,7 @@ use Rattle.stil_calls.specs.Faults.{kind_of}
 use Rattle.stil_calls.specs.Scans.{has_name, gives_twice, data_for, port, given, is_port, is_foreign, is_unsound, has_unsound, is_short, is_long, is_vast, written_in, strings_of, bits_of, call_of, most_characters}
 use Rattle.stil_calls.proofs.Refusals.{long_law, short_law, vast_law}
 use Rattle.stil_writer.specs.Calls.{ports_of, AreOnce}
-use Rattle.stil_writer.proofs.Data.{data_text, data_written, data_sound, put_item, items_for, NoneIs, same_ways, none_or, put_absent, put_present, absent}
+use Rattle.stil_writer.proofs.Data.{data_text, data_written, data_sound, put_item, items_for, NoneIs, same_ways, put_absent, put_present, absent}
 
 -- a string as the data of an item
 abbrev pub as_data : Option (List ℕ) → Option (List ℕ)
@@ -36,12 +36,12 @@ AreGiven side (c ∷ cs) items (s ∷ ss) = (given side items c ≡ as_data s) �
 
 port_none : (side : Side) (key : List ℕ) (d : ScanChainDecl) (ds : List ScanChainDecl) → NoneIs key (ports_of (d ∷ ds)) → (bytes_eq key (port side d) ≡ false) × NoneIs key (ports_of ds)
 port_none Load key d ds e =
-    let a = none_or (bytes_eq key d.scan_in) _ e in
-    let b = none_or (bytes_eq key d.scan_out) _ a.1 in
+    let a = or_parts (bytes_eq key d.scan_in) _ e in
+    let b = or_parts (bytes_eq key d.scan_out) _ a.1 in
     (a.0, b.1)
 port_none Compare key d ds e =
-    let a = none_or (bytes_eq key d.scan_in) _ e in
-    let b = none_or (bytes_eq key d.scan_out) _ a.1 in
+    let a = or_parts (bytes_eq key d.scan_in) _ e in
+    let b = or_parts (bytes_eq key d.scan_out) _ a.1 in
     (b.0, b.1)
 
 -- an item of another name in front changes nothing
@@ -65,7 +65,7 @@ are_loads (c ∷ cs) (l ∷ ls) [] e f once = absurd (omega arith)
 are_loads (c ∷ cs) (l ∷ ls) (k ∷ ks) e f once =
     let rest = items_for cs ls ks in
     let inner = put_item c.scan_out k rest in
-    let a = none_or (bytes_eq c.scan_in c.scan_out) _ once.0 in
+    let a = or_parts (bytes_eq c.scan_in c.scan_out) _ once.0 in
     let more = are_loads cs ls ks (omega arith) (omega arith) once.1.1 in
     let none : data_for inner c.scan_in ≡ None = put_absent c.scan_in c.scan_out k rest (same_ways c.scan_in c.scan_out a.0) ∙ absent cs ls ks c.scan_in a.1 in (
       put_present c.scan_in l inner none ∙ as_is l,
@@ -80,7 +80,7 @@ are_compares (c ∷ cs) (l ∷ ls) [] e f once = absurd (omega arith)
 are_compares (c ∷ cs) (l ∷ ls) (k ∷ ks) e f once =
     let rest = items_for cs ls ks in
     let inner = put_item c.scan_out k rest in
-    let a = none_or (bytes_eq c.scan_in c.scan_out) _ once.0 in
+    let a = or_parts (bytes_eq c.scan_in c.scan_out) _ once.0 in
     let more = are_compares cs ls ks (omega arith) (omega arith) once.1.1 in (
       put_absent c.scan_out c.scan_in l inner a.0 ∙ (put_present c.scan_out k rest (absent cs ls ks c.scan_out once.1.0) ∙ as_is k),
       behind_item Compare cs c.scan_in l inner ks a.1 (behind_item Compare cs c.scan_out k rest ks once.1.0 more),
@@ -124,8 +124,8 @@ has_absent [] loads compares name e = refl
 has_absent (c ∷ cs) [] compares name e = refl
 has_absent (c ∷ cs) (load ∷ loads) [] name e = refl
 has_absent (c ∷ cs) (load ∷ loads) (compare ∷ compares) name e =
-    let a = none_or (bytes_eq name c.scan_in) _ e in
-    let b = none_or (bytes_eq name c.scan_out) _ a.1 in
+    let a = or_parts (bytes_eq name c.scan_in) _ e in
+    let b = or_parts (bytes_eq name c.scan_out) _ a.1 in
     has_put name c.scan_in load _ (same_ways name c.scan_in a.0) (has_put name c.scan_out compare _ (same_ways name c.scan_out b.0) (has_absent cs loads compares name b.1))
 
 twice_put : (key : List ℕ) (string : Option (List ℕ)) (more : List Item) → has_name more key ≡ false → gives_twice more ≡ false → gives_twice (put_item key string more) ≡ false
@@ -137,7 +137,7 @@ never_twice [] loads compares once = refl
 never_twice (c ∷ cs) [] compares once = refl
 never_twice (c ∷ cs) (load ∷ loads) [] once = refl
 never_twice (c ∷ cs) (load ∷ loads) (compare ∷ compares) once =
-    let a = none_or (bytes_eq c.scan_in c.scan_out) _ once.0 in
+    let a = or_parts (bytes_eq c.scan_in c.scan_out) _ once.0 in
     twice_put c.scan_in load _ (has_put c.scan_in c.scan_out compare _ (same_ways c.scan_in c.scan_out a.0) (has_absent cs loads compares c.scan_in a.1))
     (twice_put c.scan_out compare _ (has_absent cs loads compares c.scan_out once.1.0) (never_twice cs loads compares once.1.1))
 
@@ -154,7 +154,7 @@ wider_one false u rest e = absurd (true≢false e)
 wider : (c : ScanChainDecl) (cs : List ScanChainDecl) (items : List Item) → is_foreign cs items ≡ false → is_foreign (c ∷ cs) items ≡ false
 wider c cs [] e = refl
 wider c cs (i ∷ is) e =
-    let a = none_or (not (is_port cs i.name)) (is_foreign cs is) e in
+    let a = or_parts (not (is_port cs i.name)) (is_foreign cs is) e in
     wider_one (is_port cs i.name) (bytes_eq i.name c.scan_in || bytes_eq i.name c.scan_out) (is_foreign (c ∷ cs) is) (ap (λ (t : Bool). t || is_foreign (c ∷ cs) is) a.0 ∙ wider c cs is a.1) ∙ wider c cs is a.1
 
 or_right : (t u v : Bool) → u ≡ true → ((t || u) || v) ≡ true
@@ -163,10 +163,10 @@ or_right false true v e = refl
 or_right false false v e = absurd (true≢false (sym e))
 
 out_port : (c : ScanChainDecl) (cs : List ScanChainDecl) → is_port (c ∷ cs) c.scan_out ≡ true
-out_port c cs = or_right (bytes_eq c.scan_out c.scan_in) (bytes_eq c.scan_out c.scan_out) (is_port cs c.scan_out) (same_text c.scan_out c.scan_out refl)
+out_port c cs = or_right (bytes_eq c.scan_out c.scan_in) (bytes_eq c.scan_out c.scan_out) (is_port cs c.scan_out) (bytes_same c.scan_out c.scan_out refl)
 
 in_port : (c : ScanChainDecl) (cs : List ScanChainDecl) → is_port (c ∷ cs) c.scan_in ≡ true
-in_port c cs = ap (λ (t : Bool). (t || bytes_eq c.scan_in c.scan_out) || is_port cs c.scan_in) (same_text c.scan_in c.scan_in refl)
+in_port c cs = ap (λ (t : Bool). (t || bytes_eq c.scan_in c.scan_out) || is_port cs c.scan_in) (bytes_same c.scan_in c.scan_in refl)
 
 never_foreign : (chains : List ScanChainDecl) (loads compares : List (Option (List ℕ))) → is_foreign chains (items_for chains loads compares) ≡ false
 never_foreign [] loads compares = refl

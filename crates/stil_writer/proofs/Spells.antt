@@ -1,16 +1,16 @@
 -- The tokens of a written block spell the items that were meant.
-use Rattle.std.proofs.Common.{◌≡◌, inl, inr, ℕ, ◌+◌, ◌-◌, Bool, true, false, eqb, ◌&&◌, ◌||◌, not, List, [], ◌∷◌, ◌++◌, length, take, map, codes, All, Option, Some, None, refl, sym, ap, ◌∙◌, subst, arith, append_assoc, length-append}
+use Rattle.std.proofs.Common.{◌≡◌, inl, inr, ℕ, ◌+◌, ◌-◌, Bool, true, false, eqb, ◌&&◌, not, List, [], ◌∷◌, ◌++◌, length, take, map, codes, All, Option, Some, None, refl, sym, ap, ◌∙◌, subst, arith, append_assoc, length-append}
 use Rattle.std.specs.List.{AllByRecursion as Each, flat_map, list_all}
 use Rattle.std.specs.Str.{bytes_eq}
-use Rattle.std.proofs.lemmas.Bool.{cases_Bool, true≢false, eq-eqb}
+use Rattle.std.proofs.lemmas.Bool.{cases_Bool, true≢false, eq-eqb, or_from, or_parts, not-true}
 use Rattle.std.proofs.lemmas.List.Elements.{All-head, All-tail}
 use Rattle.std.proofs.lemmas.List.Sums.{list_all-from_AllPass}
 use Rattle.base_types.specs.Names.{plain_name}
+use Rattle.base_types.proofs.TruthValues.{bytes_are}
 use Rattle.token_forms.specs.Classes.{But, is_in, is_among}
 use Rattle.token_forms.specs.Tokens.{Token}
 use Rattle.token_forms.specs.Parts.{token_texts}
 use Rattle.token_forms.specs.Forms.{IsWord, AreMany, key, put_all, gathered, made, ◌◂◌}
-use Rattle.token_forms.proofs.Spelled.{same_bytes}
 use Rattle.token_forms.proofs.Joined.{no_texts, cut_texts, word_joined, text_joined, back_joined, Joins, many_joined}
 use Rattle.stil_types.specs.Calls.{IsStringOf, is_load_character, is_compare_character}
 use Rattle.stil_types.specs.declared.head.ScanChainDecl.{ScanChainDecl}
@@ -24,7 +24,7 @@ use Rattle.stil_calls.specs.Repeats.{is_character}
 use Rattle.stil_writer.specs.Calls.{is_plain, ports_of}
 use Rattle.stil_writer.proofs.Data.{IsDatum, datum, and_one, data_text, put_item, items_for}
 use Rattle.stil_writer.proofs.Lays.{laid}
-use Rattle.stil_writer.proofs.Blocks.{put_data, put_line, put_side, put_lines, not_true}
+use Rattle.stil_writer.proofs.Blocks.{put_data, put_line, put_side, put_lines}
 
 -- the texts of the tokens among pieces
 abbrev pub piece_texts : List (Bool × List ℕ) → List (List ℕ)
@@ -113,7 +113,7 @@ all_good (c ∷ cs) (load ∷ loads) (compare ∷ compares) p a b =
 pub plain_same : (port : List ℕ) → is_plain port ≡ true → plain_name port ≡ port
 plain_same [] e = refl
 plain_same (b ∷ bs) e = and_one (not (eqb b 34) && not (eqb b 92)) (is_plain bs) (plain_name (b ∷ bs) ≡ b ∷ bs) e
-    (λ f g. and_one (not (eqb b 34)) (not (eqb b 92)) (plain_name (b ∷ bs) ≡ b ∷ bs) f (λ h i. let k = not_true (eqb b 92) i in rw k (ap (λ (l : List ℕ). b ∷ l) (plain_same bs g))))
+    (λ f g. and_one (not (eqb b 34)) (not (eqb b 92)) (plain_name (b ∷ bs) ≡ b ∷ bs) f (λ h i. let k = not-true (eqb b 92) i in rw k (ap (λ (l : List ℕ). b ∷ l) (plain_same bs g))))
 
 take_first : (x w : List ℕ) → take (length x) (x ++ w) ≡ x
 take_first [] w = refl
@@ -131,32 +131,24 @@ name_spelled port (t ∷ []) e =
     let k : t.text ≡ 34 ∷ (port ++ 34 ∷ []) = cc in
     Quoted t refl (ap is_string k) (ap inner k ∙ inner_is port)
 
-or_none : (t u : Bool) → t ≡ false → u ≡ false → (t || u) ≡ false
-or_none true u e f = absurd (true≢false e)
-or_none false u e f = f
-
 is_not : (b n : ℕ) (bs : List ℕ) → eqb b n ≡ false → bytes_eq (b ∷ bs) (n ∷ []) ≡ false
 is_not b n bs e = elim (cases_Bool (bytes_eq (b ∷ bs) (n ∷ []))) [
-  | inl f ↦ absurd (let k : b ≡ n = (let s = same_bytes (b ∷ bs) (n ∷ []) f in cc) in true≢false (sym (eq-eqb b n k) ∙ e))
+  | inl f ↦ absurd (let k : b ≡ n = (let s = bytes_are (b ∷ bs) (n ∷ []) f in cc) in true≢false (sym (eq-eqb b n k) ∙ e))
   | inr f ↦ f
 ]
 
-or_two : (t u : Bool) → (t || u) ≡ false → (t ≡ false) × (u ≡ false)
-or_two true u e = absurd (true≢false e)
-or_two false u e = (refl, e)
-
 pub marks_none : (b : ℕ) → IsDatum b → (eqb b 125 ≡ false) × (eqb b 59 ≡ false)
 marks_none b d =
-    let a = or_two (eqb b 123) _ d.mark in
-    let c = or_two (eqb b 125) _ a.1 in
-    let f = or_two (eqb b 59) _ c.1 in
+    let a = or_parts (eqb b 123) _ d.mark in
+    let c = or_parts (eqb b 125) _ a.1 in
+    let f = or_parts (eqb b 59) _ c.1 in
     (c.0, f.0)
 
 among : (side : Side) (b : ℕ) (bs : List ℕ) → is_character side b ≡ true → is_among ends_data (b ∷ bs) ≡ true → ⊥
 among side b bs e f =
     let d = datum side b e in
     let m = marks_none b d in
-    let none : is_among ends_data (b ∷ bs) ≡ false = or_none _ _ (is_not b 59 bs m.1) (or_none _ _ (is_not b 123 bs d.brace) (or_none _ _ (is_not b 125 bs m.0) refl)) in
+    let none : is_among ends_data (b ∷ bs) ≡ false = or_from _ _ (is_not b 59 bs m.1) (or_from _ _ (is_not b 123 bs d.brace) (or_from _ _ (is_not b 125 bs m.0) refl)) in
     true≢false (sym f ∙ none)
 
 nil_behind : (ts : List Token) → ts ++ [] ≡ ts

@@ -2,27 +2,18 @@
 use Rattle.std.proofs.Common.{◌≡◌, ◌≤◌, ◌-◌, ◌==◌, ℕ, zero, suc, Bool, true, false, ◌&&◌, not, if◌then◌else◌, List, [], ◌∷◌, ◌++◌, length, take, Option, Some, None, IsSomeAnd, inl, inr, refl, sym, ap, ◌∙◌, subst, append_assoc, arith, codes, length-append}
 use Prim.Native.String.{String}
 use Rattle.std.specs.Str.{bytes_eq}
-use Rattle.std.proofs.lemmas.Slice.Eq.{bytes_eq-Decides}
-use Rattle.std.proofs.lemmas.Bool.{eqb-true}
-use Rattle.std.proofs.Math.Seq.{take-append_seam}
-use Rattle.std.proofs.lemmas.Bool.{eqb-true}
+use Rattle.std.proofs.lemmas.Bool.{eqb-true, false_from_ne_true, and_parts, or_parts, not-true}
 use Rattle.std.proofs.Math.Seq.{take-append_seam}
 use Rattle.std.proofs.lemmas.Option.{option_and_then_some, cond_some, same_Some}
 use Rattle.token_forms.specs.Tokens.{Token, place_of, run_place, front_of}
 use Rattle.base_types.specs.declared.span.Span.{Span}
+use Rattle.base_types.proofs.TruthValues.{bytes_self, bytes_are}
 use Rattle.token_forms.specs.Parsing.{◌>>=◌, word_at}
-use Rattle.token_forms.proofs.Spelled.{same_bytes, choose}
+use Rattle.token_forms.proofs.Spelled.{choose}
 use Rattle.token_forms.specs.Classes.{Class, Only, is_in, is_in_any, all_apart, begins}
 use Rattle.token_forms.specs.Forms.{Form, IsWord, word, key, IsText, text_at, text, ◌&◌, made, ◌▸◌, ◌◂◌, ◌only_if◌, ◌or◌, maybe, AreMany, many_within, many_at, many, some, listed, Passing, depth_behind, AllPass, passes_at, passed, at, between, made_if, put_all, gathered_at, gathered}
 use Rattle.token_forms.specs.Laws.{Stands, IsLawful}
-use Rattle.token_forms.proofs.ClassLemmas.{both, neither, not_true, any_apart, not_begins, in_left, in_right}
-
-same_text : (w : List ℕ) → bytes_eq w w ≡ true
-same_text w = (bytes_eq-Decides w w).1 refl
-
-not_in : (b : Bool) → (b ≡ true → ⊥) → b ≡ false
-not_in true never = absurd (never refl)
-not_in false never = refl
+use Rattle.token_forms.proofs.ClassLemmas.{any_apart, not_begins, in_left, in_right}
 
 same_head : {X : Type 0} (x y : X) (xs ys : List X) → (x ∷ xs) ≡ (y ∷ ys) → x ≡ y
 same_head x y xs ys e = cc
@@ -33,14 +24,14 @@ unfolding word_at
 word-spelled w [] x rest e = absurd cc
 word-spelled w (t ∷ ts) x rest e =
     let c = cond_some (bytes_eq t.text w) (tt, ts) _ e in
-    record { front = t ∷ []; is = ap (λ (p : Unit {0} × List Token). t ∷ p.1) c.1; holds = record { token = t; is = refl; text = same_bytes t.text w c.0 } }
+    record { front = t ∷ []; is = ap (λ (p : Unit {0} × List Token). t ∷ p.1) c.1; holds = record { token = t; is = refl; text = bytes_are t.text w c.0 } }
 
 word-read : (w : List ℕ) (t : Token) (rest : List Token) → t.text ≡ w → word_at w (t ∷ rest) ≡ Some (tt, rest)
 unfolding word_at
-word-read w t rest is = rw (is, same_text w)
+word-read w t rest is = rw (is, bytes_self w)
 
 one_word : (w text : List ℕ) → text ≡ w → is_in_any (Only (w ∷ []) ∷ []) text ≡ true
-one_word w text is = rw (is, same_text w)
+one_word w text is = rw (is, bytes_self w)
 
 pub word-lawful : (w : List ℕ) → IsLawful (word w)
 word-lawful w = record {
@@ -56,7 +47,7 @@ unfolding text_at
 text-spelled kind test [] x rest e = absurd cc
 text-spelled kind test (t ∷ ts) x rest e =
     let c = cond_some (is_in kind t.text && test t.text) (t.text, ts) _ e in
-    let h = both (is_in kind t.text) (test t.text) c.0 in
+    let h = and_parts (is_in kind t.text) (test t.text) c.0 in
     subst (λ (p : List ℕ × List Token). Stands (IsText kind test p.0) (t ∷ ts) p.1) c.1
     (record { front = t ∷ []; is = refl; holds = record { token = t; is = refl; text = refl; kind_is = h.0; passes = h.1 } })
 
@@ -91,15 +82,15 @@ module _ {A B : Type 0} (a : Form A) (b : Form B) (la : IsLawful a) (lb : IsLawf
       → begins (b.goes_on ++ (if m then a.goes_on else [])) rest ≡ false → begins a.goes_on (v ++ rest) ≡ false
   ends true is far y [] rest s behind = (not_begins b.goes_on a.goes_on rest behind).1
   ends false is far y [] rest s behind = absurd (lb.not_empty is y s)
-  ends m is far y (t ∷ v) rest s behind = not_in _ (λ i. any_apart a.goes_on b.starts t.text far i (lb.first y t v s))
+  ends m is far y (t ∷ v) rest s behind = false_from_ne_true _ (λ i. any_apart a.goes_on b.starts t.text far i (lb.first y t v s))
 
   seq-step : (x : A) (y : B) (u v rest : List Token) → a.reads (u ++ (v ++ rest)) ≡ Some (x, v ++ rest) → b.reads (v ++ rest) ≡ Some (y, rest) → (a & b).reads (u ++ (v ++ rest)) ≡ Some ((x, y), rest)
   seq-step x y u v rest r s = rw (r, s)
 
   seq-read : (a & b).is_clear ≡ true → (x : A × B) (front rest : List Token) → (a & b).spells x front → begins (a & b).goes_on rest ≡ false → (a & b).reads (front ++ rest) ≡ Some (x, rest)
   seq-read clear x front rest s behind =
-      let c = both a.is_clear _ clear in
-      let d = both b.is_clear _ c.1 in
+      let c = and_parts a.is_clear _ clear in
+      let d = and_parts b.is_clear _ c.1 in
       let r = la.read c.0 x.0 s.front (s.back ++ rest) s.first (ends b.may_be_empty refl d.1 x.1 s.back rest s.second behind) in
       let q = lb.read d.0 x.1 s.back rest s.second (not_begins b.goes_on _ rest behind).0 in
       ap (a & b).reads (ap (λ (f : List Token). f ++ rest) s.is ∙ append_assoc s.front s.back rest) ∙ seq-step x.0 x.1 s.front s.back rest r q
@@ -194,22 +185,22 @@ module _ {X : Type 0} (a b : Form X) (la : IsLawful a) (lb : IsLawful b) where
       other-read rest n.1 ∙ lb.read clear x [] rest s n.0
   read_other false is clear far x [] rest s behind = absurd (lb.not_empty is x s)
   read_other m is clear far x (t ∷ u) rest s behind =
-      other-read (t ∷ (u ++ rest)) (not_in _ (λ i. any_apart a.starts b.starts t.text far i (lb.first x t u s))) ∙ lb.read clear x (t ∷ u) rest s (not_begins b.goes_on _ rest behind).0
+      other-read (t ∷ (u ++ rest)) (false_from_ne_true _ (λ i. any_apart a.starts b.starts t.text far i (lb.first x t u s))) ∙ lb.read clear x (t ∷ u) rest s (not_begins b.goes_on _ rest behind).0
 
   or-read : (a or b).is_clear ≡ true → (x : X) (front rest : List Token) → (a or b).spells x front → begins (a or b).goes_on rest ≡ false → (a or b).reads (front ++ rest) ≡ Some (x, rest)
   or-read clear x front rest s behind =
-      let c = both (a.is_clear && not a.may_be_empty) _ clear in
-      let d = both a.is_clear _ c.0 in
-      let g = both b.is_clear _ c.1 in
+      let c = and_parts (a.is_clear && not a.may_be_empty) _ clear in
+      let d = and_parts a.is_clear _ c.0 in
+      let g = and_parts b.is_clear _ c.1 in
       let n = not_begins a.goes_on _ rest behind in
       elim s [
-        | inl one ↦ read_one d.0 (not_true _ d.1) x front rest one n.0
+        | inl one ↦ read_one d.0 (not-true _ d.1) x front rest one n.0
         | inr other ↦ read_other b.may_be_empty refl g.0 g.1 x front rest other n.1
       ]
 
   or-not_empty : (a or b).may_be_empty ≡ false → (x : X) → (a or b).spells x [] → ⊥
   or-not_empty never x s =
-      let n = neither a.may_be_empty b.may_be_empty never in
+      let n = or_parts a.may_be_empty b.may_be_empty never in
       elim s [ inl one ↦ la.not_empty n.0 x one | inr other ↦ lb.not_empty n.1 x other ]
 
   or-first : (x : X) (t : Token) (ts : List Token) → (a or b).spells x (t ∷ ts) → is_in_any (a or b).starts t.text ≡ true
@@ -237,9 +228,9 @@ module _ {X : Type 0} (a : Form X) (la : IsLawful a) where
 
   maybe-read : (maybe a).is_clear ≡ true → (x : Option X) (front rest : List Token) → (maybe a).spells x front → begins (maybe a).goes_on rest ≡ false → (maybe a).reads (front ++ rest) ≡ Some (x, rest)
   maybe-read clear None front rest s behind = rw s (maybe-none rest (not_begins a.goes_on a.starts rest behind).1)
-  maybe-read clear (Some x) [] rest s behind = absurd (la.not_empty (not_true _ (both a.is_clear _ clear).1) x s)
+  maybe-read clear (Some x) [] rest s behind = absurd (la.not_empty (not-true _ (and_parts a.is_clear _ clear).1) x s)
   maybe-read clear (Some x) (t ∷ u) rest s behind =
-      maybe-one x (t ∷ (u ++ rest)) rest (la.first x t u s) (la.read (both a.is_clear _ clear).0 x (t ∷ u) rest s (not_begins a.goes_on a.starts rest behind).0)
+      maybe-one x (t ∷ (u ++ rest)) rest (la.first x t u s) (la.read (and_parts a.is_clear _ clear).0 x (t ∷ u) rest s (not_begins a.goes_on a.starts rest behind).0)
 
   maybe-first : (x : Option X) (t : Token) (ts : List Token) → (maybe a).spells x (t ∷ ts) → is_in_any a.starts t.text ≡ true
   maybe-first None t ts s = absurd cc
@@ -288,7 +279,7 @@ module _ {X : Type 0} (a : Form X) (la : IsLawful a) where
   many-ends : all_apart a.goes_on a.starts ≡ true → (xs : List X) (v rest : List Token) → AreMany a.spells xs v
       → begins (a.goes_on ++ a.starts) rest ≡ false → begins a.goes_on (v ++ rest) ≡ false
   many-ends far xs [] rest s behind = (not_begins a.goes_on a.starts rest behind).0
-  many-ends far xs (t ∷ v) rest s behind = not_in _ (λ i. any_apart a.goes_on a.starts t.text far i (many-first xs t v s))
+  many-ends far xs (t ∷ v) rest s behind = false_from_ne_true _ (λ i. any_apart a.goes_on a.starts t.text far i (many-first xs t v s))
 
   Reads : ℕ → List X → List Token → List Token → Type 0
   Reads n xs ts rest = many_within a.starts a.reads n ts ≡ Some (xs, rest)
@@ -319,9 +310,9 @@ module _ {X : Type 0} (a : Form X) (la : IsLawful a) where
   many-read : (many a).is_clear ≡ true → (xs : List X) (front rest : List Token) → (many a).spells xs front → begins (many a).goes_on rest ≡ false → (many a).reads (front ++ rest) ≡ Some (xs, rest)
   unfolding many_at Reads
   many-read clear xs front rest s behind =
-      let c = both a.is_clear _ clear in
-      let d = both (not a.may_be_empty) _ c.1 in
-      within-read (not_true _ d.0) c.0 d.1 (length (front ++ rest)) xs front rest (omega (arith, length-append front rest)) s behind
+      let c = and_parts a.is_clear _ clear in
+      let d = and_parts (not a.may_be_empty) _ c.1 in
+      within-read (not-true _ d.0) c.0 d.1 (length (front ++ rest)) xs front rest (omega (arith, length-append front rest)) s behind
 
   pub many-lawful : IsLawful (many a)
   many-lawful = record { spelled = many-spelled; read = many-read; first = many-first; not_empty = λ never x s. absurd cc }
@@ -393,8 +384,8 @@ module _ {A : Type 0} (w : String) (a : Form A) (v : String) (la : IsLawful a) w
 
   between-read : (between w a v).is_clear ≡ true → (x : A × Span) (front rest : List Token) → (between w a v).spells x front → (between w a v).reads (front ++ rest) ≡ Some (x, rest)
   between-read clear x front rest s =
-      let c = both a.is_clear _ clear in
-      let far : begins a.goes_on (s.next ∷ rest) ≡ false = not_in _ (λ i. any_apart a.goes_on (Only (codes v ∷ []) ∷ []) s.next.text c.1 i (one_word (codes v) s.next.text s.closes)) in
+      let c = and_parts a.is_clear _ clear in
+      let far : begins a.goes_on (s.next ∷ rest) ≡ false = false_from_ne_true _ (λ i. any_apart a.goes_on (Only (codes v ∷ []) ∷ []) s.next.text c.1 i (one_word (codes v) s.next.text s.closes)) in
       let whole : front ++ rest ≡ s.mark ∷ (s.run ++ s.next ∷ rest) = ap (λ (f : List Token). f ++ rest) s.is ∙ ap (λ (r : List Token). s.mark ∷ r) (append_assoc s.run (s.next ∷ []) rest) in
       ap (between w a v).reads whole
       ∙ between-step x.0 x.1 (s.mark ∷ (s.run ++ s.next ∷ rest)) (s.run ++ s.next ∷ rest) (s.next ∷ rest) rest (word-read (codes w) s.mark (s.run ++ s.next ∷ rest) s.opens)
@@ -434,9 +425,9 @@ module _ (p : Passing) where
 
   stays_out : (text : List ℕ) → is_in_any (Only (p.opens ∷ []) ∷ p.outside ∷ []) text ≡ false → depth_behind p 0 text ≡ None
   stays_out text e =
-      let n = neither (is_in (Only (p.opens ∷ [])) text) _ e in
-      let m = neither (is_in p.outside text) false n.1 in
-      let k = neither (bytes_eq text p.opens) false n.0 in
+      let n = or_parts (is_in (Only (p.opens ∷ [])) text) _ e in
+      let m = or_parts (is_in p.outside text) false n.1 in
+      let k = or_parts (bytes_eq text p.opens) false n.0 in
       rw (k.0, m.0)
 
   unfolds : (depth : ℕ) (t : Token) (ts : List Token) → passes_at p depth (t ∷ ts) ≡ next depth t ts (depth_behind p depth t.text)

@@ -1,11 +1,12 @@
 -- Names of which each stands once, and the chain that asks for the 257th path.
-use Rattle.std.proofs.Common.{◌≡◌, ℕ, zero, suc, ◌<◌, ◌≤◌, ◌⊎◌, inl, inr, Bool, true, false, cond, ◌||◌, List, [], ◌∷◌, ◌++◌, length, get_or, Contains, refl, sym, ap, ◌∙◌, subst, append_assoc, arith}
+use Rattle.std.proofs.Common.{◌≡◌, ℕ, zero, suc, ◌<◌, ◌≤◌, ◌⊎◌, inl, inr, Bool, true, false, cond, List, [], ◌∷◌, ◌++◌, length, get_or, Contains, refl, sym, ap, ◌∙◌, subst, append_assoc, arith}
 use Rattle.std.specs.List.{list_any, filter_map}
 use Rattle.std.specs.Str.{bytes_eq}
 use Rattle.std.proofs.Math.Seq.{get_or-append_seam}
 use Rattle.std.proofs.lemmas.List.{get_or_default}
 use Rattle.std.proofs.lemmas.List.Elements.{filter_map-append}
 use Rattle.std.proofs.lemmas.Slice.Eq.{bytes_eq-Decides}
+use Rattle.base_types.proofs.TruthValues.{or_second, or_first}
 use Rattle.netlist_core.specs.Netlists.{AreDistinct}
 use Rattle.traced_paths.specs.Asked.{Asked, once_behind, outputs_of}
 use Rattle.traced_paths.specs.Traced.{AsksTooMany}
@@ -20,19 +21,11 @@ distinct_cons x xs apart new zero (suc j) d li lj e = let lt : j < length xs = o
 distinct_cons x xs apart new (suc i) zero d li lj e = let lt : i < length xs = omega arith in absurd (new (i, lt, get_or_default xs i x d lt ∙ e))
 distinct_cons x xs apart new (suc i) (suc j) d li lj e = ap suc (apart i j d (omega arith) (omega arith) e)
 
-or_right : (a b : Bool) → (a || b) ≡ false → b ≡ false
-or_right true b e = absurd cc
-or_right false b e = e
-
-or_left : (a b : Bool) → (a || b) ≡ false → a ≡ false
-or_left true b e = absurd cc
-or_left false b e = refl
-
 out_case : (before ns : List (List ℕ)) (n x : List ℕ) (t : Bool) → any n before ≡ t → (Contains (once_behind before ns) x → any x before ≡ false) → (Contains (once_behind (n ∷ before) ns) x → any x (n ∷ before) ≡ false)
     → Contains (cond t (once_behind before ns) (n ∷ once_behind (n ∷ before) ns)) x → any x before ≡ false
 out_case before ns n x true is f g h = f h
 out_case before ns n x false is f g (zero, lt, e) = ap (λ (l : List ℕ). any l before) (sym e) ∙ is
-out_case before ns n x false is f g (suc k, lt, e) = or_right (bytes_eq x n) (any x before) (g (k, omega arith, e))
+out_case before ns n x false is f g (suc k, lt, e) = or_second (bytes_eq x n) (any x before) (g (k, omega arith, e))
 
 -- what stood before isn't among them
 out : (before names : List (List ℕ)) (x : List ℕ) → Contains (once_behind before names) x → any x before ≡ false
@@ -49,7 +42,7 @@ unfolding once_behind
 once_distinct before [] = λ i j d li lj e. absurd (omega arith)
 once_distinct before (n ∷ ns) =
     distinct_case (once_behind before ns) (once_behind (n ∷ before) ns) n (any n before) (once_distinct before ns) (once_distinct (n ∷ before) ns)
-    (λ h. let no = or_left (bytes_eq n n) (any n before) (out (n ∷ before) ns n h) in let yes = (bytes_eq-Decides n n).1 refl in absurd cc)
+    (λ h. let no = or_first (bytes_eq n n) (any n before) (out (n ∷ before) ns n h) in let yes = (bytes_eq-Decides n n).1 refl in absurd cc)
 
 longer_case : (a b c d : List (List ℕ)) (n : List ℕ) (t : Bool) → length a ≤ length c → length b ≤ length d → length (cond t a (n ∷ b)) ≤ length (cond t c (n ∷ d))
 longer_case a b c d n true p q = p

@@ -8,6 +8,7 @@ use Rattle.std.proofs.lemmas.List.{length-map, get_or-map, get_or_default}
 use Rattle.std.proofs.lemmas.List.Elements.{All-contains}
 use Rattle.std.proofs.lemmas.List.Folds.{Any-from_list_any, list_any_at}
 use Rattle.std.proofs.lemmas.Slice.Eq.{bytes_eq-Decides}
+use Rattle.base_types.proofs.TruthValues.{and_first, and_second}
 use Rattle.netlist_core.specs.declared.netlist.NetId.{NetId}
 use Rattle.netlist_core.specs.declared.netlist.Direction.{Direction}
 use Rattle.netlist_core.specs.declared.netlist.NetName.{NetName}
@@ -16,7 +17,7 @@ use Rattle.netlist_core.specs.declared.netlist.Netlist.{Netlist}
 use Rattle.netlist_core.specs.Netlists.{plain_of, AreDistinct, IsNetlist}
 use Rattle.chain_trace.specs.Paths.{has_port}
 use Rattle.chain_trace.specs.Named.{IsPortNamed}
-use Rattle.chain_trace.proofs.Ranges.{and_left, and_right, port_within}
+use Rattle.chain_trace.proofs.Ranges.{port_within}
 
 in_more : {X : Type 0} (x y : X) (xs : List X) → Contains xs y → Contains (x ∷ xs) y
 in_more x y xs h = (suc h.0, (let lt = h.1 in omega arith), h.2)
@@ -105,8 +106,8 @@ module _ (n : Netlist) (sound : IsNetlist n) where
         record {
           port = q;
           there = (any.0, any.2, get_or_default n.ports any.0 q q any.2 ∙ any.3);
-          net_is_it = net_is q.net net (eqb-true q.net.0 net.0 (and_left (q.net.0 == net.0) (test q.direction) any.4));
-          passes = and_right (q.net.0 == net.0) (test q.direction) any.4;
+          net_is_it = net_is q.net net (eqb-true q.net.0 net.0 (and_first (q.net.0 == net.0) (test q.direction) any.4));
+          passes = and_second (q.net.0 == net.0) (test q.direction) any.4;
         }
 
     -- a port of such a direction that has the name is the one that is found

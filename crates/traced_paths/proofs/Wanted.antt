@@ -4,7 +4,6 @@ use Rattle.std.specs.Prelude.{IsTrue}
 use Rattle.std.specs.List.{list_any, filter_map, cons_option}
 use Rattle.std.specs.HashSet.{HashSet, contains}
 use Rattle.std.specs.Str.{bytes_eq}
-use Rattle.std.proofs.lemmas.Bool.Decides.{same_from_decides, Decides-like}
 use Rattle.std.proofs.lemmas.List.{length-append, length-map, map-append, append-nil, get_or-map, get_or_default, take_all, take-append-drop, append_assoc}
 use Rattle.std.proofs.lemmas.List.Elements.{All-push, filter_map-append}
 use Rattle.std.proofs.lemmas.List.Folds.{list_any-append}
@@ -18,22 +17,16 @@ use Rattle.base_types.specs.declared.fault.Fault.{Fault}
 use Rattle.base_types.specs.declared.fault.FileKind.{FileKind}
 use Rattle.base_types.specs.declared.kind.Kind.TheVariants.{TooManyPaths}
 use Rattle.base_types.specs.Faults.{at_line}
+use Rattle.base_types.proofs.TruthValues.{bytes_turned, or_false}
 use Rattle.def_reader.proofs.RowsMore.{map_next}
 use Rattle.traced_paths.specs.declared.asks.Ask.{Ask}
 use Rattle.traced_paths.specs.Asked.{Asked, once_behind, outputs_of}
 use Rattle.traced_paths.specs.Traced.{LacksPort}
 use Rattle.traced_paths.specs.Steps.{told, AreOutputs, HaveOutputs, AreFull, IsTooMany}
 
-pub bytes_sym : (a b : List ℕ) → bytes_eq a b ≡ bytes_eq b a
-bytes_sym a b = same_from_decides (bytes_eq a b) (bytes_eq b a) (bytes_eq-Decides a b) (Decides-like (bytes_eq b a) (λ e. sym e) (λ e. sym e) (bytes_eq-Decides b a))
-
 any_flip : (name : List ℕ) (xs : List (List ℕ)) → list_any (bytes_eq name) xs ≡ list_any (λ x. bytes_eq x name) xs
 any_flip name [] = refl
-any_flip name (x ∷ xs) = ap₂ ◌||◌ (bytes_sym name x) (any_flip name xs)
-
-or_none : (a : Bool) → (a || false) ≡ a
-or_none true = refl
-or_none false = refl
+any_flip name (x ∷ xs) = ap₂ ◌||◌ (bytes_turned name x) (any_flip name xs)
 
 or_swap : (a b c : Bool) → ((a || b) || c) ≡ (b || (a || c))
 or_swap true true c = refl
@@ -59,7 +52,7 @@ push_case before xs x name false e f =
 -- one name more
 once_push : (before names : List (List ℕ)) (name : List ℕ) → once_behind before (names ++ name ∷ []) ≡ once_behind before names ++ unless (any name before || any name (once_behind before names)) name
 unfolding once_behind
-once_push before [] name = ap (λ b. unless b name) (sym (or_none (any name before)))
+once_push before [] name = ap (λ b. unless b name) (sym (or_false (any name before)))
 once_push before (x ∷ xs) name = push_case before xs x name (any x before) (once_push before xs name) (once_push (x ∷ before) xs name)
 
 named_last : (asked : List Asked) (one : Asked) → filter_map (λ a. a.output) (asked ++ one ∷ []) ≡ filter_map (λ a. a.output) asked ++ cons_option one.output []

@@ -5,8 +5,8 @@ use Rattle.std.specs.List.{flat_map, list_any, list_all}
 use Rattle.std.specs.Str.{bytes_eq}
 use Rattle.std.proofs.lemmas.Bool.{leb-true}
 use Rattle.std.proofs.lemmas.List.Elements.{All-nil, All-cons, All-append}
+use Rattle.base_types.proofs.TruthValues.{and_first, and_second}
 use Rattle.token_forms.specs.Tokens.{Token}
-use Rattle.path_links.proofs.PathSame.{and_left, and_right}
 use Rattle.stil_types.specs.declared.head.StilHead.{StilHead}
 use Rattle.stil_types.specs.declared.statement.PatternStatement.{PatternStatement}
 use Rattle.stil_tokens.specs.StilTokens.{tokens_in}
@@ -47,7 +47,7 @@ times_above text = by (list_all is_digit text && is_times (count_from 0 text)) r
   by : (b : Bool) → (list_all is_digit text && is_times (count_from 0 text)) ≡ b → IsAbove (cond b (Some (count_from 0 text)) None)
   by false e = tt
   by true e =
-      let low = and_left (nat_le 1 (count_from 0 text)) (nat_le (count_from 0 text) 1000000) (and_right (list_all is_digit text) (is_times (count_from 0 text)) e) in
+      let low = and_first (nat_le 1 (count_from 0 text)) (nat_le (count_from 0 text) 1000000) (and_second (list_all is_digit text) (is_times (count_from 0 text)) e) in
       let one = leb-true 1 (count_from 0 text) low in
       omega (arith, one)
 

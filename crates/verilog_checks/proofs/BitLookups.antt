@@ -3,9 +3,9 @@ use Rattle.std.proofs.Common.{◌≡◌, ℕ, zero, suc, ◌+◌, ◌-◌, ◌<�
 use Rattle.std.specs.Prelude.{◌==◌}
 use Rattle.std.specs.List.{list_any}
 use Rattle.std.specs.Str.{bytes_eq}
-use Rattle.std.proofs.lemmas.Bool.{cases_eq, cases_Bool}
+use Rattle.std.proofs.lemmas.Bool.{cases_eq, cases_Bool, false_from_ne_true, and_parts}
 use Rattle.std.proofs.lemmas.Bool.Decides.{nat_tests}
-use Rattle.std.proofs.lemmas.Slice.Eq.{bytes_eq-Decides}
+use Rattle.base_types.proofs.TruthValues.{bytes_same, bytes_are, bytes_turned, or_true, and_false, same_truth}
 use Rattle.verilog_names.specs.declared.bounds.Bounds.{Bounds}
 use Rattle.verilog_names.specs.declared.declared.First.{First}
 use Rattle.verilog_names.specs.Values.{bit_name}
@@ -13,8 +13,7 @@ use Rattle.verilog_names.specs.Declarations.{Declaration, has, width, has_index,
 use Rattle.verilog_checks.specs.Checks.{has_bit_in, are_bits}
 use Rattle.verilog_names.specs.NameTables.{first_kept, kept_bounds}
 use Rattle.verilog_checks.specs.Seen.{is_small, have_small, is_bit}
-use Rattle.verilog_checks.proofs.AnyLemmas.{or_true, and_false, not_true, and_parts, same_tests, any_same, any_and, any_swap}
-use Rattle.verilog_checks.proofs.NameLists.{name_symm}
+use Rattle.verilog_checks.proofs.AnyLemmas.{any_same, any_and, any_swap}
 use Rattle.verilog_checks.proofs.BitNames.{IsNoBit, same_bit}
 use Rattle.verilog_checks.proofs.Firsts.{bounds_is, declared_is}
 
@@ -59,7 +58,7 @@ has_is b i =
       | inl there ↦ some_from (λ j. j == i) b 0 (width b) (offset b i) (omega arith) (omega (arith, offset_within b i there)) (true_eq (index_at b (offset b i)) i (index_found b i there)) ∙ sym there
       | inr absent ↦
           none_from (λ j. j == i) b 0 (width b)
-          (λ m lt. not_true (index_at b m == i) (λ e. let wrong = sym absent ∙ sym (ap (has_index b) (eq_true (index_at b m) i e)) ∙ index_within b m (omega arith) in absurd cc))
+          (λ m lt. false_from_ne_true (index_at b m == i) (λ e. let wrong = sym absent ∙ sym (ap (has_index b) (eq_true (index_at b m) i e)) ∙ index_within b m (omega arith) in absurd cc))
           ∙ sym absent
     ]
 
@@ -67,16 +66,10 @@ pub same_from : (f g : ℕ → Bool) (b : Bounds) (k n : ℕ) → ((m : ℕ) →
 same_from f g b k zero h = refl
 same_from f g b k (suc n) h = ap (λ t. t || list_any f (indexes_from b (k + 1) n)) (h k (omega arith)) ∙ ap (λ t. g (index_at b k) || t) (same_from f g b (k + 1) n (λ m lt. h m (omega arith)))
 
-same_text : (x y : List ℕ) → x ≡ y → bytes_eq x y ≡ true
-same_text x y e = (bytes_eq-Decides x y).1 e
-
-text_same : (x y : List ℕ) → bytes_eq x y ≡ true → x ≡ y
-text_same x y e = (bytes_eq-Decides x y).0 e
-
 bit_test : (v : List ℕ) (i j : ℕ) → i ≤ 65535 → j ≤ 65535 → bytes_eq (bit_name v j) (bit_name v i) ≡ (j == i)
 bit_test v i j hi hj =
-    same_tests (bytes_eq (bit_name v j) (bit_name v i)) (j == i) (λ e. true_eq j i (same_bit v v j i hj hi (text_same (bit_name v j) (bit_name v i) e)).index)
-    (λ e. same_text (bit_name v j) (bit_name v i) (ap (bit_name v) (eq_true j i e)))
+    same_truth (bytes_eq (bit_name v j) (bit_name v i)) (j == i) (λ e. true_eq j i (same_bit v v j i hj hi (bytes_are (bit_name v j) (bit_name v i) e)).index)
+    (λ e. bytes_same (bit_name v j) (bit_name v i) (ap (bit_name v) (eq_true j i e)))
 
 -- a vector has a bit of a name that is its own with an index
 own_bit : (v : List ℕ) (b : Bounds) (i : ℕ) → is_small (Some b) ≡ true → i ≤ 65535 → has_bit_in v (Some b) (bit_name v i) ≡ has_index b i
@@ -87,7 +80,7 @@ own_bit v b i low h =
 other_bit : (v : List ℕ) (b : Bounds) (name : List ℕ) → is_small (Some b) ≡ true → ((j : ℕ) → j ≤ 65535 → bit_name v j ≡ name → ⊥) → has_bit_in v (Some b) name ≡ false
 other_bit v b name low other =
     none_from (λ j. bytes_eq (bit_name v j) name) b 0 (width b)
-    (λ m lt. not_true (bytes_eq (bit_name v (index_at b m)) name) (λ e. other (index_at b m) (index_small b m low (omega arith)) (text_same (bit_name v (index_at b m)) name e)))
+    (λ m lt. false_from_ne_true (bytes_eq (bit_name v (index_at b m)) name) (λ e. other (index_at b m) (index_small b m low (omega arith)) (bytes_are (bit_name v (index_at b m)) name e)))
 
 no_bit_in : (v : List ℕ) (o : Option Bounds) (name : List ℕ) → is_small o ≡ true → IsNoBit name → has_bit_in v o name ≡ false
 no_bit_in v None name low none = refl
@@ -98,9 +91,9 @@ bit_in v base None i low h = sym (and_false (bytes_eq v base))
 bit_in v base (Some b) i low h =
     elim (cases_Bool (bytes_eq v base)) [
       | inl same ↦
-          ap (λ w. has_bit_in v (Some b) (bit_name w i)) (sym (text_same v base same)) ∙ own_bit v b i low h ∙ sym (ap (λ t. t && has_index b i) same)
+          ap (λ w. has_bit_in v (Some b) (bit_name w i)) (sym (bytes_are v base same)) ∙ own_bit v b i low h ∙ sym (ap (λ t. t && has_index b i) same)
       | inr other ↦
-          other_bit v b (bit_name base i) low (λ j hj e. let wrong = same_text v base (same_bit v base j i hj h e).vector in absurd cc) ∙ sym (ap (λ t. t && has_index b i) other)
+          other_bit v b (bit_name base i) low (λ j hj e. let wrong = bytes_same v base (same_bit v base j i hj h e).vector in absurd cc) ∙ sym (ap (λ t. t && has_index b i) other)
     ]
 
 pub small_bounds : (ds : List Declaration) (name : List ℕ) → have_small ds ≡ true → is_small (bounds_in ds name) ≡ true
@@ -120,7 +113,7 @@ is_no_bit ds name low none = none_of ds
 at_name : (ds : List Declaration) (v base : List ℕ) (i : ℕ) → (bytes_eq v base && selects (bounds_in ds v) i) ≡ (bytes_eq v base && selects (bounds_in ds base) i)
 at_name ds v base i =
     elim (cases_Bool (bytes_eq v base)) [
-      | inl same ↦ ap (λ w. bytes_eq v base && selects (bounds_in ds w) i) (text_same v base same)
+      | inl same ↦ ap (λ w. bytes_eq v base && selects (bounds_in ds w) i) (bytes_are v base same)
       | inr other ↦ ap (λ t. t && selects (bounds_in ds v) i) other ∙ sym (ap (λ t. t && selects (bounds_in ds base) i) other)
     ]
 
@@ -165,4 +158,4 @@ pub bits_among : (all : List (List ℕ)) (v : List ℕ) (b : Bounds) → list_an
 bits_among all v b =
     any_swap (λ i other. bytes_eq other (bit_name v i)) (indexes b) all
     ∙ any_same (λ other. list_any (λ i. bytes_eq other (bit_name v i)) (indexes b)) (has_bit_in v (Some b)) all
-    (λ other. any_same (λ i. bytes_eq other (bit_name v i)) (λ i. bytes_eq (bit_name v i) other) (indexes b) (λ i. name_symm other (bit_name v i)))
+    (λ other. any_same (λ i. bytes_eq other (bit_name v i)) (λ i. bytes_eq (bit_name v i) other) (indexes b) (λ i. bytes_turned other (bit_name v i)))

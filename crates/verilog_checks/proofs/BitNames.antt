@@ -7,6 +7,7 @@ use Rattle.std.proofs.lemmas.Bool.{cases_eq}
 use Rattle.std.proofs.lemmas.Bool.Decides.{nat_tests}
 use Rattle.std.proofs.lemmas.Str.Parse.{IsNumeralModel, numerals_by_fold}
 use Rattle.std.proofs.lemmas.Fmt.{decimal_nonempty, decimal_digit, first_decimal, digits_decimal, digits_value-decimal, decimal-digits_value, decimal_injective}
+use Rattle.base_types.proofs.TruthValues.{or_true}
 use Rattle.verilog_syntax.specs.VerilogTokens.{is_digit}
 use Rattle.verilog_names.specs.Values.{decimal_value, bit_name}
 use Rattle.verilog_names.proofs.Indexes.{with_digit}
@@ -65,10 +66,6 @@ digits_no_open (d ∷ ds) e =
 
 pub decimal_no_open : (i : ℕ) → i ≤ 65535 → has_open (decimal i) ≡ false
 decimal_no_open i h = digits_no_open (decimal i) (digits_decimal own i (small i h))
-
-or_true : (a : Bool) → (a || true) ≡ true
-or_true true = refl
-or_true false = refl
 
 has_open_at : (xs ys : List ℕ) → has_open (xs ++ 91 ∷ ys) ≡ true
 has_open_at [] ys = refl

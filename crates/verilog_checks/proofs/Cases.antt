@@ -6,7 +6,7 @@ use Rattle.std.proofs.lemmas.Bool.{not-true, or_cases, or_left, or_right}
 use Rattle.std.proofs.lemmas.List.{append-nil}
 use Rattle.std.proofs.lemmas.List.Elements.{Contains-append_right}
 use Rattle.std.proofs.lemmas.List.Folds.{list_any_at}
-use Rattle.token_forms.proofs.Spelled.{same_bytes, same_text}
+use Rattle.base_types.proofs.TruthValues.{bytes_are, bytes_same}
 use Rattle.verilog_syntax.specs.declared.reading.Placed.{Placed}
 use Rattle.verilog_names.specs.declared.bounds.Bounds.{Bounds}
 use Rattle.verilog_names.specs.Values.{bit_name}
@@ -33,10 +33,10 @@ any_with f xs x c h = list_any_at f xs c.0 x c.1 (ap f c.2 ∙ h)
 has_from : (names : List (List ℕ)) (name : List ℕ) → has names name ≡ true → Contains names name
 has_from names name h =
     let r = any_from (λ (other : List ℕ). bytes_eq other name) names h in
-    subst (Contains names) (same_bytes r.0 name r.2) r.1
+    subst (Contains names) (bytes_are r.0 name r.2) r.1
 
 has_with : (names : List (List ℕ)) (name : List ℕ) → Contains names name → has names name ≡ true
-has_with names name c = any_with (λ (other : List ℕ). bytes_eq other name) names name c (same_text name name refl)
+has_with names name c = any_with (λ (other : List ℕ). bytes_eq other name) names name c (bytes_same name name refl)
 
 -- names that stand twice
 twice_from : (names : List (List ℕ)) → has_twice names ≡ true → HasTwice names
@@ -130,7 +130,7 @@ record IsBitBefore (ds : List Declaration) (names : List (List ℕ)) : Type 0 wh
 first_bit : (ds : List Declaration) (names : List (List ℕ)) (q name : List ℕ) (o : Option Declaration) → first_of q ds ≡ o → Contains names name → has_bit_in q (bounds_or_none o) name ≡ true → IsBitBefore ds names
 first_bit ds names q name None e among h = absurd cc
 first_bit ds names q name (Some v) e among h =
-    let same : v.name ≡ q = same_bytes v.name q (found_in (is_named q) ds v e).1 in
+    let same : v.name ≡ q = bytes_are v.name q (found_in (is_named q) ds v e).1 in
     record {
       name = name;
       vector = v;

@@ -2,9 +2,11 @@
 use Rattle.std.proofs.Common.{◌≡◌, ℕ, zero, suc, ◌<◌, Bool, true, false, cond, List, [], ◌∷◌, ◌++◌, take, Some, Ok, Err, refl, sym, ap, ◌∙◌, subst, append_assoc, arith}
 use Rattle.std.specs.Prelude.{slice_get}
 use Rattle.std.proofs.lemmas.List.{append-nil}
+use Rattle.std.proofs.lemmas.Bool.{false_from_ne_true}
 use Rattle.base_types.specs.declared.fault.Fault.{Fault}
 use Rattle.base_types.specs.declared.kind.Kind.{Kind}
 use Rattle.base_types.specs.declared.kind.Kind.TheVariants.{VerilogNumber, VerilogTwice, BadSelect}
+use Rattle.base_types.proofs.TruthValues.{not_both}
 use Rattle.verilog_syntax.specs.declared.reading.Placed.{Placed}
 use Rattle.verilog_syntax.specs.Reading.{fault_at}
 use Rattle.verilog_checks.specs.Checks.{check_from, check, bad_twice}
@@ -72,20 +74,13 @@ module _ (bad : List Placed → Placed → Bool) (kind : Kind) where
       let here : bad before q ≡ false = ap (λ (l : List Placed). bad l q) (sym (append-nil before)) ∙ h 0 q refl in
       rw here (passes_from qs (before ++ q ∷ []) (λ i p is. ap (λ (l : List Placed). bad l p) (append_assoc before (q ∷ []) (take i qs)) ∙ h (suc i) p is))
 
-true_false : (b : Bool) → b ≡ true → b ≡ false → ⊥
-true_false b t f = let both = sym t ∙ f in absurd cc
-
-not_true : (b : Bool) → (b ≡ true → ⊥) → b ≡ false
-not_true true f = absurd (f refl)
-not_true false f = refl
-
 -- a test that says of each statement whether it is bad
 judged : (IsBad : List Placed → Placed → Type 0) (bad : List Placed → Placed → Bool) (kind : Kind) (ps : List Placed)
     → ((before : List Placed) (p : Placed) → (bad before p ≡ true → IsBad before p) × (IsBad before p → bad before p ≡ true)) → IsJudged IsBad kind ps (check bad kind ps)
 judged IsBad bad kind ps says =
     record {
-      passed = λ e i p there is. true_false (bad (take i ps) p) ((says (take i ps) p).1 is) (good_from bad kind ps [] e i p there);
-      passes = λ none. passes_from bad kind ps [] (λ i p there. not_true (bad (take i ps) p) (λ fails. none i p there ((says (take i ps) p).0 fails)));
+      passed = λ e i p there is. not_both (bad (take i ps) p) ((says (take i ps) p).1 is) (good_from bad kind ps [] e i p there);
+      passes = λ none. passes_from bad kind ps [] (λ i p there. false_from_ne_true (bad (take i ps) p) (λ fails. none i p there ((says (take i ps) p).0 fails)));
       refused = λ f e.
           let found = found_from bad kind ps [] f e in
           let w = found.2 in (
@@ -94,7 +89,7 @@ judged IsBad bad kind ps says =
             record {
               there = w.there;
               bad = (says (take found.0 ps) found.1).0 w.fails;
-              first = λ j q lt there is. true_false (bad (take j ps) q) ((says (take j ps) q).1 is) (w.first j q lt there);
+              first = λ j q lt there is. not_both (bad (take j ps) q) ((says (take j ps) q).1 is) (w.first j q lt there);
             },
             found.3,
           );

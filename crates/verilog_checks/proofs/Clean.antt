@@ -3,22 +3,19 @@ use Rattle.std.proofs.Common.{◌≡◌, ℕ, Bool, true, false, cond, eqb, not,
 use Rattle.std.specs.Prelude.{find}
 use Rattle.std.specs.Option.{option_or}
 use Rattle.std.specs.List.{list_any}
-use Rattle.std.proofs.lemmas.Bool.{cases_Bool}
+use Rattle.std.proofs.lemmas.Bool.{cases_Bool, not-false, and_parts}
 use Rattle.std.proofs.lemmas.List.{append-nil}
 use Rattle.std.proofs.lemmas.List.Folds.{list_any-append, find-append}
 use Rattle.std.proofs.lemmas.Slice.Eq.{bytes_eq-Decides}
+use Rattle.base_types.proofs.TruthValues.{or_false, or_first, or_second}
 use Rattle.verilog_syntax.specs.declared.statement.Declared.{Declared}
 use Rattle.verilog_names.specs.declared.bounds.Bounds.{Bounds}
 use Rattle.verilog_names.specs.Declarations.{Declaration, declaration_of, is_named, first_of, bounds_or_none, bounds_in, is_port_kind, is_wire}
 use Rattle.verilog_checks.specs.Checks.{stands_again, any_again, has_bit_in}
 use Rattle.verilog_checks.specs.Faults.{same_bounds, may_stand_again}
 use Rattle.verilog_checks.specs.Seen.{is_bit, IsClean}
-use Rattle.verilog_checks.proofs.AnyLemmas.{or_false, or_false_left, or_false_right, and_parts, any_or, any_same}
+use Rattle.verilog_checks.proofs.AnyLemmas.{any_or, any_same}
 use Rattle.verilog_checks.proofs.BitLookups.{eq_true}
-
-not_false : (a : Bool) → not a ≡ false → a ≡ true
-not_false true h = refl
-not_false false h = cc
 
 -- the test at the member that is found
 record Found {X : Type 0} (p g : X → Bool) (f : X) : Type 0 where
@@ -30,8 +27,8 @@ found p g f [] is none = absurd cc
 found p g f (x ∷ xs) is none =
     let cases : (t : Bool) → p x ≡ t → cond t (Some x) (find p xs) ≡ Some f → Found p g f
     = λ t. elim t as (λ t. p x ≡ t → cond t (Some x) (find p xs) ≡ Some f → Found p g f) [
-      | true ↦ λ e h. let same : x ≡ f = cc in record { passes = sym (ap p same) ∙ e; other = sym (ap g same) ∙ or_false_left (g x) (list_any g xs) none }
-      | false ↦ λ e h. found p g f xs h (or_false_right (g x) (list_any g xs) none)
+      | true ↦ λ e h. let same : x ≡ f = cc in record { passes = sym (ap p same) ∙ e; other = sym (ap g same) ∙ or_first (g x) (list_any g xs) none }
+      | false ↦ λ e h. found p g f xs h (or_second (g x) (list_any g xs) none)
     ]
     in cases (p x) refl is
 
@@ -107,14 +104,14 @@ eq_bounds (Some a) (Some b) h =
 
 again_bounds : (f d : Declaration) → not (may_stand_again f d) ≡ false → f.bounds ≡ d.bounds
 again_bounds f d h =
-    let may = not_false (may_stand_again f d) h in
+    let may = not-false (may_stand_again f d) h in
     eq_bounds f.bounds d.bounds (and_parts (is_port_kind f.kind && is_wire d.kind) (same_bounds f.bounds d.bounds) may).1
 
 none_of : (so : List Declaration) (q : List ℕ) (f : Declaration) (names : List (List ℕ)) → first_of q so ≡ Some f → IsClean so names → list_any (has_bit_in q f.bounds) names ≡ false
 none_of so q f [] known clean = refl
 none_of so q f (n ∷ names) known clean =
-    ap (λ t. t || list_any (has_bit_in q f.bounds) names) (bit_of_known so q f n known (or_false_left (is_bit so n) (list_any (is_bit so) names) clean))
-    ∙ none_of so q f names known (or_false_right (is_bit so n) (list_any (is_bit so) names) clean)
+    ap (λ t. t || list_any (has_bit_in q f.bounds) names) (bit_of_known so q f n known (or_first (is_bit so n) (list_any (is_bit so) names) clean))
+    ∙ none_of so q f names known (or_second (is_bit so n) (list_any (is_bit so) names) clean)
 
 -- a known name may stand again, and has no bit then
 pub known_step : (so : List Declaration) (d f : Declaration) (names : List (List ℕ)) → first_of d.name so ≡ Some f → IsClean so names
@@ -150,5 +147,5 @@ scalars_stay kind (name ∷ names) so good n =
     let d = declaration_of kind None name in
     let ds = map (declaration_of kind None) names in
     ap (λ l. is_bit l n) (sym (append_assoc so (d ∷ []) ds))
-    ∙ scalars_stay kind names (so ++ d ∷ []) (or_false_right (stands_again (first_of d.name so) d) (any_again (so ++ d ∷ []) ds) good) n
-    ∙ scalar_step so d refl (or_false_left (stands_again (first_of d.name so) d) (any_again (so ++ d ∷ []) ds) good) n
+    ∙ scalars_stay kind names (so ++ d ∷ []) (or_second (stands_again (first_of d.name so) d) (any_again (so ++ d ∷ []) ds) good) n
+    ∙ scalar_step so d refl (or_first (stands_again (first_of d.name so) d) (any_again (so ++ d ∷ []) ds) good) n

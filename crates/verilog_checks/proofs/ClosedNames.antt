@@ -7,6 +7,7 @@ use Rattle.std.proofs.Math.Seq.{drop-append_seam}
 use Rattle.std.proofs.lemmas.List.{map_more, map-append, append-nil}
 use Rattle.std.proofs.lemmas.List.Elements.{filter-append}
 use Rattle.std.proofs.lemmas.Slice.Eq.{bytes_eq-Decides}
+use Rattle.std.proofs.lemmas.Bool.{false_from_ne_true}
 use Rattle.verilog_syntax.specs.declared.statement.Declared.{Declared}
 use Rattle.verilog_syntax.specs.declared.statement.Range.{Range}
 use Rattle.verilog_syntax.specs.declared.statement.Statement.{Statement}
@@ -16,7 +17,7 @@ use Rattle.verilog_names.specs.Values.{unescaped, bit_name}
 use Rattle.verilog_names.specs.Declarations.{Declaration, declaration_of, declarations_in, has, width, index_at, bounds_in, is_declared}
 use Rattle.verilog_checks.specs.Checks.{has_bit_in, are_bits}
 use Rattle.verilog_checks.specs.Seen.{is_bit, is_bracketed, AreNets}
-use Rattle.verilog_checks.proofs.AnyLemmas.{not_true, any_same, any_map, any_none}
+use Rattle.verilog_checks.proofs.AnyLemmas.{any_same, any_map, any_none}
 use Rattle.verilog_checks.proofs.NameLists.{added}
 use Rattle.verilog_checks.proofs.BitNames.{bit_parts}
 use Rattle.verilog_checks.proofs.BitLookups.{none_from, are_bits_is}
@@ -33,7 +34,7 @@ no_bit_of : (v : List ℕ) (o : Option Bounds) (name : List ℕ) → is_brackete
 no_bit_of v None name other = refl
 no_bit_of v (Some b) name other =
     none_from (λ j. bytes_eq (bit_name v j) name) b 0 (width b)
-    (λ m lt. not_true (bytes_eq (bit_name v (index_at b m)) name) (λ e. let wrong = sym other ∙ sym (ap is_bracketed ((bytes_eq-Decides (bit_name v (index_at b m)) name).0 e)) ∙ bit_closed v (index_at b m) in cc))
+    (λ m lt. false_from_ne_true (bytes_eq (bit_name v (index_at b m)) name) (λ e. let wrong = sym other ∙ sym (ap is_bracketed ((bytes_eq-Decides (bit_name v (index_at b m)) name).0 e)) ∙ bit_closed v (index_at b m) in cc))
 
 no_bit : (ds : List Declaration) (name : List ℕ) → is_bracketed name ≡ false → is_bit ds name ≡ false
 no_bit ds name other = any_same (λ d. has_bit_in d.name (bounds_in ds d.name) name) (λ d. false) ds (λ d. no_bit_of d.name (bounds_in ds d.name) name other) ∙ any_none ds
@@ -49,7 +50,7 @@ any_closed f none (name ∷ names) = by (is_bracketed name) refl (any_closed f n
 
 closed_among : (names : List (List ℕ)) (q : List ℕ) → is_bracketed q ≡ true → has (filter is_bracketed names) q ≡ has names q
 closed_among names q closed =
-    any_closed (λ other. bytes_eq other q) (λ other unclosed. not_true (bytes_eq other q) (λ e. let wrong = sym unclosed ∙ ap is_bracketed ((bytes_eq-Decides other q).0 e) ∙ closed in cc)) names
+    any_closed (λ other. bytes_eq other q) (λ other unclosed. false_from_ne_true (bytes_eq other q) (λ e. let wrong = sym unclosed ∙ ap is_bracketed ((bytes_eq-Decides other q).0 e) ∙ closed in cc)) names
 
 -- a closed name is among those that are declared
 pub closed_is : (ds : List Declaration) (q : List ℕ) → is_bracketed q ≡ true → has (filter is_bracketed (map (λ d. d.name) ds)) q ≡ is_declared ds q

@@ -7,6 +7,7 @@ use Rattle.std.specs.Str.{bytes_eq}
 use Rattle.std.proofs.lemmas.List.{append-nil, map-append, take-append-drop, map_more}
 use Rattle.std.proofs.lemmas.List.Folds.{list_any-append, list_all_more}
 use Rattle.std.proofs.lemmas.Bool.{lt-ltb, le-ltb}
+use Rattle.base_types.proofs.TruthValues.{or_false, or_true}
 use Rattle.verilog_syntax.specs.declared.statement.Declared.{Declared}
 use Rattle.verilog_syntax.specs.declared.reading.Placed.{Placed}
 use Rattle.verilog_names.specs.declared.bounds.Bounds.{Bounds}
@@ -36,14 +37,6 @@ bits_grow ds es = let k = bits-append [] ds es in omega (arith, k)
 
 abbrev pub is_vector_named : List ℕ → Declaration → Bool
 is_vector_named q d = is_named q d && is_vector d
-
-or_false : (a : Bool) → (a || false) ≡ a
-or_false true = refl
-or_false false = refl
-
-or_true : (a : Bool) → (a || true) ≡ true
-or_true true = refl
-or_true false = refl
 
 or_cond : (a b : Bool) → (a || b) ≡ cond b true a
 or_cond true true = refl

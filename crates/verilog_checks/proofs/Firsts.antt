@@ -5,12 +5,12 @@ use Rattle.std.specs.Str.{bytes_eq}
 use Rattle.std.proofs.lemmas.List.{take_more, append-nil}
 use Rattle.std.proofs.lemmas.List.Concat.{flat_map-append}
 use Rattle.std.proofs.lemmas.Slice.Eq.{bytes_eq-Decides}
+use Rattle.base_types.proofs.TruthValues.{bytes_turned}
 use Rattle.verilog_syntax.specs.declared.reading.Placed.{Placed}
 use Rattle.verilog_names.specs.declared.declared.First.{First}
 use Rattle.verilog_names.specs.Declarations.{Declaration, is_named, first_of, bounds_or_none, bounds_in, is_declared, declarations_in, declarations}
 use Rattle.verilog_names.specs.NameTables.{kept_of, first_kept, first_in, with_first, with_firsts, kept_bounds}
 use Rattle.verilog_checks.specs.Seen.{Keeps}
-use Rattle.verilog_checks.proofs.NameLists.{name_symm}
 
 or_none : {X : Type 0} (o : Option X) → option_or o None ≡ o
 or_none None = refl
@@ -44,7 +44,7 @@ in_with es name first q = by (is_some (first_in es name)) refl
     by false new = in-append es ((name, first) ∷ []) q
 
 kept_first : (d : Declaration) (ds : List Declaration) (q : List ℕ) → option_or (first_in ((d.name, kept_of d) ∷ []) q) (first_kept ds q) ≡ first_kept (d ∷ ds) q
-kept_first d ds q = ap (λ t. option_or (cond t (Some (kept_of d)) None) (first_kept ds q)) (name_symm q d.name) ∙ by (bytes_eq d.name q)
+kept_first d ds q = ap (λ t. option_or (cond t (Some (kept_of d)) None) (first_kept ds q)) (bytes_turned q d.name) ∙ by (bytes_eq d.name q)
   where
     by : (t : Bool) → option_or (cond t (Some (kept_of d)) None) (first_kept ds q) ≡ option_map kept_of (cond t (Some d) (first_of q ds))
     by true = refl

@@ -2,11 +2,11 @@
 use Rattle.std.proofs.Common.{◌≡◌, ℕ, ◌+◌, ◌<◌, ◌≤◌, Bool, true, false, cond, ◌||◌, List, [], ◌∷◌, ◌++◌, length, map, get_or, take, drop, Bor, refl, sym, ap, ◌∙◌}
 use Rattle.std.specs.List.{list_any}
 use Rattle.std.specs.Str.{bytes_eq}
-use Rattle.std.specs.Cmp.Lexicographic.{nat_list_eq_equiv}
 use Rattle.std.proofs.lemmas.List.{drop_more, drop_all, take_more, map-append}
 use Rattle.std.proofs.lemmas.List.Folds.{list_any-append}
+use Rattle.base_types.proofs.TruthValues.{bytes_turned, or_false}
 use Rattle.verilog_names.specs.Declarations.{has}
-use Rattle.verilog_checks.proofs.AnyLemmas.{or_false, any_or, any_same}
+use Rattle.verilog_checks.proofs.AnyLemmas.{any_or, any_same}
 use Rattle.verilog_checks.specs.Checks.{has_twice}
 
 abbrev pub now_of : List (Bor (List ℕ)) → List (List ℕ)
@@ -17,9 +17,6 @@ or_cond true true = refl
 or_cond true false = refl
 or_cond false true = refl
 or_cond false false = refl
-
-pub name_symm : (a b : List ℕ) → bytes_eq a b ≡ bytes_eq b a
-name_symm a b = nat_list_eq_equiv.symm a b
 
 pub has_last : (names : List (List ℕ)) (name q : List ℕ) → has (names ++ name ∷ []) q ≡ (has names q || bytes_eq name q)
 has_last names name q = list_any-append (λ other. bytes_eq other q) names (name ∷ []) ∙ ap (λ b. has names q || b) (or_false (bytes_eq name q))
@@ -40,7 +37,7 @@ behind before [] = refl
 behind before (name ∷ names) =
     ap (λ b. has before name || b)
     (behind (before ++ name ∷ []) names
-    ∙ ap (λ b. b || has_twice names) (any_same (has (before ++ name ∷ [])) (λ q. has before q || bytes_eq q name) names (λ q. has_last before name q ∙ ap (λ b. has before q || b) (name_symm name q))
+    ∙ ap (λ b. b || has_twice names) (any_same (has (before ++ name ∷ [])) (λ q. has before q || bytes_eq q name) names (λ q. has_last before name q ∙ ap (λ b. has before q || b) (bytes_turned name q))
     ∙ any_or (has before) (λ q. bytes_eq q name) names))
     ∙ regroup (has before name) (list_any (has before) names) (has names name) (has_twice names)
 

@@ -1,5 +1,5 @@
 -- A pass over statements that looks for the first one that fails a test.
-use Rattle.std.proofs.Common.{◌≡◌, ℕ, ◌+◌, ◌<◌, ◌≤◌, Bool, true, false, cond, not, List, length, get_or, take, drop, Result, Ok, Err, refl, sym, ap, ◌∙◌}
+use Rattle.std.proofs.Common.{◌≡◌, ℕ, ◌+◌, ◌<◌, ◌≤◌, Bool, true, false, cond, List, length, get_or, take, drop, Result, Ok, Err, refl, sym, ap, ◌∙◌}
 use Rattle.std.proofs.lemmas.List.{at_drop_more, at_drop_all, take_more}
 use Rattle.base_types.specs.declared.fault.Fault.{Fault}
 use Rattle.base_types.specs.declared.kind.Kind.{Kind}
@@ -32,12 +32,3 @@ module _ (bad : List Placed → Placed → Bool) (kind : Kind) (ps : List Placed
 pub passed : (bad : List Placed → Placed → Bool) (kind : Kind) (ps : List Placed) (i : ℕ) → length ps ≤ i → check_from bad kind (take i ps) (drop i ps) ≡ check bad kind ps → check bad kind ps ≡ Ok tt
 unfolding check_from
 passed bad kind ps i le so_far = sym so_far ∙ at_drop_all (check_from bad kind (take i ps)) ps i le
-
--- a key that an insert did not add was there, and one that it added was not
-pub was_there : (added there : Bool) → added ≡ not there → added ≡ false → there ≡ true
-was_there added true e f = refl
-was_there added false e f = cc
-
-pub was_new : (added there : Bool) → added ≡ not there → added ≡ true → there ≡ false
-was_new added true e f = cc
-was_new added false e f = refl

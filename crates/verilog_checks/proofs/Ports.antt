@@ -5,6 +5,7 @@ use Rattle.std.specs.Str.{bytes_eq}
 use Rattle.std.proofs.lemmas.List.{take_more, append-nil, map_more}
 use Rattle.std.proofs.lemmas.List.Concat.{flat_map-append}
 use Rattle.std.proofs.lemmas.List.Folds.{list_any-append}
+use Rattle.base_types.proofs.TruthValues.{and_false}
 use Rattle.verilog_syntax.specs.declared.statement.Declared.{Declared}
 use Rattle.verilog_syntax.specs.declared.statement.Range.{Range}
 use Rattle.verilog_syntax.specs.declared.statement.Statement.{Statement}
@@ -59,10 +60,6 @@ ports_more ps i d p q new old lt at is was =
 and_true : (a : Bool) → (a && true) ≡ a
 and_true true = refl
 and_true false = refl
-
-and_false : (a : Bool) → (a && false) ≡ false
-and_false true = refl
-and_false false = refl
 
 module _ (kind : Declared) (range : Option Range) where
   directed : (t : Bool) (names : List (List ℕ)) (q : List ℕ) → is_port_kind kind ≡ t → has (map unescaped (cond t names [])) q ≡ has_direction (map (declaration_of kind range) names) q

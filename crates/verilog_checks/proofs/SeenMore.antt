@@ -5,6 +5,8 @@ use Rattle.std.proofs.lemmas.List.{append-nil}
 use Rattle.std.proofs.lemmas.List.Concat.{flat_map-append}
 use Rattle.std.proofs.lemmas.List.Elements.{filter-append}
 use Rattle.std.proofs.lemmas.List.Folds.{list_any-append, list_all-append}
+use Rattle.std.proofs.lemmas.Bool.{not-true, and_parts}
+use Rattle.base_types.proofs.TruthValues.{or_true, or_false, or_first, or_second}
 use Rattle.verilog_syntax.specs.declared.statement.Declared.{Declared}
 use Rattle.verilog_syntax.specs.declared.statement.Range.{Range}
 use Rattle.verilog_syntax.specs.declared.statement.Statement.{Statement}
@@ -18,7 +20,7 @@ use Rattle.verilog_names.specs.NameTables.{firsts_of}
 use Rattle.verilog_checks.specs.Steps.{has_bad_number, are_small}
 use Rattle.verilog_names.specs.NameSets.{HasNames}
 use Rattle.verilog_checks.specs.Seen.{is_small, have_small, is_bit, is_bracketed, IsClean, Adds, IsSeen, Tells}
-use Rattle.verilog_checks.proofs.AnyLemmas.{or_true, or_false, or_false_left, or_false_right, and_parts, any_same}
+use Rattle.verilog_checks.proofs.AnyLemmas.{any_same}
 use Rattle.verilog_checks.proofs.BitLookups.{are_bits_is}
 use Rattle.verilog_checks.proofs.Clean.{scalars_stay}
 use Rattle.verilog_checks.proofs.ClosedNames.{closed_are_bits}
@@ -98,7 +100,7 @@ module _ (itself bits stands again : Bool) (all before : List Placed) (names : L
   clean_more : Added p.statement → bits ≡ false → stands ≡ false → IsClean (declarations (before ++ p ∷ [])) (scalars (declarations all) (before ++ p ∷ []))
   clean_more a none good =
       let ds = declarations before ++ declarations_in p.statement in
-      let no_again = or_false_left (any_again (declarations before) (declarations_in p.statement)) (have_bits (declarations_in p.statement) so) (sym a.adds.is ∙ good) in
+      let no_again = or_first (any_again (declarations before) (declarations_in p.statement)) (have_bits (declarations_in p.statement) so) (sym a.adds.is ∙ good) in
       let here = scalars_in (declarations all) p.statement in
       let behind : IsClean ds here = scalars_clean p.statement (declarations all) (declarations before) no_again (sym (bits_are a) ∙ none) in
       let both : IsClean ds (so ++ here) = list_any-append (is_bit ds) so here ∙ ap (λ t. t || list_any (is_bit ds) here) (a.adds.clean good) ∙ behind in
@@ -106,9 +108,9 @@ module _ (itself bits stands again : Bool) (all before : List Placed) (names : L
 
   seen_more : Added p.statement → bad ≡ false → IsSeen all (before ++ p ∷ []) new
   seen_more a e =
-      let front = or_false_left ((itself || bits) || stands) again e in
-      let good = or_false_right (itself || bits) stands front in
-      let none = or_false_right itself bits (or_false_left (itself || bits) stands front) in
+      let front = or_first ((itself || bits) || stands) again e in
+      let good = or_second (itself || bits) stands front in
+      let none = or_second itself bits (or_first (itself || bits) stands front) in
       record {
         instances = λ q. a.instances q ∙ ap (λ l. has l q.now) (flat_last (λ x. instances_named x.statement) before p);
         known = record {
@@ -138,15 +140,11 @@ small_in (statements.Declare kind range names) h = small_names kind range names 
 small_in (statements.Assign left right) h = refl
 small_in (statements.Instance cell name connections) h = refl
 
-not_bad : (a : Bool) → not a ≡ true → a ≡ false
-not_bad true h = cc
-not_bad false h = refl
-
 pub small_front : (i : ℕ) (ps : List Placed) → are_small ps ≡ true → have_small (declarations (take i ps)) ≡ true
 small_front zero ps h = refl
 small_front (suc i) [] h = refl
 small_front (suc i) (p ∷ ps) h =
     let parts = and_parts (not (has_bad_number p.statement)) (are_small ps) h in
-    let range = or_false_left (is_bad_range (range_in p.statement)) (list_any is_bad_number (items_in p.statement)) (not_bad (has_bad_number p.statement) parts.0) in
+    let range = or_first (is_bad_range (range_in p.statement)) (list_any is_bad_number (items_in p.statement)) (not-true (has_bad_number p.statement) parts.0) in
     list_all-append (λ d. is_small d.bounds) (declarations_in p.statement) (declarations (take i ps))
     ∙ ap (λ t. t && have_small (declarations (take i ps))) (small_in p.statement range) ∙ small_front i ps parts.1

@@ -1,9 +1,10 @@
 -- What holds of statements that have passed the number check: their numbers are small, and their vectors have few bits.
-use Rattle.std.proofs.Common.{◌≡◌, ◌≤◌, Bool, true, false, cond, not, ◌&&◌, ◌||◌, List, [], ◌∷◌, ◌++◌, Ok, Err, refl, ap, ◌∙◌, append_assoc, arith}
+use Rattle.std.proofs.Common.{◌≡◌, ◌≤◌, Bool, true, false, cond, not, ◌&&◌, List, [], ◌∷◌, ◌++◌, Ok, Err, refl, ap, ◌∙◌, append_assoc, arith}
 use Rattle.std.specs.Prelude.{nat_lt}
 use Rattle.std.proofs.lemmas.Bool.{ltb-false}
 use Rattle.std.proofs.lemmas.List.{append-nil}
 use Rattle.base_types.specs.declared.kind.Kind.TheVariants.{VerilogNumber}
+use Rattle.base_types.proofs.TruthValues.{or_first, or_second}
 use Rattle.verilog_syntax.specs.declared.reading.Placed.{Placed}
 use Rattle.verilog_syntax.specs.Reading.{fault_at}
 use Rattle.verilog_names.specs.Declarations.{declarations}
@@ -11,22 +12,14 @@ use Rattle.verilog_checks.specs.Checks.{check_from, check_number}
 use Rattle.verilog_checks.specs.Faults.{bad_number, vector_bits_from, vector_bits}
 use Rattle.verilog_checks.specs.Steps.{has_bad_number, are_small}
 
-or_false_left : (a b : Bool) → (a || b) ≡ false → a ≡ false
-or_false_left true b h = h
-or_false_left false b h = refl
-
-or_false_right : (a b : Bool) → (a || b) ≡ false → b ≡ false
-or_false_right true b h = cc
-or_false_right false b h = h
-
 -- a statement that passes has small numbers, and few bits with those before it
 itself : (before : List Placed) (p : Placed) → bad_number before p ≡ false → has_bad_number p.statement ≡ false
 unfolding bad_number
-itself before p h = or_false_left (has_bad_number p.statement) (nat_lt 16777216 (vector_bits (declarations (before ++ p ∷ [])))) h
+itself before p h = or_first (has_bad_number p.statement) (nat_lt 16777216 (vector_bits (declarations (before ++ p ∷ [])))) h
 
 together : (before : List Placed) (p : Placed) → bad_number before p ≡ false → vector_bits (declarations (before ++ p ∷ [])) ≤ 16777216
 unfolding bad_number
-together before p h = ltb-false 16777216 (vector_bits (declarations (before ++ p ∷ []))) (or_false_right (has_bad_number p.statement) (nat_lt 16777216 (vector_bits (declarations (before ++ p ∷ [])))) h)
+together before p h = ltb-false 16777216 (vector_bits (declarations (before ++ p ∷ []))) (or_second (has_bad_number p.statement) (nat_lt 16777216 (vector_bits (declarations (before ++ p ∷ [])))) h)
 
 -- where a check passes from a statement on, the statement passes, and so do those behind it
 passed_first : (before : List Placed) (p : Placed) (ps : List Placed) → check_from bad_number VerilogNumber before (p ∷ ps) ≡ Ok tt

@@ -2,7 +2,7 @@
 use Rattle.std.proofs.Common.{◌≡◌, ℕ, ◌<◌, Bool, true, false, cond, not, ◌||◌, List, [], ◌∷◌, ◌++◌, length, map, get_or, Option, None, Result, Ok, Err, refl, sym, ap, subst, ◌∙◌, nat_lt}
 use Rattle.std.specs.List.{flat_map, list_any, All}
 use Rattle.std.specs.Str.{bytes_eq}
-use Rattle.std.proofs.lemmas.Bool.{false≢true, or_parts, not-false}
+use Rattle.std.proofs.lemmas.Bool.{or_parts, not-false, or_right, or_left}
 use Rattle.std.proofs.lemmas.List.{get_or-map, length-map}
 use Rattle.std.proofs.lemmas.List.Concat.{flat_map-append}
 use Rattle.std.proofs.lemmas.List.Elements.{All-nil, All-cons, All-head, All-tail}
@@ -10,6 +10,7 @@ use Rattle.std.proofs.lemmas.List.Folds.{list_any-append, list_any_at}
 use Rattle.std.specs.List.{AllByRecursion as Each}
 use Rattle.base_types.specs.declared.fault.Fault.{Fault}
 use Rattle.base_types.specs.declared.kind.Kind.{Kind}
+use Rattle.base_types.proofs.TruthValues.{bytes_same}
 use Rattle.verilog_syntax.specs.declared.statement.Declared.{Declared}
 use Rattle.verilog_syntax.specs.declared.statement.Range.{Range}
 use Rattle.verilog_syntax.specs.declared.statement.Item.{Item}
@@ -27,7 +28,7 @@ use Rattle.verilog_checks.specs.Faults.{is_bad_number, is_bad_range, range_in, b
 use Rattle.verilog_names.specs.NameTables.{place, with_declared}
 use Rattle.verilog_reader.specs.Numbering.{bounds_or, entries, IsListed, IsFineItem, IsFineExpression, IsFineStatement}
 use Rattle.verilog_reader.proofs.Filling.{Entries}
-use Rattle.verilog_reader.proofs.Places.{named, placed, named_all, bytes_same, bounds_are}
+use Rattle.verilog_reader.proofs.Places.{named, placed, named_all, bounds_are}
 
 -- no statement fails a test beside those before it
 abbrev pub Passes : (List Placed → Placed → Bool) → List Placed → List Placed → Type 0
@@ -57,25 +58,16 @@ pub each_from : {X : Type 0} (P : X → Type 0) (xs : List X) → All P xs → E
 each_from P [] a = tt
 each_from P (x ∷ xs) a = (All-head P x xs a, each_from P xs (All-tail P x xs a))
 
--- what is declared or mentioned has an entry
-or_true : (a b : Bool) → b ≡ true → (a || b) ≡ true
-or_true true b is = refl
-or_true false b is = is
-
 pub mentioned_named : (ps : List Placed) → Each (λ q. named (entries ps) q ≡ true) (mentions ps)
 mentioned_named ps = each_from (λ (q : List ℕ). named (entries ps) q ≡ true) (mentions ps) (λ k d lt.
     let names = mentions ps in
     let es : Entries = map (λ (name : List ℕ). let e : List ℕ × Option Bounds = (name, None) in e) names in
     let lt' : k < length es = subst (λ (n : ℕ). k < n) (sym (length-map names (λ (name : List ℕ). let e : List ℕ × Option Bounds = (name, None) in e))) lt in
     named_all (with_declared [] (declarations ps)) es (get_or names k d)
-    ∙ or_true (named (with_declared [] (declarations ps)) (get_or names k d)) (named es (get_or names k d))
+    ∙ or_right (named (with_declared [] (declarations ps)) (get_or names k d)) (named es (get_or names k d))
     (list_any_at (λ (e : List ℕ × Option Bounds). bytes_eq (get_or names k d) e.0) es k (d, None) lt'
     (bytes_same (get_or names k d) (get_or es k (d, None)).0
     (sym (ap (λ (e : List ℕ × Option Bounds). e.0) (get_or-map (λ (name : List ℕ). let e : List ℕ × Option Bounds = (name, None) in e) names k d (d, None) lt))))))
-
-or_true_left : (a b : Bool) → a ≡ true → (a || b) ≡ true
-or_true_left true b is = refl
-or_true_left false b is = absurd (false≢true is)
 
 pub declared_named : (ps : List Placed) → Each (λ d. named (entries ps) d.name ≡ true) (declarations ps)
 declared_named ps = each_from (λ (d : Declaration). named (entries ps) d.name ≡ true) (declarations ps) (λ k d lt.
@@ -84,7 +76,7 @@ declared_named ps = each_from (λ (d : Declaration). named (entries ps) d.name �
     let es : Entries = map entry ds in
     let lt' : k < length es = subst (λ (n : ℕ). k < n) (sym (length-map ds entry)) lt in
     named_all (with_declared [] ds) (map (λ (name : List ℕ). let e : List ℕ × Option Bounds = (name, None) in e) (mentions ps)) (get_or ds k d).name
-    ∙ or_true_left (named (with_declared [] ds) (get_or ds k d).name) (named (map (λ (name : List ℕ). let e : List ℕ × Option Bounds = (name, None) in e) (mentions ps)) (get_or ds k d).name)
+    ∙ or_left (named (with_declared [] ds) (get_or ds k d).name) (named (map (λ (name : List ℕ). let e : List ℕ × Option Bounds = (name, None) in e) (mentions ps)) (get_or ds k d).name)
     (named_all [] es (get_or ds k d).name
     ∙ list_any_at (λ (e : List ℕ × Option Bounds). bytes_eq (get_or ds k d).name e.0) es k (entry d) lt'
     (bytes_same (get_or ds k d).name (get_or es k (entry d)).0 (sym (ap (λ (e : List ℕ × Option Bounds). e.0) (get_or-map entry ds k d (entry d) lt))))))

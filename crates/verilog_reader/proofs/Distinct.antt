@@ -6,10 +6,10 @@ use Rattle.std.proofs.lemmas.Bool.{false≢true, or_parts}
 use Rattle.std.proofs.lemmas.List.{append-nil, append_assoc}
 use Rattle.std.proofs.lemmas.List.Folds.{list_any-append}
 use Rattle.std.specs.List.{AllByRecursion as Each}
+use Rattle.base_types.proofs.TruthValues.{bytes_same}
 use Rattle.netlist_core.specs.Netlists.{AreDistinct}
 use Rattle.verilog_names.specs.Declarations.{has}
 use Rattle.verilog_checks.specs.Checks.{has_twice}
-use Rattle.verilog_reader.proofs.Places.{bytes_same}
 
 abbrev pub IsApartFrom : {X : Type 0} → X → List X → Type 0
 IsApartFrom x ys = Each (λ y. x ≡ y → ⊥) ys

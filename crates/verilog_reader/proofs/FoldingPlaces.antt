@@ -7,6 +7,7 @@ use Rattle.std.proofs.lemmas.Bool.{false≢true}
 use Rattle.std.proofs.lemmas.List.Concat.{flat_map-append}
 use Rattle.std.proofs.lemmas.List.Elements.{All-nil, All-cons, All-head, All-tail}
 use Rattle.std.specs.List.{AllByRecursion as Each}
+use Rattle.base_types.proofs.TruthValues.{bytes_same}
 use Rattle.netlist_core.specs.declared.netlist.Bit.{Bit}
 use Rattle.netlist_core.specs.declared.netlist.Assign.{Assign}
 use Rattle.netlist_core.specs.declared.netlist.Expr.{Expr}
@@ -25,7 +26,7 @@ use Rattle.verilog_names.specs.Declarations.{mentions_of, mentions_in, connectio
 use Rattle.verilog_names.specs.NameTables.{place_from, place, with_entry, with_entries}
 use Rattle.verilog_reader.specs.Numbering.{bounds_or, with_mentioned, all_bits, one_bit, part_bits, numbered_item, numbered_items, numbered_expression, numbered_connection, numbered_assigns_in, numbered_instances_in, IsFineItem, IsFineExpression, IsFineStatement, HasFineItems}
 use Rattle.verilog_reader.proofs.Filling.{Entries}
-use Rattle.verilog_reader.proofs.Places.{bytes_same, named, named_more, named_all}
+use Rattle.verilog_reader.proofs.Places.{named, named_more, named_all}
 
 -- entries behind those that have the name
 place_append : (q : List ℕ) (at : ℕ) (es more : Entries) → named es q ≡ true → place_from at (es ++ more) q ≡ place_from at es q

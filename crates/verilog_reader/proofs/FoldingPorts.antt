@@ -1,9 +1,10 @@
 -- The ports of a module by the entries of what it declares, before any that it only mentions.
-use Rattle.std.proofs.Common.{◌≡◌, ℕ, Bool, true, false, ◌||◌, List, [], ◌∷◌, ◌++◌, map, Option, refl, sym, ap, subst, ◌∙◌}
+use Rattle.std.proofs.Common.{◌≡◌, ℕ, Bool, true, ◌||◌, List, [], ◌∷◌, ◌++◌, map, Option, refl, sym, ap, subst, ◌∙◌}
 use Rattle.std.specs.List.{flat_map, All}
 use Rattle.std.specs.Str.{bytes_eq}
 use Rattle.std.proofs.lemmas.List.Elements.{All-weaker}
 use Rattle.std.specs.List.{AllByRecursion as Each}
+use Rattle.base_types.proofs.TruthValues.{or_true, bytes_same}
 use Rattle.netlist_core.specs.declared.netlist.Assign.{Assign}
 use Rattle.netlist_core.specs.declared.netlist.Instance.{Instance}
 use Rattle.netlist_core.specs.declared.netlist.Netlist.{Netlist}
@@ -24,14 +25,10 @@ use Rattle.verilog_reader.specs.Numbering.{with_mentioned, entries, port_bits, n
 use Rattle.verilog_reader.proofs.Distinct.{all_of}
 use Rattle.verilog_reader.proofs.Filling.{Entries, mentioned_entries}
 use Rattle.verilog_reader.proofs.FoldingPlaces.{kept, each_left, each_right, items_of_fine}
-use Rattle.verilog_reader.proofs.Places.{bytes_same, named, placed, named_all, declared_named}
+use Rattle.verilog_reader.proofs.Places.{named, placed, named_all, declared_named}
 
 abbrev declared_of : List Placed → Entries
 declared_of ps = with_declared [] (declarations ps)
-
-or_true : (t : Bool) → (t || true) ≡ true
-or_true true = refl
-or_true false = refl
 
 module _ (es : Entries) where
   abbrev AllNamed : List Declaration → Type 0

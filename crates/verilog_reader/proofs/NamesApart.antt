@@ -6,6 +6,7 @@ use Rattle.std.specs.Str.{bytes_eq}
 use Rattle.std.proofs.lemmas.Bool.{false≢true, or_parts, ltb-false}
 use Rattle.std.proofs.lemmas.List.{map-append}
 use Rattle.std.specs.List.{AllByRecursion as Each}
+use Rattle.base_types.proofs.TruthValues.{bytes_are, bytes_same}
 use Rattle.netlist_core.specs.declared.netlist.NetName.{NetName}
 use Rattle.verilog_syntax.specs.declared.statement.Declared.{Declared}
 use Rattle.verilog_syntax.specs.declared.statement.Range.{Range}
@@ -21,7 +22,7 @@ use Rattle.verilog_reader.specs.Denoted.{entry_nets, name_bits, bit_text}
 use Rattle.verilog_names.specs.NameTables.{place_from, place, with_entry, with_entries}
 use Rattle.verilog_reader.specs.Numbering.{bounds_or, entries}
 use Rattle.verilog_reader.proofs.Filling.{Entries}
-use Rattle.verilog_reader.proofs.Places.{same_bytes, bytes_same, named, placed, bounds_are}
+use Rattle.verilog_reader.proofs.Places.{named, placed, bounds_are}
 use Rattle.verilog_reader.proofs.NetBits.{nets_of}
 use Rattle.verilog_reader.proofs.Checked.{IsSound}
 use Rattle.verilog_reader.proofs.PortNames.{apart}
@@ -82,7 +83,7 @@ other_entry : (x e : List ℕ × Option Bounds) (es : Entries) → (x.0 ≡ e.0 
 other_entry x e es ne is = by (bytes_eq e.0 x.0) refl
   where
     by : (t : Bool) → bytes_eq e.0 x.0 ≡ t → IsEntry (x ∷ es) e
-    by true same = absurd (ne (sym (same_bytes e.0 x.0 same)))
+    by true same = absurd (ne (sym (bytes_are e.0 x.0 same)))
     by false other = record {
       there = ap (λ (t : Bool). t || named es e.0) other ∙ is.there;
       bounds = ap (λ (t : Bool). bounds_or (cond t (Some (record { first = 0; bounds = x.1 })) (place_from (0 + width_or_one x.1) es e.0))) other ∙ bounds_shift e.0 (0 + width_or_one x.1) 0 es ∙ is.bounds;

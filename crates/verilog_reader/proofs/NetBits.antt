@@ -5,6 +5,7 @@ use Rattle.std.specs.Str.{bytes_eq}
 use Rattle.std.proofs.lemmas.Bool.{cases_Bool, and_parts, leb-true, leb-false}
 use Rattle.std.proofs.lemmas.Option.{none-some, same_Some}
 use Rattle.std.proofs.lemmas.List.{append_assoc, get_or_append_left, get_or-append-add, get_or-map, length-append}
+use Rattle.base_types.proofs.TruthValues.{bytes_are}
 use Rattle.netlist_core.specs.declared.netlist.NetName.{NetName}
 use Rattle.netlist_core.specs.Netlists.{NamedBit, Named, named_bit, plain_of as net_plain}
 use Rattle.verilog_names.specs.declared.bounds.Bounds.{Bounds}
@@ -15,7 +16,6 @@ use Rattle.verilog_reader.specs.Denoted.{entry_nets, name_bits, named_of, bit_te
 use Rattle.verilog_names.specs.NameTables.{place_from, place}
 use Rattle.verilog_reader.specs.Numbering.{net_bits}
 use Rattle.verilog_reader.proofs.Filling.{Entries}
-use Rattle.verilog_reader.proofs.Places.{same_bytes}
 use Rattle.verilog_reader.proofs.NumberedLists.{length-entry, length-indexes_from}
 
 abbrev pub nets_of : Entries → List NetName
@@ -59,7 +59,7 @@ at_place q front at (x ∷ es) e k d long is lt =
           subst (λ (e : Entry). (get_or (front ++ nets_of (x ∷ es)) (e.first + k) d).plain ≡ bit_at q e.bounds k) one
           (ap (λ (n : ℕ). (get_or (front ++ nets_of (x ∷ es)) (n + k) d).plain) (sym long)
           ∙ ap (λ (n : NetName). n.plain) (get_or-append-add front (nets_of (x ∷ es)) k d ∙ get_or_append_left (entry_nets x.0 x.1) (nets_of es) d k in')
-          ∙ at_entry x.0 x.1 k d lt' ∙ ap (λ (n : List ℕ). bit_at n x.1 k) (sym (same_bytes q x.0 same)))
+          ∙ at_entry x.0 x.1 k d lt' ∙ ap (λ (n : List ℕ). bit_at n x.1 k) (sym (bytes_are q x.0 same)))
       | inr other ↦
           let l = length-entry x.0 x.1 in
           let long' : length (front ++ entry_nets x.0 x.1) ≡ at + width_or_one x.1 = length-append front (entry_nets x.0 x.1) ∙ omega arith in

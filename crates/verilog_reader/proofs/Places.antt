@@ -1,12 +1,12 @@
 -- The entries of a module: which names have one, with which bounds, and in which order.
-use Rattle.std.proofs.Common.{◌≡◌, ℕ, ◌+◌, Bool, true, false, cond, not, ◌||◌, List, [], ◌∷◌, ◌++◌, map, Option, Some, None, refl, sym, ap, inl, inr, ◌∙◌}
+use Rattle.std.proofs.Common.{◌≡◌, ℕ, ◌+◌, Bool, true, false, cond, not, ◌||◌, List, [], ◌∷◌, ◌++◌, map, Option, Some, None, refl, sym, ap, ◌∙◌}
 use Rattle.std.specs.Option.{is_some}
 use Rattle.std.specs.List.{list_any}
 use Rattle.std.specs.Str.{bytes_eq}
-use Rattle.std.proofs.lemmas.Bool.{false≢true, cases_Bool}
+use Rattle.std.proofs.lemmas.Bool.{false≢true}
 use Rattle.std.proofs.lemmas.List.{append-nil, append_assoc}
 use Rattle.std.proofs.lemmas.List.Folds.{list_any-append}
-use Rattle.std.proofs.lemmas.Slice.Eq.{bytes_eq-Decides}
+use Rattle.base_types.proofs.TruthValues.{bytes_are, bytes_turned, or_implied, or_assoc}
 use Rattle.verilog_syntax.specs.declared.reading.Placed.{Placed}
 use Rattle.verilog_names.specs.declared.bounds.Bounds.{Bounds}
 use Rattle.verilog_names.specs.declared.entry.Entry.{Entry}
@@ -15,23 +15,6 @@ use Rattle.verilog_reader.specs.Denoted.{first_declared, first_mentioned, net_en
 use Rattle.verilog_names.specs.NameTables.{place_from, place, with_entry, with_entries, with_declared}
 use Rattle.verilog_reader.specs.Numbering.{bounds_or, with_mentioned, entries}
 use Rattle.verilog_reader.proofs.Filling.{Entries}
-
-pub same_bytes : (a b : List ℕ) → bytes_eq a b ≡ true → a ≡ b
-same_bytes a b is = (bytes_eq-Decides a b).0 is
-
-pub bytes_same : (a b : List ℕ) → a ≡ b → bytes_eq a b ≡ true
-bytes_same a b is = (bytes_eq-Decides a b).1 is
-
-pub bytes_swap : (a b : List ℕ) → bytes_eq a b ≡ bytes_eq b a
-bytes_swap a b =
-    elim (cases_Bool (bytes_eq a b)) [
-      | inl is ↦ is ∙ sym (bytes_same b a (sym (same_bytes a b is)))
-      | inr isn't ↦
-          elim (cases_Bool (bytes_eq b a)) [
-            | inl is ↦ absurd (false≢true (sym isn't ∙ bytes_same a b (sym (same_bytes b a is))))
-            | inr neither ↦ isn't ∙ sym neither
-          ]
-    ]
 
 -- a name has an entry
 abbrev pub named : Entries → List ℕ → Bool
@@ -65,21 +48,12 @@ or_last true b = refl
 or_last false true = refl
 or_last false false = refl
 
-or_absorbs : (a b : Bool) → (b ≡ true → a ≡ true) → a ≡ (a || b)
-or_absorbs true b h = refl
-or_absorbs false true h = h refl
-or_absorbs false false h = refl
-
 pub named_more : (es : Entries) (n : List ℕ) (b : Option Bounds) (q : List ℕ) → named (with_entry es n b) q ≡ (named es q || bytes_eq q n)
 named_more es n b q = by (is_some (place es n)) (placed es n)
   where
     by : (t : Bool) → t ≡ named es n → named (cond t es (es ++ (n, b) ∷ [])) q ≡ (named es q || bytes_eq q n)
-    by true is = or_absorbs (named es q) (bytes_eq q n) (λ same. same_named es q n (same_bytes q n same) (sym is))
+    by true is = or_implied (named es q) (bytes_eq q n) (λ same. same_named es q n (bytes_are q n same) (sym is))
     by false is = list_any-append (λ (e : List ℕ × Option Bounds). bytes_eq q e.0) es ((n, b) ∷ []) ∙ or_last (named es q) (bytes_eq q n)
-
-or_assoc : (a b c : Bool) → ((a || b) || c) ≡ (a || (b || c))
-or_assoc true b c = refl
-or_assoc false b c = refl
 
 pub named_all : (es xs : Entries) (q : List ℕ) → named (with_entries es xs) q ≡ (named es q || named xs q)
 named_all es [] q = or_false (named es q)
@@ -116,7 +90,7 @@ more_bounds es n b q = by (is_some (place es n)) (placed es n)
     there false false is h = no_place es q is
 
     by : (t : Bool) → t ≡ named es n → bounds_or (place (cond t es (es ++ (n, b) ∷ [])) q) ≡ cond (named es q) (bounds_or (place es q)) (cond (bytes_eq q n) b None)
-    by true is = there (named es q) (bytes_eq q n) refl (λ same. same_named es q n (same_bytes q n same) (sym is))
+    by true is = there (named es q) (bytes_eq q n) refl (λ same. same_named es q n (bytes_are q n same) (sym is))
     by false is = push_bounds 0 es n b q
 
 declared_bounds : (es : Entries) (ds : List Declaration) (q : List ℕ) → bounds_or (place (with_declared es ds) q) ≡ cond (named es q) (bounds_or (place es q)) (bounds_in ds q)
@@ -129,7 +103,7 @@ declared_bounds es (d ∷ ds) q =
     declared_bounds (with_entry es d.name d.bounds) ds q
     ∙ ap (λ (t : Bool). cond t (bounds_or (place (with_entry es d.name d.bounds) q)) (bounds_in ds q)) (named_more es d.name d.bounds q)
     ∙ ap (λ (b : Option Bounds). cond (named es q || bytes_eq q d.name) b (bounds_in ds q)) (more_bounds es d.name d.bounds q)
-    ∙ by (named es q) (bytes_eq q d.name) (bytes_eq d.name q) (bytes_swap q d.name)
+    ∙ by (named es q) (bytes_eq q d.name) (bytes_eq d.name q) (bytes_turned q d.name)
   where
     by : (t s r : Bool) → s ≡ r
         → cond (t || s) (cond t (bounds_or (place es q)) (cond s d.bounds None)) (bounds_in ds q) ≡ cond t (bounds_or (place es q)) (bounds_or_none (cond r (Some d) (first_of q ds)))
@@ -156,7 +130,7 @@ unfolding first_declared
 declared_first es before [] same = sym (append-nil es)
 declared_first es before (d ∷ ds) same =
     declared_first (with_entry es d.name d.bounds) (before ++ d ∷ []) ds
-    (λ q. named_more es d.name d.bounds q ∙ ap (λ (t : Bool). t || bytes_eq q d.name) (same q) ∙ ap (λ (t : Bool). is_declared before q || t) (bytes_swap q d.name)
+    (λ q. named_more es d.name d.bounds q ∙ ap (λ (t : Bool). t || bytes_eq q d.name) (same q) ∙ ap (λ (t : Bool). is_declared before q || t) (bytes_turned q d.name)
     ∙ sym (list_any-append (is_named q) before (d ∷ []) ∙ or_last (is_declared before q) (bytes_eq d.name q)))
     ∙ by (is_some (place es d.name)) (is_declared before d.name) (placed es d.name ∙ same d.name)
   where
@@ -174,7 +148,7 @@ mentioned_first es ds before (name ∷ names) same =
     by (is_declared ds name) refl (mentioned_first es ds before names same)
     (mentioned_first (with_entry es name None) ds (before ++ name ∷ []) names
     (λ q. named_more es name None q ∙ ap (λ (t : Bool). t || bytes_eq q name) (same q) ∙ or_assoc (is_declared ds q) (has before q) (bytes_eq q name)
-    ∙ ap (λ (t : Bool). is_declared ds q || (has before q || t)) (bytes_swap q name)
+    ∙ ap (λ (t : Bool). is_declared ds q || (has before q || t)) (bytes_turned q name)
     ∙ ap (λ (t : Bool). is_declared ds q || t) (sym (list_any-append (λ (other : List ℕ). bytes_eq other q) before (name ∷ []) ∙ or_last (has before q) (bytes_eq name q)))))
   where
     rest : List (List ℕ) → Entries
@@ -199,7 +173,7 @@ mentioned_first es ds before (name ∷ names) same =
 pub declared_named : (ds : List Declaration) (q : List ℕ) → named (map (λ (d : Declaration). let e : List ℕ × Option Bounds = (d.name, d.bounds) in e) ds) q ≡ is_declared ds q
 declared_named [] q = refl
 declared_named (d ∷ ds) q =
-    ap (λ (t : Bool). t || named (map (λ (d : Declaration). let e : List ℕ × Option Bounds = (d.name, d.bounds) in e) ds) q) (bytes_swap q d.name)
+    ap (λ (t : Bool). t || named (map (λ (d : Declaration). let e : List ℕ × Option Bounds = (d.name, d.bounds) in e) ds) q) (bytes_turned q d.name)
     ∙ ap (λ (t : Bool). bytes_eq d.name q || t) (declared_named ds q)
 
 pub entries_are : (ps : List Placed) → entries ps ≡ net_entries ps

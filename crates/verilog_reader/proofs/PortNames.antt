@@ -7,6 +7,7 @@ use Rattle.std.proofs.lemmas.List.{append_assoc, append-nil, map-append}
 use Rattle.std.proofs.lemmas.List.Concat.{flat_map-append}
 use Rattle.std.proofs.lemmas.List.Folds.{find-append}
 use Rattle.std.specs.List.{AllByRecursion as Each}
+use Rattle.base_types.proofs.TruthValues.{bytes_same}
 use Rattle.netlist_core.specs.declared.netlist.NetName.{NetName}
 use Rattle.netlist_core.specs.declared.netlist.Direction.{Direction}
 use Rattle.netlist_core.specs.Netlists.{NamedBit, Named, Low, High, Undefined, named_bit, plain_of as net_plain}
@@ -22,7 +23,7 @@ use Rattle.verilog_reader.specs.Denoted.{SeenPort, directions_of, name_bits, nam
 use Rattle.verilog_names.specs.NameTables.{place}
 use Rattle.verilog_reader.specs.Numbering.{bounds_or, numbers_from, net_bit, numbered_port, port_bits, numbered_ports_of, numbered_ports_in, numbered_ports}
 use Rattle.verilog_reader.proofs.Filling.{Entries}
-use Rattle.verilog_reader.proofs.Places.{bytes_same, placed, named}
+use Rattle.verilog_reader.proofs.Places.{placed, named}
 use Rattle.verilog_reader.proofs.NetBits.{nets_of, all_named}
 use Rattle.verilog_reader.proofs.Checked.{Passes, each_left, each_right}
 

@@ -8,6 +8,7 @@ use Rattle.std.proofs.lemmas.List.{append-nil, map-append}
 use Rattle.std.proofs.lemmas.List.Concat.{flat_map-append}
 use Rattle.std.proofs.lemmas.List.Folds.{list_any-append}
 use Rattle.std.specs.List.{AllByRecursion as Each}
+use Rattle.base_types.proofs.TruthValues.{bytes_same, bytes_are}
 use Rattle.netlist_core.specs.declared.netlist.Direction.{Direction}
 use Rattle.netlist_core.specs.declared.netlist.Port.{Port}
 use Rattle.netlist_core.specs.declared.netlist.Instance.{Instance}
@@ -27,7 +28,6 @@ use Rattle.verilog_names.specs.NameTables.{total, place_from, place}
 use Rattle.verilog_reader.specs.Numbering.{numbers_from, numbered_port, port_bits, numbered_ports_of, numbered_ports_in, numbered_ports, numbered_instances_in, numbered_instances}
 use Rattle.verilog_reader.proofs.Filling.{Entries}
 use Rattle.verilog_names.proofs.Tables.{within}
-use Rattle.verilog_reader.proofs.Places.{bytes_same, same_bytes}
 use Rattle.verilog_reader.proofs.Checked.{Passes}
 use Rattle.verilog_reader.proofs.PortNames.{apart, first_port, find_any}
 use Rattle.verilog_reader.proofs.Distinct.{IsApartFrom, Distinct, AreNew, distinct_append, each_append, each_weaker, each_any, new_list, new_append}
@@ -113,7 +113,7 @@ places_apart p q at (x ∷ es) e f ne is_e is_f =
     elim (cases_Bool (bytes_eq p x.0)) [
       | inl here ↦
           elim (cases_Bool (bytes_eq q x.0)) [
-            | inl same ↦ absurd (ne (same_bytes p x.0 here ∙ sym (same_bytes q x.0 same)))
+            | inl same ↦ absurd (ne (bytes_are p x.0 here ∙ sym (bytes_are q x.0 same)))
             | inr there ↦ inl (head_before p q at x es e f here there is_e is_f)
           ]
       | inr other ↦

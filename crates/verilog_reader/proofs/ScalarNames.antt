@@ -3,10 +3,11 @@ use Rattle.std.proofs.Common.{◌≡◌, ℕ, Bool, true, false, cond, not, ◌|
 use Rattle.std.specs.Option.{is_some, option_or}
 use Rattle.std.specs.List.{list_any, filter}
 use Rattle.std.specs.Str.{bytes_eq}
-use Rattle.std.proofs.lemmas.Bool.{false≢true, or_parts}
+use Rattle.std.proofs.lemmas.Bool.{false≢true, or_parts, or_right, or_left}
 use Rattle.std.proofs.lemmas.List.{append_assoc, append-nil}
 use Rattle.std.proofs.lemmas.List.Concat.{flat_map-append}
 use Rattle.std.proofs.lemmas.List.Folds.{list_any-append, find-append}
+use Rattle.base_types.proofs.TruthValues.{bytes_are, bytes_turned}
 use Rattle.verilog_syntax.specs.declared.statement.Declared.{Declared}
 use Rattle.verilog_syntax.specs.declared.statement.Range.{Range}
 use Rattle.verilog_syntax.specs.declared.statement.Statement.{Statement}
@@ -18,18 +19,10 @@ use Rattle.verilog_checks.specs.Checks.{has_bit_in, have_bits, bad_twice}
 use Rattle.verilog_checks.specs.Faults.{is_vector, scalars_in, scalars}
 use Rattle.verilog_names.specs.NameTables.{with_declared}
 use Rattle.verilog_reader.specs.Numbering.{entries}
-use Rattle.verilog_reader.proofs.Places.{same_bytes, bytes_swap, named, named_all, declared_named, bounds_are}
+use Rattle.verilog_reader.proofs.Places.{named, named_all, declared_named, bounds_are}
 use Rattle.verilog_reader.proofs.Checked.{Passes}
 use Rattle.verilog_reader.proofs.PortNames.{IsApart, apart, declarations_push, find_any}
 use Rattle.verilog_reader.proofs.NamesApart.{IsClearAll}
-
-or_right : (a b : Bool) → b ≡ true → (a || b) ≡ true
-or_right true b is = refl
-or_right false b is = is
-
-or_left : (a b : Bool) → a ≡ true → (a || b) ≡ true
-or_left true b is = refl
-or_left false b is = absurd (false≢true is)
 
 has_append : (xs ys : List (List ℕ)) (s : List ℕ) → has (xs ++ ys) s ≡ (has xs s || has ys s)
 has_append xs ys s = list_any-append (λ (other : List ℕ). bytes_eq other s) xs ys
@@ -59,7 +52,7 @@ undeclared_scalar all s (name ∷ names) new is = by (bytes_eq name s) (is_decla
   where
     by : (t u : Bool) → bytes_eq name s ≡ t → is_declared all name ≡ u → (t || has names s) ≡ true → (has names s ≡ true → has (undeclared_in all names) s ≡ true)
         → has (cond (not u) (name ∷ undeclared_in all names) (undeclared_in all names)) s ≡ true
-    by true true here there is rest = absurd (false≢true (sym new ∙ ap (is_declared all) (sym (same_bytes name s here)) ∙ there))
+    by true true here there is rest = absurd (false≢true (sym new ∙ ap (is_declared all) (sym (bytes_are name s here)) ∙ there))
     by true false here there is rest = or_left (bytes_eq name s) (has (undeclared_in all names) s) here
     by false true other there is rest = rest is
     by false false other there is rest = or_right (bytes_eq name s) (has (undeclared_in all names) s) (rest is)
@@ -108,7 +101,7 @@ mention_in_row all s (p ∷ ps) new is =
 mentioned : (names : List (List ℕ)) (q : List ℕ) → named (map (λ (name : List ℕ). let e : List ℕ × Option Bounds = (name, None) in e) names) q ≡ has names q
 mentioned [] q = refl
 mentioned (name ∷ names) q =
-    ap (λ (t : Bool). t || named (map (λ (name : List ℕ). let e : List ℕ × Option Bounds = (name, None) in e) names) q) (bytes_swap q name) ∙ ap (λ (t : Bool). bytes_eq name q || t) (mentioned names q)
+    ap (λ (t : Bool). t || named (map (λ (name : List ℕ). let e : List ℕ × Option Bounds = (name, None) in e) names) q) (bytes_turned q name) ∙ ap (λ (t : Bool). bytes_eq name q || t) (mentioned names q)
 
 -- each scalar net stands among the scalars of the statements
 is_scalar : (ps : List Placed) (s : List ℕ) → named (entries ps) s ≡ true → bounds_in (declarations ps) s ≡ None → has (scalars (declarations ps) ps) s ≡ true
@@ -138,7 +131,7 @@ none_named f v (d ∷ ds) is none = by (bytes_eq d.name v) refl is (none_named f
     both = or_parts (f d.name) (list_any (λ (d : Declaration). f d.name) ds) none
 
     by : (t : Bool) → bytes_eq d.name v ≡ t → (t || is_declared ds v) ≡ true → (is_declared ds v ≡ true → list_any (λ d. f d.name) ds ≡ false → f v ≡ false) → f v ≡ false
-    by true here is rest = ap f (sym (same_bytes d.name v here)) ∙ both.0
+    by true here is rest = ap f (sym (bytes_are d.name v here)) ∙ both.0
     by false other is rest = rest is both.1
 
 none_has : (g : List ℕ → Bool) (s : List ℕ) (names : List (List ℕ)) → has names s ≡ true → list_any g names ≡ false → g s ≡ false
@@ -149,7 +142,7 @@ none_has g s (name ∷ names) is none = by (bytes_eq name s) refl is (none_has g
     both = or_parts (g name) (list_any g names) none
 
     by : (t : Bool) → bytes_eq name s ≡ t → (t || has names s) ≡ true → (has names s ≡ true → list_any g names ≡ false → g s ≡ false) → g s ≡ false
-    by true here is rest = ap g (sym (same_bytes name s here)) ∙ both.0
+    by true here is rest = ap g (sym (bytes_are name s here)) ∙ both.0
     by false other is rest = rest is both.1
 
 first_vector : (v s : List ℕ) (names : List (List ℕ)) (ds : List Declaration) → has names s ≡ true → have_bits ds names ≡ false → has_bit_in v (bounds_in ds v) s ≡ false
@@ -160,7 +153,7 @@ first_vector v s names (d ∷ ds) is none = by (bytes_eq d.name v) refl (first_v
     both = or_parts (list_any (has_bit_in d.name d.bounds) names) (have_bits ds names) none
 
     by : (t : Bool) → bytes_eq d.name v ≡ t → (have_bits ds names ≡ false → has_bit_in v (bounds_in ds v) s ≡ false) → has_bit_in v (bounds_or_none (cond t (Some d) (first_of v ds))) s ≡ false
-    by true here rest = ap (λ (n : List ℕ). has_bit_in n d.bounds s) (sym (same_bytes d.name v here)) ∙ none_has (has_bit_in d.name d.bounds) s names is both.0
+    by true here rest = ap (λ (n : List ℕ). has_bit_in n d.bounds s) (sym (bytes_are d.name v here)) ∙ none_has (has_bit_in d.name d.bounds) s names is both.0
     by false other rest = rest both.1
 
 -- one statement declares scalars or vectors, and mentions nothing

@@ -1,9 +1,9 @@
 -- Names, decimals and constants are told apart, from marks and from reserved words too.
-use Rattle.std.proofs.Common.{◌≡◌, ℕ, Bool, true, false, ◌&&◌, ◌==◌, List, [], ◌∷◌, codes, refl, ap, arith}
+use Rattle.std.proofs.Common.{◌≡◌, ℕ, Bool, true, false, ◌==◌, List, [], ◌∷◌, codes, refl, ap, arith}
 use Rattle.std.specs.Str.{bytes_eq}
 use Rattle.std.proofs.lemmas.Bool.Decides.{nat_tests}
+use Rattle.base_types.proofs.TruthValues.{and_first, bytes_are}
 use Rattle.verilog_syntax.specs.VerilogTokens.{is_digit, is_word_start}
-use Rattle.token_forms.proofs.Spelled.{same_bytes}
 use Rattle.verilog_syntax.specs.Words.{is_name, is_decimal, is_constant, begins_number}
 
 -- texts that a test tells apart aren't equal
@@ -11,7 +11,7 @@ pub apart : (test : List ℕ → Bool) (w v : List ℕ) → test w ≡ true → 
 apart test w v passes fails = decide (bytes_eq w v) refl
   where
     decide : (b : Bool) → bytes_eq w v ≡ b → bytes_eq w v ≡ false
-    decide true e = let same = ap test (same_bytes w v e) in cc
+    decide true e = let same = ap test (bytes_are w v e) in cc
     decide false e = e
 
 digit_no_start : (b : ℕ) → is_digit b ≡ true → is_word_start b ≡ false
@@ -19,10 +19,6 @@ digit_no_start b e = grind (arith, nat_tests)
 
 digit_no_slash : (b : ℕ) → is_digit b ≡ true → (b == 92) ≡ false
 digit_no_slash b e = grind (arith, nat_tests)
-
-and_first : (s k : Bool) → (s && k) ≡ true → s ≡ true
-and_first true k e = refl
-and_first false k e = absurd cc
 
 pub number_no_name : (w : List ℕ) → begins_number w ≡ true → is_name w ≡ false
 unfolding is_name

@@ -2,9 +2,9 @@
 use Rattle.std.proofs.Common.{◌≡◌, ℕ, ◌+◌, ◌==◌, Bool, true, false, cond, List, [], ◌∷◌, ◌++◌, length, take, drop, codes, refl, sym, ap, ◌∙◌, subst, arith, append-nil}
 use Rattle.std.proofs.lemmas.Bool.{eqb-false}
 use Rattle.std.proofs.Math.Seq.{take-append_seam, drop-append-add}
+use Rattle.base_types.proofs.TruthValues.{bytes_are}
 use Rattle.token_forms.specs.Tokens.{Token}
 use Rattle.token_forms.specs.Statements.{is_semicolon, begin_with, statements_of}
-use Rattle.token_forms.proofs.Spelled.{same_bytes}
 use Rattle.verilog_syntax.specs.Reading.{ends_module, body_len}
 
 abbrev pub IsEnd : Token → Type 0
@@ -20,7 +20,7 @@ record Cut (ts : List Token) (len : ℕ) : Type 0 where
 
 cut_more : (t : Token) (ts : List Token) (b : Bool) → ends_module t ≡ b → Cut ts (body_len ts) → Cut (t ∷ ts) (cond b 0 (1 + body_len ts))
 cut_more t ts true e c =
-    record { front = []; behind = t ∷ ts; is = refl; count = refl; ends = λ u us same. let k : t ≡ u = cc in subst IsEnd k (same_bytes t.text (codes "endmodule") e) }
+    record { front = []; behind = t ∷ ts; is = refl; count = refl; ends = λ u us same. let k : t ≡ u = cc in subst IsEnd k (bytes_are t.text (codes "endmodule") e) }
 cut_more t ts false e c =
     record { front = t ∷ c.front; behind = c.behind; is = ap (λ (l : List Token). t ∷ l) c.is; count = omega (arith, c.count); ends = c.ends }
 

@@ -2,16 +2,16 @@
 use Rattle.std.proofs.Common.{◌≡◌, ℕ, Bool, true, false, not, List, [], ◌∷◌, ◌++◌, length, codes, Option, Some, None, refl, sym, ap, ◌∙◌, subst, inl, inr, append-nil, append_assoc}
 use Rattle.std.specs.Str.{bytes_eq}
 use Rattle.std.specs.List.{AllByRecursion as Each, list_any, flat_map}
-use Rattle.std.proofs.lemmas.Bool.{eqb-true}
+use Rattle.std.proofs.lemmas.Bool.{eqb-true, and_parts, not-true}
 use Rattle.std.proofs.lemmas.List.{nil_from_length}
 use Rattle.std.proofs.lemmas.Option.{cond_some, same_Some, none-some}
 use Rattle.base_types.specs.declared.span.Span.{Span}
+use Rattle.base_types.proofs.TruthValues.{bytes_are}
 use Rattle.token_forms.specs.Tokens.{Token}
 use Rattle.token_forms.specs.Classes.{Only, But}
 use Rattle.token_forms.specs.Parts.{Part, Fixed, Slot, list_parts, Fits}
 use Rattle.token_forms.specs.Forms.{Form, IsWord, maybe, many, listed, at, between, ◌&◌, ◌▸◌, ◌◂◌, ◌only_if◌}
-use Rattle.token_forms.proofs.Spelled.{same_bytes, choose}
-use Rattle.token_forms.proofs.ClassLemmas.{both, not_true}
+use Rattle.token_forms.proofs.Spelled.{choose}
 use Rattle.token_forms.proofs.Parted.{behind_word, before_word, Makes, makes_nothing, makes_word, makes_text, makes_texts, makes_join, makes_split, makes_between, MakesList, makes_list}
 use Rattle.verilog_syntax.specs.declared.statement.Declared.{Declared}
 use Rattle.verilog_syntax.specs.declared.statement.Range.{Range}
@@ -115,7 +115,7 @@ assign_said listed s ts m =
     let sides = whole.second in
     let target = items_said p.0.0 sides.front sides.first.holds.holds in
     let source = items_said p.1.0 sides.second.run sides.second.holds.holds in
-    let passes = both (is_expression p.0.0) (not (list_any is_a_constant p.0.0)) sides.first.holds.passes in
+    let passes = and_parts (is_expression p.0.0) (not (list_any is_a_constant p.0.0)) sides.first.holds.passes in
     let left : List Part = texts_parts (flat_map item_texts p.0.0) in
     let right : List Part = Slot 61 p.1.1 (flat_map item_texts p.1.0) 59 ∷ [] in
     let targets = subst (λ (ws : List (List ℕ)). Makes (texts_parts ws) sides.front) target.texts (makes_texts sides.front) in
@@ -126,7 +126,7 @@ assign_said listed s ts m =
       makes = made;
       good = (
         nested_expression p.0.0 passes.0 target.good,
-        variables p.0.0 (not_true _ passes.1),
+        variables p.0.0 (not-true _ passes.1),
         nested_expression p.1.0 sides.second.holds.passes source.good,
       );
       behind = refl;
@@ -135,13 +135,13 @@ assign_said listed s ts m =
 kind_text : (text : List ℕ) (kind : Declared) → kind_of text ≡ Some kind → text ≡ declared_text kind
 unfolding kind_of
 kind_text text kind e =
-    choose (bytes_eq text (codes "input")) _ _ _ e (λ w k. same_bytes text _ w ∙ ap declared_text (same_Some _ _ k))
-    (λ w k. choose (bytes_eq text (codes "output")) _ _ _ k (λ w k. same_bytes text _ w ∙ ap declared_text (same_Some _ _ k))
-    (λ w k. choose (bytes_eq text (codes "inout")) _ _ _ k (λ w k. same_bytes text _ w ∙ ap declared_text (same_Some _ _ k))
-    (λ w k. choose (bytes_eq text (codes "wire")) _ _ _ k (λ w k. same_bytes text _ w ∙ ap declared_text (same_Some _ _ k))
-    (λ w k. choose (bytes_eq text (codes "tri")) _ _ _ k (λ w k. same_bytes text _ w ∙ ap declared_text (same_Some _ _ k))
-    (λ w k. choose (bytes_eq text (codes "supply0")) _ _ _ k (λ w k. same_bytes text _ w ∙ ap declared_text (same_Some _ _ k))
-    (λ w k. choose (bytes_eq text (codes "supply1")) _ _ _ k (λ w k. same_bytes text _ w ∙ ap declared_text (same_Some _ _ k)) (λ w k. absurd (none-some kind k))))))))
+    choose (bytes_eq text (codes "input")) _ _ _ e (λ w k. bytes_are text _ w ∙ ap declared_text (same_Some _ _ k))
+    (λ w k. choose (bytes_eq text (codes "output")) _ _ _ k (λ w k. bytes_are text _ w ∙ ap declared_text (same_Some _ _ k))
+    (λ w k. choose (bytes_eq text (codes "inout")) _ _ _ k (λ w k. bytes_are text _ w ∙ ap declared_text (same_Some _ _ k))
+    (λ w k. choose (bytes_eq text (codes "wire")) _ _ _ k (λ w k. bytes_are text _ w ∙ ap declared_text (same_Some _ _ k))
+    (λ w k. choose (bytes_eq text (codes "tri")) _ _ _ k (λ w k. bytes_are text _ w ∙ ap declared_text (same_Some _ _ k))
+    (λ w k. choose (bytes_eq text (codes "supply0")) _ _ _ k (λ w k. bytes_are text _ w ∙ ap declared_text (same_Some _ _ k))
+    (λ w k. choose (bytes_eq text (codes "supply1")) _ _ _ k (λ w k. bytes_are text _ w ∙ ap declared_text (same_Some _ _ k)) (λ w k. absurd (none-some kind k))))))))
 
 kind_said : (k : Declared) (ts : List Token) → kind.spells k ts → Makes (Fixed (declared_text k) ∷ []) ts
 unfolding kind

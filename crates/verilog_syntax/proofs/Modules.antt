@@ -9,9 +9,9 @@ use Rattle.base_types.specs.declared.fault.Fault.{Fault}
 use Rattle.base_types.specs.declared.fault.ReadFault.{ReadFault}
 use Rattle.base_types.specs.declared.fault.ReadFault.TheVariants as faults
 use Rattle.base_types.specs.declared.kind.Kind.TheVariants.{VerilogSyntax, SecondModule}
+use Rattle.base_types.proofs.TruthValues.{bytes_are, bytes_same}
 use Rattle.token_forms.specs.Tokens.{Token}
 use Rattle.token_forms.specs.Statements.{is_semicolon, begin_with, statements_of}
-use Rattle.token_forms.proofs.Spelled.{same_bytes, same_text}
 use Rattle.verilog_syntax.specs.declared.statement.Statement.{Statement}
 use Rattle.verilog_syntax.specs.declared.reading.Placed.{Placed}
 use Rattle.verilog_syntax.specs.Grammar.{header, statement}
@@ -28,7 +28,7 @@ data Body (ts : List Token) : Type 0 where
   IsCut : (body behind : List Token) (end : Token) → ts ≡ body ++ end ∷ behind → end.text ≡ codes "endmodule" → IsOpen body → Body ts
 
 more_body : (t : Token) (ts : List Token) (b : Bool) → ends_module t ≡ b → Body ts → Body (t ∷ ts)
-more_body t ts true e more = IsCut [] ts t refl (same_bytes t.text (codes "endmodule") e) tt
+more_body t ts true e more = IsCut [] ts t refl (bytes_are t.text (codes "endmodule") e) tt
 more_body t ts false e (IsWhole none count) = IsWhole (e, none) (let len : 1 + body_len ts ≡ length (t ∷ ts) = omega (arith, count) in rw e len)
 more_body t ts false e (IsCut body behind end is text none) = IsCut (t ∷ body) behind end (ap (λ (l : List Token). t ∷ l) is) text (e, none)
 
@@ -37,7 +37,7 @@ body_of [] = IsWhole tt refl
 body_of (t ∷ ts) = more_body t ts (ends_module t) refl (body_of ts)
 
 closed_len : (body behind : List Token) (end : Token) → IsOpen body → end.text ≡ codes "endmodule" → body_len (body ++ end ∷ behind) ≡ length body
-closed_len [] behind end none text = rw (same_text end.text (codes "endmodule") text) refl
+closed_len [] behind end none text = rw (bytes_same end.text (codes "endmodule") text) refl
 closed_len (t ∷ body) behind end none text = let k = closed_len body behind end none.1 text in rw (none.0) (omega arith)
 
 -- what a module that is closed is read as
@@ -147,7 +147,7 @@ ModuleIs text (Err f) = IsFormFault text f
 end_is : (text : List ℕ) (body : List Token) (t : Token) (behind : List Token) (ps : List Placed) → IsClosed text body (t ∷ behind) → IsBody text (statements_of body) ps
     → (b : Bool) → bytes_eq t.text (codes "module") ≡ b
     → ModuleIs text (result_and_then (λ (done : Unit {0}). Ok ps) (if b then Err (fault_at SecondModule (line_at text t.start)) else Err (fault_at VerilogSyntax (line_at text t.start))))
-end_is text body t behind ps c m true e = Second body behind t ps c m (same_bytes t.text (codes "module") e) refl
+end_is text body t behind ps c m true e = Second body behind t ps c m (bytes_are t.text (codes "module") e) refl
 end_is text body t behind ps c m false e = Behind body behind t ps c m e refl
 
 closing_is : (text : List ℕ) (body behind : List Token) (read : Result (List Placed) Fault) → IsClosed text body behind → BodyIs text (statements_of body) read → ModuleIs text (closing text behind read)
@@ -258,7 +258,7 @@ open_len (t ∷ ts) none = let k = open_len ts none.1 in rw (none.0) (omega arit
 
 second_end : (text : List ℕ) (t : Token) (behind : List Token) (ps : List Placed) → t.text ≡ codes "module" → closing text (t ∷ behind) (Ok ps) ≡ Err (fault_at SecondModule (line_at text t.start))
 unfolding read_end
-second_end text t behind ps is = rw (same_text t.text (codes "module") is) refl
+second_end text t behind ps is = rw (bytes_same t.text (codes "module") is) refl
 
 other_end : (text : List ℕ) (t : Token) (behind : List Token) (ps : List Placed) → bytes_eq t.text (codes "module") ≡ false → closing text (t ∷ behind) (Ok ps) ≡ Err (fault_at VerilogSyntax (line_at text t.start))
 unfolding read_end

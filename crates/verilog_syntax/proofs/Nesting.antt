@@ -2,9 +2,8 @@
 use Rattle.std.proofs.Common.{◌≡◌, ℕ, zero, suc, ◌+◌, ◌-◌, Bool, true, false, ◌&&◌, List, [], ◌∷◌, refl, sym, ap, ◌∙◌, arith}
 use Rattle.std.specs.Prelude.{nat_lt}
 use Rattle.std.specs.List.{AllByRecursion as Each}
-use Rattle.std.proofs.lemmas.Bool.{eqb-true}
+use Rattle.std.proofs.lemmas.Bool.{eqb-true, and_parts}
 use Rattle.std.proofs.lemmas.Bool.Decides.{nat_tests}
-use Rattle.token_forms.proofs.ClassLemmas.{both}
 use Rattle.verilog_syntax.specs.declared.statement.Item.{Item}
 use Rattle.verilog_syntax.specs.declared.statement.Item.TheVariants as items
 use Rattle.verilog_syntax.specs.StatementParts.{IsName, IsDecimal, IsExpression}
@@ -50,8 +49,8 @@ mutual
   behind_of (items.Part name left right ∷ others) zero e good = absurd cc
   behind_of (items.Constant text ∷ others) zero e good = absurd cc
   behind_of (items.Open ∷ others) (suc depth) e good = absurd cc
-  behind_of (items.Comma ∷ others) (suc depth) e good = begins_of others (suc depth) (both _ (nests (suc depth) false others) e).1 good.1
-  behind_of (items.Close ∷ others) (suc depth) e good = behind_of others depth (sym (fewer_open depth true others) ∙ (both _ (nests (suc depth - 1) true others) e).1) good.1
+  behind_of (items.Comma ∷ others) (suc depth) e good = begins_of others (suc depth) (and_parts _ (nests (suc depth) false others) e).1 good.1
+  behind_of (items.Close ∷ others) (suc depth) e good = behind_of others depth (sym (fewer_open depth true others) ∙ (and_parts _ (nests (suc depth - 1) true others) e).1) good.1
   behind_of (items.Name name ∷ others) (suc depth) e good = absurd cc
   behind_of (items.Bit name index ∷ others) (suc depth) e good = absurd cc
   behind_of (items.Part name left right ∷ others) (suc depth) e good = absurd cc

@@ -9,7 +9,8 @@ use Rattle.token_forms.specs.Statements.{begin_with, statements_of}
 use Rattle.token_forms.specs.Tokens.{Token}
 use Rattle.token_forms.specs.Parts.{spelled, token_texts}
 use Rattle.base_types.specs.declared.fault.Fault.{Fault}
-use Rattle.token_forms.proofs.Spelled.{spelled_append, same_text}
+use Rattle.base_types.proofs.TruthValues.{bytes_same}
+use Rattle.token_forms.proofs.Spelled.{spelled_append}
 use Rattle.token_forms.proofs.Joined.{CutTexts, cut_texts}
 use Rattle.verilog_syntax.specs.declared.statement.Statement.{Statement}
 use Rattle.verilog_syntax.specs.declared.reading.Placed.{Placed}
@@ -24,7 +25,7 @@ use Rattle.verilog_syntax.proofs.ReadForms.{statement-read, header-read}
 statement_cut : (front : List Token) (t : Token) (behind : List Token) → Each IsInner (token_texts front) → t.text ≡ 59 ∷ []
     → statements_of (front ++ t ∷ behind) ≡ (front ++ t ∷ []) ∷ statements_of behind
 unfolding statements_of
-statement_cut [] t behind inner text = rw (same_text t.text (59 ∷ []) text) refl
+statement_cut [] t behind inner text = rw (bytes_same t.text (59 ∷ []) text) refl
 statement_cut (u ∷ front) t behind inner text = rw (inner.0.0) (ap (begin_with u) (statement_cut front t behind inner.1 text))
 
 -- the first statement among some tokens

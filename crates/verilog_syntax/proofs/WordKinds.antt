@@ -2,8 +2,8 @@
 use Rattle.std.proofs.Common.{◌≡◌, ℕ, Bool, true, false, ◌&&◌, not, List, refl, subst}
 use Rattle.std.specs.Str.{bytes_eq}
 use Rattle.std.specs.List.{list_all}
+use Rattle.base_types.proofs.TruthValues.{bytes_are}
 use Rattle.token_forms.specs.Classes.{is_among, is_in, But}
-use Rattle.token_forms.proofs.Spelled.{same_bytes}
 use Rattle.token_forms.proofs.ClassLemmas.{passes_both}
 use Rattle.verilog_syntax.specs.Words.{no_operands, marks, is_name, is_decimal, is_constant, is_operand}
 
@@ -19,7 +19,7 @@ not_among test words text fails passes = decide (is_among words text) refl
     decide false e = e
     decide true e =
         let h = passes_both (λ w. not (test w)) (bytes_eq text) words fails e in
-        absurd (not_both (test h.0) (subst (λ (w : List ℕ). test w ≡ true) (same_bytes text h.0 h.2) passes) h.1)
+        absurd (not_both (test h.0) (subst (λ (w : List ℕ). test w ≡ true) (bytes_are text h.0 h.2) passes) h.1)
 
 accepted : (test : List ℕ → Bool) (words : List (List ℕ)) (text : List ℕ) → list_all (λ w. not (test w)) words ≡ true → (is_in (But words) text && test text) ≡ test text
 accepted test words text fails = decide (test text) refl

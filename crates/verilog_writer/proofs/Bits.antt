@@ -5,6 +5,7 @@ use Rattle.std.specs.List.{list_all, prefix_len}
 use Rattle.std.proofs.lemmas.Str.Parse.{IsNumeralModel, numerals_by_fold}
 use Rattle.std.proofs.lemmas.Bool.Decides.{nat_tests}
 use Rattle.std.proofs.lemmas.Fmt.{decimal_nonempty, digits_decimal}
+use Rattle.base_types.proofs.TruthValues.{and_first, and_second}
 use Rattle.verilog_syntax.specs.VerilogTokens.{is_blank, is_digit, is_word_start, is_word}
 use Rattle.verilog_syntax.specs.VerilogSplit.{is_escaped}
 use Rattle.verilog_syntax.specs.Seams.{is_identifier, is_escapable, is_decimal, HasTexts}
@@ -15,14 +16,6 @@ use Rattle.verilog_syntax.specs.StatementParts.{IsName, IsDecimal, item_texts, I
 use Rattle.verilog_names.specs.Values.{decimal_value}
 use Rattle.verilog_names.proofs.Indexes.{with_digit}
 use Rattle.verilog_writer.specs.VerilogText.{NetBit, indexed_text, indexed_item, net_text, net_item, IsIndex, IsNetBit}
-
-pub first_part : (a b : Bool) → (a && b) ≡ true → a ≡ true
-first_part true b e = refl
-first_part false b e = absurd cc
-
-pub second_part : (a b : Bool) → (a && b) ≡ true → b ≡ true
-second_part true b e = e
-second_part false b e = absurd cc
 
 -- an index
 pub own : IsNumeralModel (λ ds. list_all is_digit ds ≡ true) decimal_value
@@ -41,7 +34,7 @@ index_decimal i small = let low : i < 2 ^ 64 = omega arith in some_all (decimal 
 index_good : (w : List ℕ) → is_decimal w ≡ true → IsDecimal w
 unfolding words.is_decimal
 index_good [] e = absurd cc
-index_good (b ∷ bs) e = second_part (nat_lt 0 (suc (length bs))) _ e
+index_good (b ∷ bs) e = and_second (nat_lt 0 (suc (length bs))) _ e
 
 -- a name
 abbrev pub is_plain : List ℕ → Bool
@@ -52,7 +45,7 @@ no_backslash b e start = grind (arith, nat_tests)
 
 start_plain : (b : ℕ) (bs : List ℕ) (t : Bool) → (b == 92) ≡ t → is_plain (b ∷ bs) ≡ true → cond t (is_escaped bs) (is_plain (b ∷ bs)) ≡ true
 start_plain b bs true e plain =
-    let start = first_part (is_word_start b) (list_all is_word bs) (first_part (is_identifier (b ∷ bs)) _ plain) in
+    let start = and_first (is_word_start b) (list_all is_word bs) (and_first (is_identifier (b ∷ bs)) _ plain) in
     absurd (no_backslash b e start)
 start_plain b bs false e plain = plain
 
@@ -64,8 +57,8 @@ plain_good (b ∷ bs) e = start_plain b bs (b == 92) refl e
 pub blank_ends : (bs : List ℕ) → list_all (λ c. not (is_blank c)) bs ≡ true → prefix_len (λ c. not (is_blank c)) (bs ++ 32 ∷ []) ≡ length bs
 blank_ends [] e = refl
 blank_ends (b ∷ bs) e =
-    let black = first_part (not (is_blank b)) _ e in
-    let more = blank_ends bs (second_part (not (is_blank b)) _ e) in
+    let black = and_first (not (is_blank b)) _ e in
+    let more = blank_ends bs (and_second (not (is_blank b)) _ e) in
     rw (black, more) (omega arith)
 
 escaped_by : (name : List ℕ) → length (name ++ 32 ∷ []) ≡ length name + 1 → prefix_len (λ c. not (is_blank c)) (name ++ 32 ∷ []) ≡ length name → nat_lt 0 (length name) ≡ true
@@ -75,18 +68,18 @@ escaped_by name long size some = rw (size, long, some) (grind (arith, nat_tests)
 escaped_good : (name : List ℕ) → is_escapable name ≡ true → IsName (92 ∷ (name ++ 32 ∷ []))
 unfolding is_name
 escaped_good name e =
-    let size = blank_ends name (second_part (nat_lt 0 (length name)) _ e) in
-    let some = first_part (nat_lt 0 (length name)) _ e in
+    let size = blank_ends name (and_second (nat_lt 0 (length name)) _ e) in
+    let some = and_first (nat_lt 0 (length name)) _ e in
     escaped_by name (length-append name (32 ∷ [])) size some
 
 name_texts : (name : List ℕ) (t : Bool) → is_plain name ≡ t → is_escapable name ≡ true
     → HasTexts (cond t name (92 ∷ (name ++ 32 ∷ []))) (cond t name (92 ∷ (name ++ 32 ∷ [])) ∷ []) × IsName (cond t name (92 ∷ (name ++ 32 ∷ [])))
-name_texts name true plain e = (plain_law name (first_part (is_identifier name) _ plain), plain_good name plain)
+name_texts name true plain e = (plain_law name (and_first (is_identifier name) _ plain), plain_good name plain)
 name_texts name false plain e = (escaped_law name e, escaped_good name e)
 
 bit_texts : (name d : List ℕ) (t : Bool) → is_plain name ≡ t → is_escapable name ≡ true → is_decimal d ≡ true
     → HasTexts (cond t name (92 ∷ (name ++ 32 ∷ [])) ++ (91 ∷ (d ++ 93 ∷ []))) (cond t name (92 ∷ (name ++ 32 ∷ [])) ∷ (91 ∷ []) ∷ d ∷ (93 ∷ []) ∷ [])
-bit_texts name d true plain e f = plain_bit_law name d (first_part (is_identifier name) _ plain) f
+bit_texts name d true plain e f = plain_bit_law name d (and_first (is_identifier name) _ plain) f
 bit_texts name d false plain e f =
     subst (λ (l : List ℕ). HasTexts (92 ∷ l) ((92 ∷ (name ++ 32 ∷ [])) ∷ (91 ∷ []) ∷ d ∷ (93 ∷ []) ∷ [])) (sym (append_assoc name (32 ∷ []) (91 ∷ (d ++ 93 ∷ [])))) (escaped_bit_law name d e f)
 

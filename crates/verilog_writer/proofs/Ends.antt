@@ -2,10 +2,11 @@
 use Rattle.std.proofs.Common.{◌≡◌, ℕ, Bool, true, false, cond, List, [], ◌∷◌, ◌++◌, map, codes, refl, sym, ap, ap₂, ◌∙◌, subst, append_assoc}
 use Rattle.std.specs.List.{AllByRecursion as Each}
 use Rattle.std.specs.Str.{bytes_eq}
+use Rattle.base_types.proofs.TruthValues.{bytes_same}
 use Rattle.token_forms.specs.Tokens.{Token}
 use Rattle.token_forms.specs.Statements.{is_semicolon}
 use Rattle.token_forms.specs.Parts.{token_texts, spelled}
-use Rattle.token_forms.proofs.Spelled.{same_text, spelled_append}
+use Rattle.token_forms.proofs.Spelled.{spelled_append}
 use Rattle.verilog_syntax.specs.declared.reading.Placed.{Placed}
 use Rattle.verilog_syntax.specs.StatementParts.{statement_parts, IsGoodStatement}
 use Rattle.verilog_syntax.specs.Laws.{module_parts}
@@ -28,7 +29,7 @@ header [] behind [] e inner = absurd cc
 header [] behind (w ∷ ws) e inner = absurd cc
 header (t ∷ []) behind [] e inner =
     let text : t.text ≡ 59 ∷ [] = cc in
-    record { before = []; semicolon = t; is = refl; texts = refl; text = text; ends = rw (same_text t.text (59 ∷ []) text) refl }
+    record { before = []; semicolon = t; is = refl; texts = refl; text = text; ends = rw (bytes_same t.text (59 ∷ []) text) refl }
 header (t ∷ u ∷ front) behind [] e inner = absurd cc
 header (t ∷ front) behind (w ∷ ws) e inner =
     let text : t.text ≡ w = cc in

@@ -1,8 +1,7 @@
 -- The edits of a text as net bits, and what becomes of the items at a place.
-use Rattle.std.proofs.Common.{◌≡◌, ℕ, zero, suc, Bool, true, false, cond, ◌&&◌, inl, inr, ⊎_elim, List, [], ◌∷◌, map, Option, Some, None, refl, sym, ap, ◌∙◌, arith}
+use Rattle.std.proofs.Common.{◌≡◌, ℕ, zero, suc, Bool, true, false, cond, inl, inr, ⊎_elim, List, [], ◌∷◌, map, Option, Some, None, refl, sym, ap, ◌∙◌, arith}
 use Rattle.std.specs.Prelude.{◌==◌, find}
 use Rattle.std.specs.List.{slice_get}
-use Rattle.std.proofs.lemmas.Bool.{false≢true}
 use Rattle.std.proofs.lemmas.Bool.Decides.{nat_tests}
 use Rattle.std.specs.List.{AllByRecursion as Each}
 use Rattle.base_types.specs.declared.span.Span.{Span}
@@ -140,10 +139,6 @@ same_number a b is = grind (arith, nat_tests)
 pub number_same : (a b : ℕ) → a ≡ b → (a == b) ≡ true
 number_same a b is = grind (arith, nat_tests)
 
-pub both_true : (a b : Bool) → (a && b) ≡ true → (a ≡ true) × (b ≡ true)
-both_true true b is = (refl, is)
-both_true false b is = absurd (false≢true is)
-
 pub some_same : {X : Type 0} (o : Option X) (x y : X) → o ≡ Some x → o ≡ Some y → x ≡ y
 some_same o x y a b = let e : Some x ≡ Some y = sym a ∙ b in cc
 
@@ -151,6 +146,3 @@ pub get_has : {X : Type 0} (xs : List X) (k : ℕ) (x : X) → slice_get xs k �
 get_has [] k x is = absurd cc
 get_has (z ∷ zs) zero x is = let same : z ≡ x = cc in inl (sym same)
 get_has (z ∷ zs) (suc k) x is = inr (get_has zs k x is)
-
-pub some_not : (a : Bool) → a ≡ true → a ≡ false → ⊥
-some_not a t f = false≢true (sym f ∙ t)

@@ -3,7 +3,7 @@ use Rattle.std.proofs.Common.{◌≡◌, ℕ, Bool, true, false, cond, not, nat_
 use Rattle.std.specs.Prelude.{◌==◌}
 use Rattle.std.specs.Option.{option_or}
 use Rattle.std.specs.List.{list_any, filter}
-use Rattle.std.proofs.lemmas.Bool.{false≢true, or_parts}
+use Rattle.std.proofs.lemmas.Bool.{false≢true, or_parts, or_from}
 use Rattle.std.proofs.lemmas.Bool.Decides.{nat_tests}
 use Rattle.std.proofs.lemmas.List.{append-nil}
 use Rattle.std.proofs.lemmas.List.Concat.{flat_map-append}
@@ -35,10 +35,6 @@ passed_all bad kind before [] pass = refl
 passed_all bad kind before (p ∷ ps) pass =
     ap (λ (t : Bool). let r : Result (Unit {0}) Fault = cond t (Err (fault_at kind p.line)) (check_from bad kind (before ++ p ∷ []) ps) in r) pass.0 ∙ passed_all bad kind (before ++ p ∷ []) ps pass.1
 
-pub or_false : (a b : Bool) → a ≡ false → b ≡ false → (a || b) ≡ false
-or_false true b x y = x
-or_false false b x y = y
-
 pub pushed : (before before' : List Placed) (p q : Placed) → declarations before' ≡ declarations before → IsAlike p.statement q.statement → declarations (before' ++ q ∷ []) ≡ declarations (before ++ p ∷ [])
 pushed before before' p q same like =
     declarations_push before' q ∙ ap₂ (λ (a b : List Declaration). a ++ b) same like.declarations ∙ sym (declarations_push before p)
@@ -52,8 +48,8 @@ number_passes all before before' (p ∷ ps) [] same are sound pass = absurd are
 number_passes all before before' (p ∷ ps) (q ∷ qs) same are sound pass =
     let more = pushed before before' p q same are.0 in
     let many = (or_parts (is_bad_range (range_in p.statement) || list_any is_bad_number (items_in p.statement)) (nat_lt 16777216 (vector_bits (declarations (before ++ p ∷ [])))) pass.0).1 in (
-      or_false (is_bad_range (range_in q.statement) || list_any is_bad_number (items_in q.statement)) (nat_lt 16777216 (vector_bits (declarations (before' ++ q ∷ []))))
-          (or_false (is_bad_range (range_in q.statement)) (list_any is_bad_number (items_in q.statement)) sound.0.range sound.0.number)
+      or_from (is_bad_range (range_in q.statement) || list_any is_bad_number (items_in q.statement)) (nat_lt 16777216 (vector_bits (declarations (before' ++ q ∷ []))))
+          (or_from (is_bad_range (range_in q.statement)) (list_any is_bad_number (items_in q.statement)) sound.0.range sound.0.number)
           (ap (λ (ds : List Declaration). nat_lt 16777216 (vector_bits ds)) more ∙ many),
       number_passes all (before ++ p ∷ []) (before' ++ q ∷ []) ps qs more are.1 sound.1 pass.1,
     )
@@ -73,10 +69,10 @@ select_passes all all' before before' (p ∷ ps) (q ∷ qs) whole are sound pass
     let b = or_parts (list_any (is_bad_select (bounds_in ds)) (items_in p.statement) || differ_in_width (bounds_in ds) p.statement) (list_any (λ port. not (has_direction ds port)) (ports_in p.statement)) a.0 in
     let whole_same : (list_any (is_bad_select (bounds_in ds)) (items_in q.statement) || differ_in_width (bounds_in ds) q.statement || list_any (λ port. not (has_direction ds port)) (ports_in q.statement)
     || list_any (is_badly_listed (header_ports all)) (declarations_in q.statement)) ≡ false
-    = or_false (list_any (is_bad_select (bounds_in ds)) (items_in q.statement) || differ_in_width (bounds_in ds) q.statement || list_any (λ port. not (has_direction ds port)) (ports_in q.statement))
+    = or_from (list_any (is_bad_select (bounds_in ds)) (items_in q.statement) || differ_in_width (bounds_in ds) q.statement || list_any (λ port. not (has_direction ds port)) (ports_in q.statement))
     (list_any (is_badly_listed (header_ports all)) (declarations_in q.statement))
-    (or_false (list_any (is_bad_select (bounds_in ds)) (items_in q.statement) || differ_in_width (bounds_in ds) q.statement) (list_any (λ port. not (has_direction ds port)) (ports_in q.statement))
-    (or_false (list_any (is_bad_select (bounds_in ds)) (items_in q.statement)) (differ_in_width (bounds_in ds) q.statement) sound.0.select sound.0.widths)
+    (or_from (list_any (is_bad_select (bounds_in ds)) (items_in q.statement) || differ_in_width (bounds_in ds) q.statement) (list_any (λ port. not (has_direction ds port)) (ports_in q.statement))
+    (or_from (list_any (is_bad_select (bounds_in ds)) (items_in q.statement)) (differ_in_width (bounds_in ds) q.statement) sound.0.select sound.0.widths)
     (ap (λ (l : List (List ℕ)). list_any (λ port. not (has_direction ds port)) l) are.0.ports ∙ b.1))
     (ap (λ (l : List Declaration). list_any (is_badly_listed (header_ports all)) l) are.0.declarations ∙ a.1)
     in (
@@ -173,19 +169,19 @@ module _ (ps : List Placed) where
   module _ (free : (s v : List ℕ) → IsScalar ps s → has_bit_in v (bounds_in ds v) s ≡ false) where
     no_bit : (v : List ℕ) (names : List (List ℕ)) → Each (IsScalar ps) names → list_any (has_bit_in v (bounds_in ds v)) names ≡ false
     no_bit v [] scalar = refl
-    no_bit v (s ∷ names) scalar = or_false (has_bit_in v (bounds_in ds v) s) (list_any (has_bit_in v (bounds_in ds v)) names) (free s v scalar.0) (no_bit v names scalar.1)
+    no_bit v (s ∷ names) scalar = or_from (has_bit_in v (bounds_in ds v) s) (list_any (has_bit_in v (bounds_in ds v)) names) (free s v scalar.0) (no_bit v names scalar.1)
 
     no_bits : (all es : List Declaration) (names : List (List ℕ)) → Each (Steady all) es → Each (Steady ds) es → Each (IsScalar ps) names
         → list_any (λ d. list_any (has_bit_in d.name (bounds_in all d.name)) names) es ≡ false
     no_bits all [] names own same scalar = refl
     no_bits all (e ∷ es) names own same scalar =
-        or_false (list_any (has_bit_in e.name (bounds_in all e.name)) names) (list_any (λ d. list_any (has_bit_in d.name (bounds_in all d.name)) names) es)
+        or_from (list_any (has_bit_in e.name (bounds_in all e.name)) names) (list_any (λ d. list_any (has_bit_in d.name (bounds_in all d.name)) names) es)
         (ap (λ (b : Option Bounds). list_any (has_bit_in e.name b) names) (own.0 ∙ sym same.0) ∙ no_bit e.name names scalar) (no_bits all es names own.1 same.1 scalar)
 
     none_have : (es : List Declaration) (names : List (List ℕ)) → Each (Steady ds) es → Each (IsScalar ps) names → have_bits es names ≡ false
     none_have [] names same scalar = refl
     none_have (e ∷ es) names same scalar =
-        or_false (list_any (has_bit_in e.name e.bounds) names) (have_bits es names)
+        or_from (list_any (has_bit_in e.name e.bounds) names) (have_bits es names)
         (ap (λ (b : Option Bounds). list_any (has_bit_in e.name b) names) (sym same.0) ∙ no_bit e.name names scalar) (none_have es names same.1 scalar)
 
     -- what is known of the statements before
@@ -239,11 +235,11 @@ module _ (ps : List Placed) where
         let f = have_bits (declarations_in q.statement) (scalars ds before') in
         let own : Each (Steady (declarations before)) (declarations before) = steady [] (declarations before) known.again in
         let all : (a || b || c || d || e || f) ≡ false
-        = or_false (a || b || c || d || e) f
-        (or_false (a || b || c || d) e
-        (or_false (a || b || c) d
-        (or_false (a || b) c
-        (or_false a b (ap has_twice like.ports ∙ once.ports)
+        = or_from (a || b || c || d || e) f
+        (or_from (a || b || c || d) e
+        (or_from (a || b || c) d
+        (or_from (a || b) c
+        (or_from a b (ap has_twice like.ports ∙ once.ports)
         (ap (λ (es : List Declaration). any_again es (declarations_in q.statement)) known.same ∙ ap (any_again (declarations before)) like.declarations ∙ once.again))
         (ap (λ (ns : List (List ℕ)). list_any (has ns) (instances_named q.statement)) known.instances ∙ ap (list_any (has (instance_names before))) like.instances ∙ once.instances))
         (ap has_twice like.pins ∙ once.pins))
@@ -258,7 +254,7 @@ module _ (ps : List Placed) where
       same = pushed before before' p q known.same like;
       instances = instances_push before' q ∙ ap₂ (λ (a b : List (List ℕ)). a ++ b) known.instances like.instances ∙ sym (instances_push before p);
       again = ap (any_again []) (declarations_push before p) ∙ again-append [] (declarations before) (declarations_in p.statement)
-          ∙ or_false (any_again [] (declarations before)) (any_again (declarations before) (declarations_in p.statement)) known.again once.again;
+          ∙ or_from (any_again [] (declarations before)) (any_again (declarations before) (declarations_in p.statement)) known.again once.again;
       steady_so = subst (Each (Steady ds)) (sym (declarations_push before p)) (each_append (Steady ds) (declarations before) (declarations_in p.statement) known.steady_so same);
       scalar = subst (Each (IsScalar ps)) (sym (scalars_push before' q)) (each_append (IsScalar ps) (scalars ds before') (scalars_in ds q.statement) known.scalar scalar);
     }

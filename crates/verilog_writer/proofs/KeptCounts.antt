@@ -8,6 +8,7 @@ use Rattle.std.proofs.lemmas.Bool.{false≢true, or_parts}
 use Rattle.std.proofs.lemmas.List.Folds.{list_any-append}
 use Rattle.std.proofs.lemmas.Map.Made.{length-le_from_is_member}
 use Rattle.std.specs.List.{AllByRecursion as Each}
+use Rattle.base_types.proofs.TruthValues.{bytes_are, bytes_same, bytes_turned}
 use Rattle.verilog_syntax.specs.declared.reading.Placed.{Placed}
 use Rattle.verilog_names.specs.declared.bounds.Bounds.{Bounds}
 use Rattle.verilog_names.specs.Declarations.{Declaration, declarations, is_declared, has, mentions, undeclared_in}
@@ -16,7 +17,7 @@ use Rattle.verilog_names.specs.NameTables.{total}
 use Rattle.verilog_reader.specs.Numbering.{entries}
 use Rattle.verilog_reader.proofs.Distinct.{each_weaker}
 use Rattle.verilog_reader.proofs.Filling.{Entries}
-use Rattle.verilog_reader.proofs.Places.{same_bytes, bytes_same, bytes_swap, named, named_all, declared_first, declared_named, entries_are}
+use Rattle.verilog_reader.proofs.Places.{named, named_all, declared_first, declared_named, entries_are}
 use Rattle.verilog_writer.proofs.KeptNets.{undeclared_new}
 
 pub total_append : (es fs : Entries) → total (es ++ fs) ≡ total es + total fs
@@ -91,8 +92,8 @@ first_apart before (name ∷ names) = by (has before name) refl (first_apart (be
 pub laws : IsEquivalence bytes_eq
 laws = record {
   refl = λ x. bytes_same x x refl;
-  symm = λ x y. bytes_swap x y;
-  congr = λ x y z same. ap (λ (w : List ℕ). bytes_eq w z) (same_bytes x y same);
+  symm = λ x y. bytes_turned x y;
+  congr = λ x y z same. ap (λ (w : List ℕ). bytes_eq w z) (bytes_are x y same);
 }
 
 pub member_named : (es : Entries) (q : List ℕ) → is_member bytes_eq (names_of es) q ≡ named es q
@@ -105,7 +106,7 @@ named_has P [] q each is = absurd (false≢true is)
 named_has P (e ∷ es) q each is = by (bytes_eq q e.0) refl is (λ more. named_has P es q each.1 more)
   where
     by : (t : Bool) → bytes_eq q e.0 ≡ t → (t || named es q) ≡ true → (named es q ≡ true → P q) → P q
-    by true here is rest = subst P (sym (same_bytes q e.0 here)) each.0
+    by true here is rest = subst P (sym (bytes_are q e.0 here)) each.0
     by false other is rest = rest is
 
 pub undeclared_each : (P : List ℕ → Type 0) (ds : List Declaration) (names : List (List ℕ)) → Each P names → Each P (undeclared_in ds names)

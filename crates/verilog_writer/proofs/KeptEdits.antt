@@ -9,6 +9,7 @@ use Rattle.std.proofs.lemmas.Bool.Decides.{nat_tests}
 use Rattle.std.proofs.lemmas.Map.Keys.{IsDistinct-IsPermutation}
 use Rattle.std.specs.List.{AllByRecursion as Each}
 use Rattle.base_types.specs.declared.span.Span.{Span}
+use Rattle.base_types.proofs.TruthValues.{bytes_are}
 use Rattle.splice.specs.declared.Edit.{Edit}
 use Rattle.splice.specs.Spliced.{AreRising}
 use Rattle.netlist_core.specs.declared.netlist.Connection.{Connection}
@@ -22,7 +23,6 @@ use Rattle.path_links.specs.declared.edits.PinEdit.{PinEdit}
 use Rattle.path_links.specs.Edited.{input_of, in_connection}
 use Rattle.verilog_reader.proofs.Checked.{each_from}
 use Rattle.verilog_reader.proofs.Distinct.{Distinct, IsApartFrom, each_both, each_append}
-use Rattle.verilog_reader.proofs.Places.{same_bytes}
 use Rattle.verilog_writer.proofs.KeptLists.{Has, Spaced, inside, in_order}
 use Rattle.verilog_writer.proofs.KeptPlaces.{instance_spans, right_spans}
 
@@ -38,7 +38,7 @@ found_pin pin [] c is = absurd cc
 found_pin pin (x ∷ xs) c is = by (bytes_eq x.pin pin) refl is (λ more. found_pin pin xs c more)
   where
     by : (t : Bool) → bytes_eq x.pin pin ≡ t → cond t (Some x) (connection_at pin xs) ≡ Some c → (connection_at pin xs ≡ Some c → c.pin ≡ pin) → c.pin ≡ pin
-    by true here is rest = let same : x ≡ c = cc in subst (λ (z : Connection). z.pin ≡ pin) same (same_bytes x.pin pin here)
+    by true here is rest = let same : x ≡ c = cc in subst (λ (z : Connection). z.pin ≡ pin) same (bytes_are x.pin pin here)
     by false other is rest = rest is
 
 pub found_has : (pin : List ℕ) (cs : List Connection) (c : Connection) → connection_at pin cs ≡ Some c → Has c cs

@@ -4,11 +4,12 @@ use Rattle.std.specs.Option.{option_or}
 use Rattle.std.specs.Str.{bytes_eq}
 use Rattle.verilog_syntax.specs.VerilogTokens.{texts}
 use Rattle.std.specs.List.{flat_map, find}
-use Rattle.std.proofs.lemmas.Bool.{false≢true}
+use Rattle.std.proofs.lemmas.Bool.{false≢true, or_right}
 use Rattle.std.proofs.lemmas.Bool.Decides.{nat_tests}
 use Rattle.std.proofs.lemmas.Fmt.{digits_value-decimal}
 use Rattle.std.proofs.lemmas.List.Folds.{find-append}
 use Rattle.std.specs.List.{AllByRecursion as Each}
+use Rattle.base_types.proofs.TruthValues.{bytes_same}
 use Rattle.verilog_syntax.specs.Seams.{is_escapable}
 use Rattle.netlist_core.specs.declared.netlist.NetId.{NetId}
 use Rattle.netlist_core.specs.declared.netlist.NetName.{NetName}
@@ -26,7 +27,7 @@ use Rattle.verilog_reader.proofs.BitNaming.{IsSmall, indexes_within}
 use Rattle.verilog_reader.proofs.BitNaming as naming
 use Rattle.verilog_reader.proofs.Distinct.{all_of, each_weaker, each_append}
 use Rattle.verilog_reader.proofs.Filling.{Entries}
-use Rattle.verilog_reader.proofs.Places.{bytes_same, named, entries_are}
+use Rattle.verilog_reader.proofs.Places.{named, entries_are}
 use Rattle.verilog_reader.proofs.PortNames.{find_any}
 use Rattle.verilog_writer.specs.NetTexts.{indexed_name, net_name}
 use Rattle.verilog_writer.specs.VerilogText.{NetBit, indexed_item, net_text, IsIndex, IsNetBit}
@@ -101,16 +102,11 @@ entries_bound ps =
     let ds = declarations ps in
     each_append (HasBounds ds) (first_declared [] ds) (first_mentioned [] (undeclared_in ds (mentions ps))) (declared_bounds [] ds) (mentioned_bounds ds [] (undeclared_in ds (mentions ps)) (undeclared_new ds (mentions ps)))
 
--- each entry has its name
-or_true : (a b : Bool) → b ≡ true → (a || b) ≡ true
-or_true true b is = refl
-or_true false b is = is
-
 all_named : (es : Entries) → Each (λ (e : List ℕ × Option Bounds). named es e.0 ≡ true) es
 all_named [] = tt
 all_named (e ∷ es) = (
   ap (λ (t : Bool). t || named es e.0) (bytes_same e.0 e.0 refl),
-  each_weaker (λ (x : List ℕ × Option Bounds). named es x.0 ≡ true) (λ (x : List ℕ × Option Bounds). named (e ∷ es) x.0 ≡ true) es (λ x is. or_true (bytes_eq x.0 e.0) (named es x.0) is) (all_named es),
+  each_weaker (λ (x : List ℕ × Option Bounds). named es x.0 ≡ true) (λ (x : List ℕ × Option Bounds). named (e ∷ es) x.0 ≡ true) es (λ x is. or_right (bytes_eq x.0 e.0) (named es x.0) is) (all_named es),
 )
 
 entries_named : (ps : List Placed) → Each (λ (e : List ℕ × Option Bounds). named (entries ps) e.0 ≡ true) (net_entries ps)

@@ -1,7 +1,7 @@
 -- The changed statements are sound: their items fit the declarations, and name what is declared or mentioned.
-use Rattle.std.proofs.Common.{◌≡◌, ℕ, ◌<◌, ◌^◌, Bool, true, false, cond, not, nat_lt, ◌||◌, List, [], ◌∷◌, map, decimal, Option, Some, None, refl, sym, ap, ◌∙◌, subst, arith}
+use Rattle.std.proofs.Common.{◌≡◌, ℕ, ◌<◌, ◌^◌, Bool, true, false, cond, not, nat_lt, List, [], ◌∷◌, map, decimal, Option, Some, None, refl, sym, ap, ◌∙◌, subst, arith}
 use Rattle.std.specs.List.{flat_map, list_any}
-use Rattle.std.proofs.lemmas.Bool.{false≢true, or_parts}
+use Rattle.std.proofs.lemmas.Bool.{false≢true, or_parts, or_from}
 use Rattle.std.proofs.lemmas.Fmt.{digits_value-decimal}
 use Rattle.std.specs.List.{AllByRecursion as Each}
 use Rattle.verilog_syntax.specs.Seams.{is_escapable}
@@ -70,17 +70,13 @@ all_fine ps (x ∷ xs) number select known =
       all_fine ps xs numbers.1 selected.1 (each_right P (mentions_of x) (flat_map mentions_of xs) known),
     )
 
-or_false : (a b : Bool) → a ≡ false → b ≡ false → (a || b) ≡ false
-or_false true b x y = x
-or_false false b x y = y
-
 pub numbers_fine : (ps : List Placed) (xs : List Item) → Each (IsFine ps) xs → list_any is_bad_number xs ≡ false
 numbers_fine ps [] fine = refl
-numbers_fine ps (x ∷ xs) fine = or_false (is_bad_number x) (list_any is_bad_number xs) fine.0.number (numbers_fine ps xs fine.1)
+numbers_fine ps (x ∷ xs) fine = or_from (is_bad_number x) (list_any is_bad_number xs) fine.0.number (numbers_fine ps xs fine.1)
 
 pub selects_fine : (ps : List Placed) (xs : List Item) → Each (IsFine ps) xs → list_any (is_bad_select (bounds_in (declarations ps))) xs ≡ false
 selects_fine ps [] fine = refl
-selects_fine ps (x ∷ xs) fine = or_false (is_bad_select (bounds_in (declarations ps)) x) (list_any (is_bad_select (bounds_in (declarations ps))) xs) fine.0.select (selects_fine ps xs fine.1)
+selects_fine ps (x ∷ xs) fine = or_from (is_bad_select (bounds_in (declarations ps)) x) (list_any (is_bad_select (bounds_in (declarations ps))) xs) fine.0.select (selects_fine ps xs fine.1)
 
 pub mentions_fine : (ps : List Placed) (xs : List Item) → Each (IsFine ps) xs → AreKnownNames ps (flat_map mentions_of xs)
 mentions_fine ps [] fine = tt

@@ -4,6 +4,7 @@ use Rattle.std.specs.Prelude.{◌==◌}
 use Rattle.std.specs.List.{list_all, prefix_len}
 use Rattle.std.proofs.lemmas.Bool.Decides.{nat_tests}
 use Rattle.std.proofs.lemmas.Fmt.{digits_value-decimal}
+use Rattle.base_types.proofs.TruthValues.{and_first, and_second}
 use Rattle.verilog_syntax.specs.VerilogTokens.{is_blank, is_word_start, is_word}
 use Rattle.verilog_syntax.specs.VerilogSplit.{is_escaped}
 use Rattle.verilog_syntax.specs.Seams.{is_identifier, is_escapable}
@@ -16,7 +17,7 @@ use Rattle.verilog_names.specs.Declarations.{Declaration}
 use Rattle.verilog_reader.specs.Denoted.{item_bits}
 use Rattle.verilog_writer.specs.VerilogText.{indexed_item, IsIndex}
 use Rattle.verilog_writer.specs.NetTexts.{indexed_name, IsScalarWithout, BitLaw}
-use Rattle.verilog_writer.proofs.Bits.{own, first_part, second_part, positive, is_plain, no_backslash, blank_ends}
+use Rattle.verilog_writer.proofs.Bits.{own, positive, is_plain, no_backslash, blank_ends}
 
 -- the bytes up to the first that fails
 run_length : (p : ℕ → Bool) (bs : List ℕ) → length (take (prefix_len p bs) bs) ≡ prefix_len p bs
@@ -47,18 +48,18 @@ word_black c e = grind (arith, nat_tests)
 
 words_black : (cs : List ℕ) → list_all is_word cs ≡ true → list_all (λ c. not (is_blank c)) cs ≡ true
 words_black [] e = refl
-words_black (c ∷ cs) e = rw (word_black c (first_part (is_word c) _ e)) (words_black cs (second_part (is_word c) _ e))
+words_black (c ∷ cs) e = rw (word_black c (and_first (is_word c) _ e)) (words_black cs (and_second (is_word c) _ e))
 
 identifier_black : (b : ℕ) (bs : List ℕ) → is_identifier (b ∷ bs) ≡ true → is_escapable (b ∷ bs) ≡ true
 identifier_black b bs e =
-    rw (positive (length bs), no_blank_start b (first_part (is_word_start b) _ e)) (words_black bs (second_part (is_word_start b) _ e))
+    rw (positive (length bs), no_blank_start b (and_first (is_word_start b) _ e)) (words_black bs (and_second (is_word_start b) _ e))
 
 pub plain_black : (name : List ℕ) → is_identifier name ≡ true → is_escapable name ≡ true
 plain_black [] e = absurd cc
 plain_black (b ∷ bs) e = identifier_black b bs e
 
 escaped_black : (bs : List ℕ) → is_escaped bs ≡ true → is_escapable (take (prefix_len (λ c. not (is_blank c)) bs) bs) ≡ true
-escaped_black bs e = rw (run_length (λ c. not (is_blank c)) bs, first_part (nat_lt 0 (prefix_len (λ c. not (is_blank c)) bs)) _ e) (run_all (λ c. not (is_blank c)) bs)
+escaped_black bs e = rw (run_length (λ c. not (is_blank c)) bs, and_first (nat_lt 0 (prefix_len (λ c. not (is_blank c)) bs)) _ e) (run_all (λ c. not (is_blank c)) bs)
 
 -- the plain name of a name can be escaped
 pub plain_escapable : (name : List ℕ) → IsName name → is_escapable (unescaped name) ≡ true
@@ -68,7 +69,7 @@ plain_escapable (b ∷ bs) e = by (b == 92) e
   where
     by : (t : Bool) → cond t (is_escaped bs) (is_plain (b ∷ bs)) ≡ true → is_escapable (cond t (take (prefix_len (λ c. not (is_blank c)) bs) bs) (b ∷ bs)) ≡ true
     by true e = escaped_black bs e
-    by false e = identifier_black b bs (first_part (is_identifier (b ∷ bs)) _ e)
+    by false e = identifier_black b bs (and_first (is_identifier (b ∷ bs)) _ e)
 
 -- a written name has the plain name that it was written from
 take_front : (bs cs : List ℕ) → take (length bs) (bs ++ cs) ≡ bs
@@ -76,14 +77,14 @@ take_front [] cs = refl
 take_front (b ∷ bs) cs = ap (λ (l : List ℕ). b ∷ l) (take_front bs cs)
 
 plain_start : (b : ℕ) (bs : List ℕ) (t : Bool) → (b == 92) ≡ t → is_plain (b ∷ bs) ≡ true → cond t (take (prefix_len (λ c. not (is_blank c)) bs) bs) (b ∷ bs) ≡ b ∷ bs
-plain_start b bs true e plain = absurd (no_backslash b e (first_part (is_word_start b) _ (first_part (is_identifier (b ∷ bs)) _ plain)))
+plain_start b bs true e plain = absurd (no_backslash b e (and_first (is_word_start b) _ (and_first (is_identifier (b ∷ bs)) _ plain)))
 plain_start b bs false e plain = refl
 
 plain_again : (name : List ℕ) (t : Bool) → is_plain name ≡ t → is_escapable name ≡ true → unescaped (cond t name (92 ∷ (name ++ 32 ∷ []))) ≡ name
 plain_again [] true e black = refl
 plain_again (b ∷ bs) true e black = plain_start b bs (b == 92) refl e
 plain_again name false e black =
-    let size = blank_ends name (second_part (nat_lt 0 (length name)) _ black) in
+    let size = blank_ends name (and_second (nat_lt 0 (length name)) _ black) in
     ap (λ (k : ℕ). take k (name ++ 32 ∷ [])) size ∙ take_front name (32 ∷ [])
 
 pub name_again : (name : List ℕ) → is_escapable name ≡ true → unescaped (name_text name) ≡ name

@@ -1,10 +1,11 @@
 -- The nets of a netlist that a text denotes are net bits.
-use Rattle.std.proofs.Common.{◌≡◌, ℕ, zero, suc, ◌≤◌, Bool, true, false, cond, not, ◌||◌, List, [], ◌∷◌, ◌++◌, map, option_map, Option, Some, None, Ok, Err, Result, refl, sym, subst, arith}
+use Rattle.std.proofs.Common.{◌≡◌, ℕ, zero, suc, ◌≤◌, Bool, true, false, cond, not, List, [], ◌∷◌, ◌++◌, map, option_map, Option, Some, None, Ok, Err, Result, refl, sym, subst, arith}
 use Rattle.std.specs.List.{flat_map, list_any}
-use Rattle.std.proofs.lemmas.Bool.{ltb-false}
+use Rattle.std.proofs.lemmas.Bool.{ltb-false, not-true}
 use Rattle.std.specs.List.{AllByRecursion as Each}
 use Rattle.verilog_syntax.specs.Seams.{is_escapable}
 use Rattle.base_types.specs.declared.fault.Fault.{Fault}
+use Rattle.base_types.proofs.TruthValues.{or_first, or_second, and_first, and_second}
 use Rattle.splice.proofs.Tokens.{each_front, each_behind, each_join}
 use Rattle.netlist_core.specs.declared.netlist.NetName.{NetName}
 use Rattle.verilog_syntax.specs.declared.statement.Declared.{Declared}
@@ -29,7 +30,6 @@ use Rattle.verilog_reader.proofs.BitNaming as naming
 use Rattle.verilog_checks.proofs.Faultless.{Passed, passed}
 use Rattle.verilog_checks.proofs.Small.{small_passed}
 use Rattle.verilog_writer.specs.NetTexts.{IsNetText, NetsLaw}
-use Rattle.verilog_writer.proofs.Bits.{first_part, second_part}
 use Rattle.verilog_writer.proofs.Names.{plain_escapable}
 
 abbrev pub CanBeEscaped : List ℕ → Type 0
@@ -96,19 +96,11 @@ HasSmall (Some b) = IsSmall b
 abbrev IsSoundDeclaration : Declaration → Type 0
 IsSoundDeclaration d = CanBeEscaped d.name × HasSmall d.bounds
 
-or_left : (a b : Bool) → (a || b) ≡ false → a ≡ false
-or_left true b h = h
-or_left false b h = refl
-
-or_right : (a b : Bool) → (a || b) ≡ false → b ≡ false
-or_right true b h = absurd cc
-or_right false b h = h
-
 range_small : (range : Option Range) → is_bad_range range ≡ false → HasSmall (option_map bounds_of range)
 range_small None h = tt
 range_small (Some range) h = (
-  ltb-false 65535 (decimal_value range.left) (or_left (is_big_index range.left) (is_big_index range.right) h),
-  ltb-false 65535 (decimal_value range.right) (or_right (is_big_index range.left) (is_big_index range.right) h),
+  ltb-false 65535 (decimal_value range.left) (or_first (is_big_index range.left) (is_big_index range.right) h),
+  ltb-false 65535 (decimal_value range.right) (or_second (is_big_index range.left) (is_big_index range.right) h),
 )
 
 names_sound : (kind : Declared) (range : Option Range) (names : List (List ℕ)) → HasSmall (option_map bounds_of range) → Each IsName names → Each IsSoundDeclaration (map (declaration_of kind range) names)
@@ -121,17 +113,13 @@ statement_sound listed (statements.Declare kind range names) good small = names_
 statement_sound listed (statements.Assign left right) good small = tt
 statement_sound listed (statements.Instance cell name connections) good small = tt
 
-not_bad : (a : Bool) → not a ≡ true → a ≡ false
-not_bad true h = absurd cc
-not_bad false h = refl
-
 declarations_sound : (listed : Bool) (ps : List Placed) → Each (λ (p : Placed). IsGoodStatement listed p.statement) ps → are_small ps ≡ true → Each IsSoundDeclaration (declarations ps)
 declarations_sound listed [] good small = tt
 declarations_sound listed (p ∷ ps) good small =
-    let own = not_bad (has_bad_number p.statement) (first_part (not (has_bad_number p.statement)) _ small) in
-    let range = or_left (is_bad_range (range_in p.statement)) (list_any is_bad_number (items_in p.statement)) own in
+    let own = not-true (has_bad_number p.statement) (and_first (not (has_bad_number p.statement)) _ small) in
+    let range = or_first (is_bad_range (range_in p.statement)) (list_any is_bad_number (items_in p.statement)) own in
     each_join IsSoundDeclaration (declarations_in p.statement) (declarations ps) (statement_sound listed p.statement good.0 range)
-    (declarations_sound listed ps good.1 (second_part (not (has_bad_number p.statement)) _ small))
+    (declarations_sound listed ps good.1 (and_second (not (has_bad_number p.statement)) _ small))
 
 -- so the entries of the nets have names that can be escaped, and small bounds
 abbrev pub IsSoundEntry : List ℕ × Option Bounds → Type 0

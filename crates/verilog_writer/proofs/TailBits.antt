@@ -4,8 +4,9 @@ use Rattle.std.specs.Prelude.{IsPermutation, ◌==◌, find}
 use Rattle.std.specs.Option.{option_or}
 use Rattle.std.specs.List.{flat_map, slice_get, position_from, AllByRecursion as Each}
 use Rattle.std.specs.Str.{bytes_eq}
-use Rattle.std.proofs.lemmas.Bool.{false≢true}
+use Rattle.std.proofs.lemmas.Bool.{false≢true, and_parts}
 use Rattle.base_types.specs.declared.span.Span.{Span}
+use Rattle.base_types.proofs.TruthValues.{not_both, bytes_are, bytes_same}
 use Rattle.splice.specs.declared.Edit.{Edit}
 use Rattle.netlist_core.specs.declared.netlist.NetId.{NetId}
 use Rattle.netlist_core.specs.declared.netlist.Assign.{Assign}
@@ -31,12 +32,11 @@ use Rattle.verilog_syntax.specs.declared.statement.Item.{Item}
 use Rattle.verilog_syntax.specs.declared.reading.Placed.{Placed}
 use Rattle.verilog_reader.specs.Denoted.{DenotesNetlist}
 use Rattle.verilog_reader.proofs.Checked.{each_from}
-use Rattle.verilog_reader.proofs.Places.{same_bytes, bytes_same}
 use Rattle.verilog_writer.specs.NetTexts.{net_name}
 use Rattle.verilog_writer.specs.VerilogText.{NetBit, BitEdit, text_edits, changed_items}
 use Rattle.verilog_writer.specs.Written.{edit_at, right_edit}
 use Rattle.verilog_writer.specs.Wired.{wire_text, pin_connection, pin_edit, port_edit, tail_edit, expression_edits}
-use Rattle.verilog_writer.proofs.KeptBits.{IsKnownBit, IsReplaced, Comes, kept_items, replaced_items, one_of_pins, find_some, find_none, same_number, number_same, both_true, some_same, get_has, some_not}
+use Rattle.verilog_writer.proofs.KeptBits.{IsKnownBit, IsReplaced, Comes, kept_items, replaced_items, one_of_pins, find_some, find_none, same_number, number_same, some_same, get_has}
 use Rattle.verilog_writer.proofs.KeptEdits.{connection_is, found_has, found_pin, once, StartsApart, AreSlots}
 use Rattle.verilog_writer.proofs.KeptLists.{Has, one_place, has_left, has_right, has_flat, each_has, each_permuted, has_permuted}
 use Rattle.verilog_writer.proofs.KeptNets.{text_tells}
@@ -85,7 +85,7 @@ record IsFoundAt (pin : List ℕ) (cs : List Connection) : Type 0 where
   is : connection_at pin cs ≡ Some connection
 
 found_one : (pin : List ℕ) (cs : List Connection) (c : Connection) → Has c cs → c.pin ≡ pin → (o : Option Connection) → connection_at pin cs ≡ o → IsFoundAt pin cs
-found_one pin cs c h same None is = absurd (some_not (bytes_eq c.pin pin) (bytes_same c.pin pin same) (find_none (λ (x : Connection). bytes_eq x.pin pin) c cs is h))
+found_one pin cs c h same None is = absurd (not_both (bytes_eq c.pin pin) (bytes_same c.pin pin same) (find_none (λ (x : Connection). bytes_eq x.pin pin) c cs is h))
 found_one pin cs c h same (Some x) is = record { connection = x; is = is }
 
 number_plain : (ts : List TailEdit) (k : ℕ) (t : TailEdit) → slice_get ts k ≡ Some t → plain_of (map net_named (map (λ (t : TailEdit). t.tail) ts)) (record { 0 = k }) ≡ t.tail
@@ -147,9 +147,9 @@ module _ (text : List ℕ) (n : Netlist) (d : DenotesNetlist text n) (cells : Ce
       let p = position_some (is_tail_at k c.pin) (length n.nets) edits.tails number is in
       let t = p.member in
       let has : Has t edits.tails = get_has edits.tails p.index t p.get in
-      let both = both_true (t.instance == k) (bytes_eq t.pin c.pin) p.passes in
+      let both = and_parts (t.instance == k) (bytes_eq t.pin c.pin) p.passes in
       let instance : t.instance ≡ k = same_number t.instance k both.0 in
-      let pin : t.pin ≡ c.pin = same_bytes t.pin c.pin both.1 in
+      let pin : t.pin ≡ c.pin = bytes_are t.pin c.pin both.1 in
       let mine : slice_get n.instances t.instance ≡ Some placed = subst (λ (i : ℕ). slice_get n.instances i ≡ Some placed) (sym instance) at in
       let found = found_one t.pin placed.connections c h (sym pin) (connection_at t.pin placed.connections) refl in
       let same_one : found.connection ≡ c = pins_once k placed at found.connection c (found_has t.pin placed.connections found.connection found.is) h (found_pin t.pin placed.connections found.connection found.is ∙ pin) in
@@ -166,13 +166,13 @@ module _ (text : List ℕ) (n : Netlist) (d : DenotesNetlist text n) (cells : Ce
       → IsReplaced more m bits c.expr.span (net_of_wire n e.source)
   pin_edited k placed c e at h is =
       let f = find_some (is_edit_at n cells k c.pin) e edits.pins is in
-      let both = both_true (e.instance == k) (bytes_eq (input_of (scan_path_at n cells e.instance e.path)) c.pin) f.passes in
+      let both = and_parts (e.instance == k) (bytes_eq (input_of (scan_path_at n cells e.instance e.path)) c.pin) f.passes in
       let p = each_has (IsConnected n cells) e edits.pins are.there f.has in
       let q = in_pin_of n cells e p.connection p.is in
       let instance : e.instance ≡ k = same_number e.instance k both.0 in
       let own : q.placed ≡ placed = some_same (slice_get n.instances k) q.placed placed (subst (λ (i : ℕ). slice_get n.instances i ≡ Some q.placed) instance q.at) at in
       let there : Has p.connection placed.connections = subst (λ (i : Instance). Has p.connection i.connections) own q.has in
-      let same_one : p.connection ≡ c = pins_once k placed at p.connection c there h (q.pin_is ∙ same_bytes (input_of (scan_path_at n cells e.instance e.path)) c.pin both.1) in
+      let same_one : p.connection ≡ c = pins_once k placed at p.connection c there h (q.pin_is ∙ bytes_are (input_of (scan_path_at n cells e.instance e.path)) c.pin both.1) in
       let y : Edit = record { span = c.expr.span; text = wire_text n edits.tails e.source } in
       let made : Has y (pin_edit n cells edits.tails e)
       = subst (λ (o : Option Connection). Has y (edit_at o (wire_text n edits.tails e.source))) (sym p.is) (inl (ap (λ (z : Connection). let x : Edit = record { span = z.expr.span; text = wire_text n edits.tails e.source } in x) (sym same_one))) in
@@ -190,13 +190,13 @@ module _ (text : List ℕ) (n : Netlist) (d : DenotesNetlist text n) (cells : Ce
       none : (y : Edit) → IsOfKind n cells edits y → y.span.start ≡ c.expr.span.start → ⊥
       none y (OfPin e has a) start =
           let one = one_of e.instance k (input_of (scan_path_at n cells e.instance e.path)) a.connection c placed (in_pin_of n cells e a.connection a.is) at h (sym (start_of y a.connection.expr.span _ a.edit) ∙ start) in
-          some_not (is_edit_at n cells k c.pin e) (rw (number_same e.instance k one.0, bytes_same (input_of (scan_path_at n cells e.instance e.path)) c.pin one.1) refl)
+          not_both (is_edit_at n cells k c.pin e) (rw (number_same e.instance k one.0, bytes_same (input_of (scan_path_at n cells e.instance e.path)) c.pin one.1) refl)
           (find_none (is_edit_at n cells k c.pin) e edits.pins no_pin has)
       none y (OfPort e has a) start =
           not_both c.expr.span a.assign.right.span (has_span n.instances k placed c at h) (has_right_span n.assigns e.assign a.assign a.is) (sym start ∙ start_of y a.assign.right.span _ a.edit)
       none y (OfTail t has a) start =
           let one = one_of t.instance k t.pin a.connection c placed (tail_pin_of n t a.connection a.is) at h (sym (start_of y a.connection.expr.span _ a.edit) ∙ start) in
-          some_not (is_tail_at k c.pin t) (rw (number_same t.instance k one.0, bytes_same t.pin c.pin one.1) refl) (position_none (is_tail_at k c.pin) (length n.nets) t edits.tails no_tail has)
+          not_both (is_tail_at k c.pin t) (rw (number_same t.instance k one.0, bytes_same t.pin c.pin one.1) refl) (position_none (is_tail_at k c.pin) (length n.nets) t edits.tails no_tail has)
 
   pub pin_comes : (k : ℕ) (placed : Instance) (c : Connection) → slice_get n.instances k ≡ Some placed → Has c placed.connections → Comes more m bits c.expr.span (at_pin n cells edits k c.pin)
   pin_comes k placed c at h =
@@ -235,7 +235,7 @@ module _ (text : List ℕ) (n : Netlist) (d : DenotesNetlist text n) (cells : Ce
       none y (OfPort e has b) start =
           let place = one_place (right_spans n.assigns) 0 end b.assign.right.span a.right.span slots.rights (has_right_span n.assigns e.assign b.assign b.is) (has_right_span n.assigns k a at) (sym (start_of y b.assign.right.span _ b.edit) ∙ start) in
           let one = one_assign n.assigns 0 end slots.rights e.assign k b.assign a b.is at place in
-          some_not (e.assign == k) (number_same e.assign k one) (find_none (λ (e : PortEdit). e.assign == k) e edits.ports no_port has)
+          not_both (e.assign == k) (number_same e.assign k one) (find_none (λ (e : PortEdit). e.assign == k) e edits.ports no_port has)
 
   pub right_comes : (k : ℕ) (a : Assign) → slice_get n.assigns k ≡ Some a → Comes more m bits a.right.span (at_right n edits k)
   right_comes k a at = by (find (λ (e : PortEdit). e.assign == k) edits.ports) (λ none. right_kept k a at none) (λ e is. right_edited k a e at is)

@@ -4,6 +4,7 @@ use Rattle.std.specs.List.{flat_map, slice_get, position_from, AllByRecursion as
 use Rattle.std.specs.Str.{bytes_eq}
 use Rattle.std.proofs.lemmas.Bool.{false≢true}
 use Rattle.base_types.specs.declared.span.Span.{Span}
+use Rattle.base_types.proofs.TruthValues.{bytes_same}
 use Rattle.splice.specs.declared.Edit.{Edit}
 use Rattle.netlist_core.specs.declared.netlist.NetId.{NetId}
 use Rattle.netlist_core.specs.declared.netlist.NetName.{NetName}
@@ -26,7 +27,6 @@ use Rattle.verilog_syntax.specs.declared.reading.Placed.{Placed}
 use Rattle.verilog_names.specs.Declarations.{is_declared}
 use Rattle.verilog_reader.specs.Denoted.{DenotesNetlist}
 use Rattle.verilog_reader.proofs.Distinct.{each_weaker}
-use Rattle.verilog_reader.proofs.Places.{bytes_same}
 use Rattle.verilog_writer.specs.NetTexts.{net_name}
 use Rattle.verilog_writer.specs.VerilogText.{NetBit, net_text}
 use Rattle.verilog_writer.specs.Written.{text_of, edit_at, right_edit}

@@ -1,9 +1,9 @@
 -- Without its tails the written netlist is by names that of the edits: the tails' wires, which stand in front, are left out.
-use Rattle.std.proofs.Common.{◌≡◌, ℕ, Bool, true, false, cond, not, ◌||◌, List, [], ◌∷◌, ◌++◌, length, map, option_and_then, Option, Some, None, refl, ap, ap₂, ◌∙◌, inl, inr, arith}
+use Rattle.std.proofs.Common.{◌≡◌, ℕ, Bool, true, false, cond, not, List, [], ◌∷◌, ◌++◌, length, map, option_and_then, Option, Some, None, refl, ap, ap₂, ◌∙◌, inl, inr, arith}
 use Rattle.std.specs.Prelude.{filter}
 use Rattle.std.specs.List.{slice_get, AllByRecursion as Each}
 use Rattle.std.specs.Str.{bytes_eq}
-use Rattle.std.proofs.lemmas.Bool.{false≢true}
+use Rattle.std.proofs.lemmas.Bool.{or_left, or_right}
 use Rattle.std.proofs.lemmas.List.Folds.{list_any-append}
 use Rattle.std.proofs.lemmas.Slice.Eq.{bytes_eq-Decides}
 use Rattle.netlist_core.specs.declared.netlist.Instance.{Instance}
@@ -33,15 +33,6 @@ written_alike w m names tails same all =
     ap₂ (λ (name : List ℕ) (nets : List (List ℕ)). let x : NamedNetlist = record { module_name = name; nets = nets; ports = (without_tails tails (named w)).ports; assigns = (without_tails tails (named w)).assigns; instances = (without_tails tails (named w)).instances } in x) same.module_name nets
     ∙ ap₂ (λ (ports : List NamedPort) (assigns : List (List (NamedBit × NamedBit))). let x : NamedNetlist = record { module_name = (named m).module_name; nets = (without_tails tails (named m)).nets; ports = ports; assigns = assigns; instances = (without_tails tails (named w)).instances } in x) same.wired.ports assigns
     ∙ ap (λ (instances : List NamedInstance). let x : NamedNetlist = record { module_name = (named m).module_name; nets = (without_tails tails (named m)).nets; ports = (named m).ports; assigns = (without_tails tails (named m)).assigns; instances = instances } in x) instances
-
--- each name is that of a tail
-pub or_left : (a b : Bool) → a ≡ true → (a || b) ≡ true
-or_left true b is = refl
-or_left false b is = absurd (false≢true is)
-
-pub or_right : (a b : Bool) → b ≡ true → (a || b) ≡ true
-or_right true b is = refl
-or_right false b is = is
 
 placed_at : (n : Netlist) (i : ℕ) (pin : List ℕ) → (o : Option Instance) → slice_get n.instances i ≡ o → (x : _) → option_and_then (net_at pin) o ≡ Some x → (p : Instance) × (slice_get n.instances i ≡ Some p)
 placed_at n i pin None at x is = absurd cc

@@ -4,12 +4,13 @@ use Rattle.std.specs.Prelude.{◌==◌}
 use Rattle.std.specs.Option.{option_or}
 use Rattle.std.specs.List.{flat_map, slice_get, list_any, list_all, AllByRecursion as Each}
 use Rattle.std.specs.Str.{bytes_eq}
-use Rattle.std.proofs.lemmas.Bool.{false≢true, or_parts}
+use Rattle.std.proofs.lemmas.Bool.{false≢true, or_parts, or_left, or_right}
 use Rattle.std.proofs.lemmas.Bool.Decides.{nat_tests}
 use Rattle.std.proofs.lemmas.Bool.Decides.{Decides-eqb}
 use Rattle.std.proofs.lemmas.Fmt.{digits_decimal}
 use Rattle.std.proofs.lemmas.List.Folds.{list_any-append}
 use Rattle.std.proofs.lemmas.Slice.Eq.{starts_is}
+use Rattle.base_types.proofs.TruthValues.{bytes_are, bytes_same}
 use Rattle.netlist_core.specs.declared.netlist.NetId.{NetId}
 use Rattle.netlist_core.specs.declared.netlist.NetName.{NetName}
 use Rattle.netlist_core.specs.declared.netlist.Bit.{Bit}
@@ -59,7 +60,7 @@ use Rattle.verilog_reader.specs.Denoted.{net_entries, entry_nets, bit_text, said
 use Rattle.verilog_reader.specs.Numbering.{entries}
 use Rattle.verilog_reader.proofs.Distinct.{Distinct}
 use Rattle.verilog_reader.proofs.Filling.{Entries}
-use Rattle.verilog_reader.proofs.Places.{named, same_bytes, bytes_same, entries_are}
+use Rattle.verilog_reader.proofs.Places.{named, entries_are}
 use Rattle.verilog_writer.specs.Inserted.{IsPlainName}
 use Rattle.verilog_writer.proofs.Bits.{own}
 use Rattle.verilog_writer.proofs.KeptDenoted.{nets_from}
@@ -105,14 +106,6 @@ bit_taken name i plain =
     let cut : bit_text name i ≡ (name ++ codes "[") ++ rest = ap (λ (t : List ℕ). t ++ (91 ∷ rest)) (plain_text name plain) ∙ sym (append_assoc name (codes "[") rest) in
     (starts_is Decides-eqb (bit_text name i) (name ++ codes "[") (is_bit_of_vector name (bit_text name i)) refl).1 rest cut
 
-or_left : (a b : Bool) → a ≡ true → (a || b) ≡ true
-or_left true b is = refl
-or_left false b is = absurd (false≢true is)
-
-or_right : (a b : Bool) → b ≡ true → (a || b) ≡ true
-or_right true b is = refl
-or_right false b is = is
-
 entry_taken : (name : List ℕ) (b : Option Bounds) → IsPlainName name → list_any (takes name) (entry_nets name b) ≡ true
 entry_taken name None plain = or_left (takes name (record { plain = name; text = name_text name })) false (or_left (bytes_eq name name) _ (bytes_same name name refl))
 entry_taken name (Some b) plain =
@@ -131,7 +124,7 @@ entries_taken name (e ∷ es) plain is =
   where
     by : (t : Bool) → bytes_eq name e.0 ≡ t → (t || named es name) ≡ true → (named es name ≡ true → list_any (takes name) (nets_from es) ≡ true) → (list_any (takes name) (entry_nets e.0 e.1) || list_any (takes name) (nets_from es)) ≡ true
     by true same is more =
-        or_left (list_any (takes name) (entry_nets e.0 e.1)) _ (subst (λ (q : List ℕ). list_any (takes name) (entry_nets q e.1) ≡ true) (same_bytes name e.0 same) (entry_taken name e.1 plain))
+        or_left (list_any (takes name) (entry_nets e.0 e.1)) _ (subst (λ (q : List ℕ). list_any (takes name) (entry_nets q e.1) ≡ true) (bytes_are name e.0 same) (entry_taken name e.1 plain))
     by false other is more = or_right (list_any (takes name) (entry_nets e.0 e.1)) _ (more is)
 
 not_taken : (text : List ℕ) (n : Netlist) (d : DenotesNetlist text n) (name : List ℕ) → IsPlainName name → is_taken n name ≡ false → named (entries d.statements) name ≡ false

@@ -2,7 +2,7 @@
 use Rattle.std.proofs.Common.{◌≡◌, ℕ, ◌+◌, ◌≤◌, Bool, true, false, cond, not, nat_lt, ◌&&◌, ◌||◌, ◌⊎◌, inl, inr, ⊎_elim, List, [], ◌∷◌, ◌++◌, map, Option, Some, None, Ok, refl, sym, ap, ap₂, ◌∙◌, subst, append_assoc, arith}
 use Rattle.std.specs.List.{flat_map, list_any, AllByRecursion as Each}
 use Rattle.std.specs.Str.{bytes_eq}
-use Rattle.std.proofs.lemmas.Bool.{false≢true, or_parts}
+use Rattle.std.proofs.lemmas.Bool.{false≢true, or_parts, or_from}
 use Rattle.std.proofs.lemmas.Bool.Decides.{nat_tests}
 use Rattle.std.proofs.lemmas.List.{append-nil}
 use Rattle.std.proofs.lemmas.List.Concat.{flat_map-append}
@@ -24,7 +24,7 @@ use Rattle.verilog_reader.proofs.Places.{named, bounds_are}
 use Rattle.verilog_reader.proofs.PortNames.{again-append, declarations_push, all_again}
 use Rattle.verilog_reader.proofs.ScalarNames.{clear}
 use Rattle.verilog_writer.specs.Inserted.{BitAssign, wire_statement, assign_statement, extended, IsPlainName}
-use Rattle.verilog_writer.proofs.KeptChecks.{passed_all, or_false, steady, Steady, IsScalar, are_scalars, AreBefore, IsOnce, is_once, once_again, one_more}
+use Rattle.verilog_writer.proofs.KeptChecks.{passed_all, steady, Steady, IsScalar, are_scalars, AreBefore, IsOnce, is_once, once_again, one_more}
 use Rattle.verilog_writer.proofs.KeptFrames.{IsAlike}
 use Rattle.verilog_writer.proofs.WireNames.{IsNew, wire_of, skip_bounds, same_bits, again_same, no_bit_of, wire_bounds, wire_member}
 use Rattle.verilog_writer.proofs.WireParts.{IsNearAssign, wires_none, ports_more, declared_more, known_skip, bounds_same, named_back, sound_more}
@@ -69,8 +69,8 @@ number_from all before [] is small sound = tt
 number_from all before (p ∷ ps) is small sound =
     let next : (before ++ p ∷ []) ++ ps ≡ all = append_assoc before (p ∷ []) ps ∙ is in
     let cut : declarations all ≡ declarations (before ++ p ∷ []) ++ declarations ps = ap declarations (sym next) ∙ flat_map-append (λ (p : Placed). declarations_in p.statement) (before ++ p ∷ []) ps in (
-      or_false (is_bad_range (range_in p.statement) || list_any is_bad_number (items_in p.statement)) (nat_lt 16777216 (vector_bits (declarations (before ++ p ∷ []))))
-          (or_false (is_bad_range (range_in p.statement)) (list_any is_bad_number (items_in p.statement)) sound.0.range sound.0.number)
+      or_from (is_bad_range (range_in p.statement) || list_any is_bad_number (items_in p.statement)) (nat_lt 16777216 (vector_bits (declarations (before ++ p ∷ []))))
+          (or_from (is_bad_range (range_in p.statement)) (list_any is_bad_number (items_in p.statement)) sound.0.range sound.0.number)
           (small_front (declarations all) (declarations (before ++ p ∷ [])) (declarations ps) cut small),
       number_from all (before ++ p ∷ []) ps next small sound.1,
     )
@@ -93,10 +93,10 @@ fits_select : (all : List Placed) (p : Placed) → IsSound all p.statement → P
 unfolding bad_select
 fits_select all p sound fit =
     let ds = declarations all in
-    or_false (list_any (is_bad_select (bounds_in ds)) (items_in p.statement) || differ_in_width (bounds_in ds) p.statement || list_any (λ port. not (has_direction ds port)) (ports_in p.statement))
+    or_from (list_any (is_bad_select (bounds_in ds)) (items_in p.statement) || differ_in_width (bounds_in ds) p.statement || list_any (λ port. not (has_direction ds port)) (ports_in p.statement))
     (list_any (is_badly_listed (header_ports all)) (declarations_in p.statement))
-    (or_false (list_any (is_bad_select (bounds_in ds)) (items_in p.statement) || differ_in_width (bounds_in ds) p.statement) (list_any (λ port. not (has_direction ds port)) (ports_in p.statement))
-    (or_false (list_any (is_bad_select (bounds_in ds)) (items_in p.statement)) (differ_in_width (bounds_in ds) p.statement) sound.select sound.widths) fit.0) fit.1
+    (or_from (list_any (is_bad_select (bounds_in ds)) (items_in p.statement) || differ_in_width (bounds_in ds) p.statement) (list_any (λ port. not (has_direction ds port)) (ports_in p.statement))
+    (or_from (list_any (is_bad_select (bounds_in ds)) (items_in p.statement)) (differ_in_width (bounds_in ds) p.statement) sound.select sound.widths) fit.0) fit.1
 
 selects_fit : (all : List Placed) (ps : List Placed) → Each (λ (p : Placed). IsSound all p.statement) ps → Each (PortsFit all) ps → Each (λ (p : Placed). bad_select all p ≡ false) ps
 selects_fit all [] sound fit = tt
@@ -104,7 +104,7 @@ selects_fit all (p ∷ ps) sound fit = (fits_select all p sound.0 fit.0, selects
 
 any_false : {X : Type 0} (f g : X → Bool) (xs : List X) → ((x : X) → f x ≡ g x) → list_any g xs ≡ false → list_any f xs ≡ false
 any_false f g [] same none = refl
-any_false f g (x ∷ xs) same none = let both = or_parts (g x) (list_any g xs) none in or_false (f x) (list_any f xs) (same x ∙ both.0) (any_false f g xs same both.1)
+any_false f g (x ∷ xs) same none = let both = or_parts (g x) (list_any g xs) none in or_from (f x) (list_any f xs) (same x ∙ both.0) (any_false f g xs same both.1)
 
 -- one statement is alike itself
 alike_itself : (s : Statement) → IsAlike s s

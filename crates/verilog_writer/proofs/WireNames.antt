@@ -7,6 +7,7 @@ use Rattle.std.proofs.lemmas.Bool.{false≢true, or_parts}
 use Rattle.std.proofs.lemmas.List.{append-nil}
 use Rattle.std.proofs.lemmas.List.Concat.{flat_map-append}
 use Rattle.std.proofs.lemmas.List.Folds.{find-append, list_any-append}
+use Rattle.base_types.proofs.TruthValues.{and_first, and_second, bytes_are, bytes_same}
 use Rattle.verilog_syntax.specs.VerilogTokens.{is_word_start, is_word}
 use Rattle.verilog_syntax.specs.Seams.{is_identifier, is_escapable}
 use Rattle.verilog_writer.specs.Wired.{declared_wire}
@@ -21,10 +22,9 @@ use Rattle.verilog_checks.specs.Checks.{stands_again, any_again, has_bit_in}
 use Rattle.verilog_checks.specs.Faults.{is_vector, added_bits, vector_bits_from, vector_bits}
 use Rattle.verilog_reader.specs.Numbering.{entries}
 use Rattle.verilog_reader.proofs.Distinct.{Distinct, IsApartFrom, each_weaker}
-use Rattle.verilog_reader.proofs.Places.{named, same_bytes, bytes_same, bytes_swap}
+use Rattle.verilog_reader.proofs.Places.{named}
 use Rattle.verilog_reader.proofs.PortNames.{find_any, again-append}
 use Rattle.verilog_writer.specs.Inserted.{BitAssign, wire_statement, assign_statement, extended, IsPlainName}
-use Rattle.verilog_writer.proofs.Bits.{first_part, second_part}
 use Rattle.verilog_writer.proofs.Names.{name_again, plain_black}
 
 -- a plain name that is declared and mentioned nowhere
@@ -51,7 +51,7 @@ not_wire ps [] q news known = refl
 not_wire ps (name ∷ names) q news known = by (bytes_eq name q) refl (not_wire ps names q news.1 known)
   where
     by : (t : Bool) → bytes_eq name q ≡ t → is_declared (map wire_of names) q ≡ false → (t || is_declared (map wire_of names) q) ≡ false
-    by true same more = absurd (false≢true (sym (ap (named (entries ps)) (sym (same_bytes name q same)) ∙ news.0.new) ∙ known))
+    by true same more = absurd (false≢true (sym (ap (named (entries ps)) (sym (bytes_are name q same)) ∙ news.0.new) ∙ known))
     by false other more = more
 
 -- wires in front of declarations
@@ -124,7 +124,7 @@ pushed_new : (before : List Declaration) (name q : List ℕ) → is_declared bef
 pushed_new before name q none apart = skip_declared q before (wire_of name ∷ []) none ∙ by (bytes_eq name q) refl
   where
     by : (t : Bool) → bytes_eq name q ≡ t → (t || false) ≡ false
-    by true same = absurd (apart (same_bytes name q same))
+    by true same = absurd (apart (bytes_are name q same))
     by false is = refl
 
 pub pushed_all : (before : List Declaration) (name : List ℕ) (names : List (List ℕ)) → AllNew before names → IsApartFrom name names → AllNew (before ++ wire_of name ∷ []) names
@@ -157,7 +157,7 @@ again_same names ds apart none =
 -- an identifier is no bit of a vector
 all_words : (name : List ℕ) → is_identifier name ≡ true → list_all is_word name ≡ true
 all_words [] is = absurd (false≢true is)
-all_words (b ∷ bs) is = rw (first_part (is_word_start b) (list_all is_word bs) is) (second_part (is_word_start b) (list_all is_word bs) is)
+all_words (b ∷ bs) is = rw (and_first (is_word_start b) (list_all is_word bs) is) (and_second (is_word_start b) (list_all is_word bs) is)
 
 not_all : (xs ys : List ℕ) → list_all is_word (xs ++ 91 ∷ ys) ≡ false
 not_all [] ys = refl
@@ -171,7 +171,7 @@ no_bit_name : (v s : List ℕ) (i : ℕ) → is_identifier s ≡ true → bytes_
 no_bit_name v s i is = by (bytes_eq (bit_name v i) s) refl
   where
     by : (t : Bool) → bytes_eq (bit_name v i) s ≡ t → t ≡ false
-    by true same = absurd (false≢true (sym (ap (list_all is_word) (sym (same_bytes (bit_name v i) s same)) ∙ not_all v _) ∙ all_words s is))
+    by true same = absurd (false≢true (sym (ap (list_all is_word) (sym (bytes_are (bit_name v i) s same)) ∙ not_all v _) ∙ all_words s is))
     by false other = refl
 
 none_bit : (v s : List ℕ) (all : List ℕ) → is_identifier s ≡ true → list_any (λ i. bytes_eq (bit_name v i) s) all ≡ false
@@ -188,5 +188,5 @@ wire_member P [] q each is = absurd (false≢true is)
 wire_member P (name ∷ names) q each is = by (bytes_eq name q) refl is (λ more. wire_member P names q each.1 more)
   where
     by : (t : Bool) → bytes_eq name q ≡ t → (t || is_declared (map wire_of names) q) ≡ true → (is_declared (map wire_of names) q ≡ true → P q) → P q
-    by true same is more = subst P (same_bytes name q same) each.0
+    by true same is more = subst P (bytes_are name q same) each.0
     by false other is more = more is

@@ -3,12 +3,13 @@ use Rattle.std.proofs.Common.{◌≡◌, ℕ, suc, ◌+◌, Bool, true, false, c
 use Rattle.std.specs.Prelude.{◌==◌}
 use Rattle.std.specs.List.{flat_map, list_any, sum_by, AllByRecursion as Each}
 use Rattle.std.specs.Str.{bytes_eq}
-use Rattle.std.proofs.lemmas.Bool.{false≢true, or_parts}
+use Rattle.std.proofs.lemmas.Bool.{false≢true, or_parts, or_cases, or_left, or_right}
 use Rattle.std.proofs.lemmas.Bool.Decides.{nat_tests}
 use Rattle.std.proofs.lemmas.List.{append-nil}
 use Rattle.std.proofs.lemmas.List.Concat.{flat_map-append}
 use Rattle.std.proofs.lemmas.List.Folds.{list_any-append}
 use Rattle.std.proofs.lemmas.List.Sums.{sum_by-cons}
+use Rattle.base_types.proofs.TruthValues.{bytes_same}
 use Rattle.verilog_syntax.specs.declared.statement.Item.{Item}
 use Rattle.verilog_syntax.specs.declared.statement.Item.TheVariants as items
 use Rattle.verilog_syntax.specs.declared.statement.Statement.{Statement}
@@ -24,12 +25,11 @@ use Rattle.verilog_reader.specs.Numbering.{entries}
 use Rattle.verilog_reader.proofs.Checked.{IsSound, mentioned_named, each_left, each_right}
 use Rattle.verilog_reader.proofs.Distinct.{each_weaker, each_append}
 use Rattle.verilog_reader.proofs.Filling.{Entries}
-use Rattle.verilog_reader.proofs.Places.{named, named_all, declared_named, same_bytes, bytes_same}
+use Rattle.verilog_reader.proofs.Places.{named, named_all, declared_named}
 use Rattle.verilog_writer.specs.VerilogText.{NetBit, net_item, indexed_item, IsNetBit}
 use Rattle.verilog_writer.specs.Inserted.{BitAssign, wire_statement, bit_expression, assign_statement, extended, IsPlainName}
 use Rattle.verilog_writer.proofs.Names.{name_again}
 use Rattle.verilog_writer.proofs.KeptBits.{IsKnownBit}
-use Rattle.verilog_writer.proofs.KeptChecks.{or_false}
 use Rattle.verilog_writer.proofs.KeptCounts.{named_has}
 use Rattle.verilog_writer.proofs.KeptNames.{index_wide}
 use Rattle.verilog_writer.proofs.KeptNets.{IsKnown}
@@ -77,18 +77,6 @@ said_append (x ∷ xs) ys q = ap (λ (t : Bool). bytes_eq q x || t) (said_append
 said_each : (P : List ℕ → Type 0) (xs : List (List ℕ)) → Each P xs → Each (λ (e : List ℕ × Option Bounds). P e.0) (said xs)
 said_each P [] each = tt
 said_each P (x ∷ xs) each = (each.0, said_each P xs each.1)
-
-or_cases : (a b : Bool) → (a || b) ≡ true → (a ≡ true) ⊎ (b ≡ true)
-or_cases true b is = inl refl
-or_cases false b is = inr is
-
-or_left : (a b : Bool) → a ≡ true → (a || b) ≡ true
-or_left true b is = refl
-or_left false b is = absurd (false≢true is)
-
-or_right : (a b : Bool) → b ≡ true → (a || b) ≡ true
-or_right true b is = refl
-or_right false b is = is
 
 -- a bit of a wire, or one that was known before
 pub record IsNearBit (ps : List Placed) (names : List (List ℕ)) (bit : NetBit) : Type 0 where

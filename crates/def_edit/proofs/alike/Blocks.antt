@@ -2,10 +2,10 @@
 use Rattle.std.proofs.Common.{◌≡◌, ℕ, zero, suc, Bool, true, false, ◌||◌, List, [], ◌∷◌, ◌++◌, map, refl, sym, ap, ◌∙◌, append_assoc, append-nil, arith}
 use Rattle.std.specs.List.{flat_map, list_any}
 use Rattle.std.specs.Str.{bytes_eq}
+use Rattle.std.proofs.lemmas.Bool.{or_parts}
 use Rattle.base_types.specs.Lines.{line_at}
 use Rattle.token_forms.specs.Tokens.{Token}
 use Rattle.token_forms.specs.Parts.{token_texts}
-use Rattle.token_forms.proofs.ClassLemmas.{neither}
 use Rattle.def_syntax.specs.Frames.{word_of, Block, Outside, Section, statements_in, within, start_of}
 use Rattle.def_syntax.specs.Designs.{section_in}
 use Rattle.def_syntax.specs.declared.frame.SectionKind.{SectionKind}
@@ -158,7 +158,7 @@ module _ (text : List ℕ) (t : DesignText) (c : Changes) where
   absent kind (Outside s ∷ bs) (Section other head others end ∷ ds) h e = absurd h.0
   absent kind (Section other first inner last ∷ bs) (Outside u ∷ ds) h e = absurd h.0
   absent kind (Section j first inner last ∷ bs) (Section other head others end ∷ ds) h e =
-      let f = neither (bytes_eq (word_of kind) (word_of j)) (has_kind kind bs) e in
+      let f = or_parts (bytes_eq (word_of kind) (word_of j)) (has_kind kind bs) e in
       let r = absent kind bs ds h.1 f.1 in
       let g : bytes_eq (word_of kind) (word_of other) ≡ false = ap (λ (k : SectionKind). bytes_eq (word_of kind) (word_of k)) h.0.0 ∙ f.0 in
       (rw (f.0) r.0, rw g r.1)

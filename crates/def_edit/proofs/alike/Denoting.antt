@@ -7,10 +7,10 @@ use Rattle.std.specs.Str.Parse.{digits_value}
 use Rattle.std.proofs.lemmas.Bool.Decides.{nat_tests}
 use Rattle.std.proofs.lemmas.Fmt.{decimal_is_IsNumeral}
 use Rattle.std.proofs.lemmas.List.{map-append}
+use Rattle.std.proofs.lemmas.Bool.{and_parts}
 use Rattle.base_types.specs.Names.{plain_name}
 use Rattle.base_types.specs.declared.span.Span.{Span}
 use Rattle.cell_table.specs.Cells.{Cells}
-use Rattle.token_forms.proofs.ClassLemmas.{both}
 use Rattle.def_tokens.specs.Numbers.{is_digit, unsigned, has_minus, integer_of}
 use Rattle.def_syntax.specs.Words.{is_number}
 use Rattle.def_syntax.specs.declared.frame.SectionKind.{SectionKind}
@@ -121,7 +121,7 @@ span_same nowhere (u ∷ us) (t ∷ ts) e =
 no_sign : (ds : List ℕ) → list_all is_digit ds ≡ true → (has_minus ds ≡ false) × (unsigned ds ≡ ds)
 no_sign [] all = (refl, refl)
 no_sign (c ∷ cs) all =
-    let d = (both (is_digit c) (list_all is_digit cs) all).0 in
+    let d = (and_parts (is_digit c) (list_all is_digit cs) all).0 in
     let minus : eqb c 45 ≡ false = grind (arith, nat_tests) in
     let plus : eqb c 43 ≡ false = grind (arith, nat_tests) in
     (minus, rw (minus, plus) refl)
@@ -129,7 +129,7 @@ no_sign (c ∷ cs) all =
 pub few_bits : (n : ℕ) → is_number (decimal n) ≡ true → n ≤ 262144 → bits_of (decimal n) ≡ Some n
 unfolding integer_of
 few_bits n number few =
-    let h = both (list_all is_digit (decimal n)) (nat_lt 0 (length (decimal n))) number in
+    let h = and_parts (list_all is_digit (decimal n)) (nat_lt 0 (length (decimal n))) number in
     let sign = no_sign (decimal n) h.0 in
     let value : digits_value 10 (decimal n) ≡ n = (decimal_is_IsNumeral n (omega arith)).1 in
     let most : nat_le n (2 ^ 63 - 1) ≡ true = grind (arith, nat_tests) in

@@ -3,10 +3,10 @@ use Rattle.std.proofs.Common.{◌≡◌, ℕ, Bool, true, false, List, [], ◌�
 use Rattle.std.specs.Prelude.{option_map, unwrap_or, ℤ, pos}
 use Rattle.std.specs.List.{flat_map, filter_map, cons_option, list_any, AllByRecursion as Each}
 use Rattle.std.proofs.lemmas.List.{map-append}
+use Rattle.std.proofs.lemmas.Bool.{or_parts}
 use Rattle.base_types.specs.Names.{plain_name}
 use Rattle.base_types.specs.declared.span.Span.{Span}
 use Rattle.cell_table.specs.Cells.{Cells}
-use Rattle.token_forms.proofs.ClassLemmas.{neither}
 use Rattle.def_syntax.specs.Frames.{word_of}
 use Rattle.def_syntax.specs.declared.design.DesignText.{DesignText}
 use Rattle.def_syntax.specs.declared.design.Located.{Located}
@@ -106,7 +106,7 @@ pins_of_fields (n ∷ ns) = ap (λ (l : List NetPin). n.pins ++ l) (pins_of_fiel
 -- a chain within its limits has no number beyond them
 any_both : {X : Type 0} (p : X → Bool) (xs ys : List X) → list_any p xs ≡ false → list_any p ys ≡ false → list_any p (xs ++ ys) ≡ false
 any_both p [] ys e f = f
-any_both p (x ∷ xs) ys e f = let h = neither (p x) (list_any p xs) e in rw (h.0) (any_both p xs ys h.1 f)
+any_both p (x ∷ xs) ys e f = let h = or_parts (p x) (list_any p xs) e in rw (h.0) (any_both p xs ys h.1 f)
 
 few_elements : (es : List ElementLayout) → Each HasFewBits es → have_many (map element_of es) ≡ false
 few_elements [] h = refl

@@ -2,13 +2,13 @@
 use Rattle.std.proofs.Common.{◌≡◌, ℕ, zero, suc, ◌<◌, Bool, true, false, not, ◌||◌, List, [], ◌∷◌, ◌++◌, length, take, drop, codes, refl, sym, ap, ◌∙◌, subst}
 use Rattle.std.specs.List.{list_all}
 use Rattle.std.specs.Str.{bytes_eq}
+use Rattle.std.proofs.lemmas.Bool.{and_parts}
+use Rattle.base_types.proofs.TruthValues.{bytes_are}
 use Rattle.token_forms.specs.Tokens.{Token}
 use Rattle.token_forms.specs.Parts.{token_texts}
 use Rattle.token_forms.specs.Classes.{But, is_in, is_in_any, Only}
 use Rattle.token_forms.specs.Forms.{Form}
 use Rattle.token_forms.specs.Laws.{IsStatement}
-use Rattle.token_forms.proofs.Spelled.{same_bytes}
-use Rattle.token_forms.proofs.ClassLemmas.{both}
 use Rattle.def_tokens.specs.DefStatements.{ends_with, is_closed}
 use Rattle.def_syntax.specs.Words.{marks}
 use Rattle.def_syntax.specs.Frames.{is_end}
@@ -35,7 +35,7 @@ pub record IsDashed {X : Type 0} (form : Form X) : Type 0 where
   pub first : (x : X) (ts : List Token) → form.spells x ts → BeginsDashed ts
 
 dash_is : (w : List ℕ) → ((bytes_eq w (codes "-") || false) || false) ≡ true → w ≡ codes "-"
-dash_is w e = same_bytes w (codes "-") (of (bytes_eq w (codes "-")) e)
+dash_is w e = bytes_are w (codes "-") (of (bytes_eq w (codes "-")) e)
   where
     of : (b : Bool) → ((b || false) || false) ≡ true → b ≡ true
     of true e = refl
@@ -155,8 +155,8 @@ changed_ended x w ts us good h c ended =
 pub free_parts : (ws : List (List ℕ)) → list_all is_part ws ≡ true → are_free ws ≡ true
 free_parts [] all = refl
 free_parts (w ∷ ws) all =
-    let h = both (is_part w) (list_all is_part ws) all in
-    rw ((both (is_whole w) (not (bytes_eq w (codes ";"))) h.0).1) (free_parts ws h.1)
+    let h = and_parts (is_part w) (list_all is_part ws) all in
+    rw ((and_parts (is_whole w) (not (bytes_eq w (codes ";"))) h.0).1) (free_parts ws h.1)
 
 -- and a chain's
 pub chain_shut : (c : ChainLayout) (s : List Token) → is_written_well c ≡ true → token_texts s ≡ chain_words c → IsShut s

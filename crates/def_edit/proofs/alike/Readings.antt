@@ -1,10 +1,10 @@
 -- The statements within sections, from words with changes.
 use Rattle.std.proofs.Common.{◌≡◌, ℕ, true, List, [], ◌∷◌, length, map, Option, Some, None, refl, sym, ap, subst}
 use Rattle.std.specs.List.{list_all, AllByRecursion as Each}
+use Rattle.std.proofs.lemmas.Bool.{and_parts}
 use Rattle.token_forms.specs.Tokens.{Token}
 use Rattle.token_forms.specs.Parts.{token_texts}
 use Rattle.token_forms.specs.Forms.{Form}
-use Rattle.token_forms.proofs.ClassLemmas.{both}
 use Rattle.def_syntax.specs.Grammar.{design_pin, net, chain}
 use Rattle.def_syntax.specs.Designs.{AreLocated}
 use Rattle.def_syntax.specs.Reading.{located}
@@ -92,7 +92,7 @@ pins_read text (s ∷ ss) others (x ∷ xs) (None ∷ cs) h ended strict len fit
     let p = same_pin s one.member (sym one.first) x.statement h.0.spelled in
     more_read design_pin pin_value (pin_value x.statement) (changed_each with_word (map (λ x. pin_value x.statement) xs) cs) others one.rest one.member p.value one.is p.spelled p.same (shut_of one.member (ended_again s one.member (sym one.first) ended.0)) r
 pins_read text (s ∷ ss) others (x ∷ xs) (Some w ∷ cs) h ended strict len fit e =
-    let good = both (names_word w) (list_all (if_some names_word) cs) fit in
+    let good = and_parts (names_word w) (list_all (if_some names_word) cs) fit in
     let one = first_map token_texts (pin_statement_words s x.statement w) (each_words pin_statement_words ss xs cs) others e in
     let rest : length cs ≡ length xs = cc in
     let r = pins_read text ss one.rest xs cs h.1 ended.1 strict.1 rest good.1 one.second in
@@ -133,7 +133,7 @@ nets_read text other (s ∷ ss) others (x ∷ xs) (None ∷ cs) h ended stand in
     more_read net (net_in other) (net_in text x.statement) (changed_each changed_net (map (λ x. net_in text x.statement) xs) cs) others one.rest one.member n.value one.is n.spelled n.same
     (shut_of one.member (ended_again s one.member (sym one.first) ended.0)) r
 nets_read text other (s ∷ ss) others (x ∷ xs) (Some c ∷ cs) h ended stand inside len fit e =
-    let good = both (list_all names_both c.added) (list_all (if_some (λ n. list_all names_both n.added)) cs) fit in
+    let good = and_parts (list_all names_both c.added) (list_all (if_some (λ n. list_all names_both n.added)) cs) fit in
     let one = first_map token_texts (net_statement_words text s x.statement c) (each_words (net_statement_words text) ss xs cs) others e in
     let there = subst (Each (AreIn other)) one.is inside in
     let rest : length cs ≡ length xs = cc in
@@ -145,7 +145,7 @@ nets_read text other (s ∷ ss) others (x ∷ xs) (Some c ∷ cs) h ended stand 
 pub chains_read : (cs : List ChainLayout) (others : List (List Token)) → list_all is_written_well cs ≡ true → map token_texts others ≡ map chain_words cs → Read chain (λ x. x) (map read_chain cs) others
 chains_read [] others well e = none_read chain (λ x. x) others e
 chains_read (c ∷ cs) others well e =
-    let good = both (is_written_well c) (list_all is_written_well cs) well in
+    let good = and_parts (is_written_well c) (list_all is_written_well cs) well in
     let one = first_map token_texts (chain_words c) (map chain_words cs) others e in
     let r = chains_read cs one.rest good.1 one.second in
     more_read chain (λ x. x) (read_chain c) (map read_chain cs) others one.rest one.member (read_chain c) one.is (chain_spells c good.0 one.member one.first) refl (chain_shut c one.member good.0 one.first) r

@@ -2,11 +2,11 @@
 use Rattle.std.proofs.Common.{◌≡◌, ℕ, true, false, not, List, [], ◌∷◌, ◌++◌, map, codes, refl, sym, ap, ◌∙◌, subst, append_assoc, inl, inr}
 use Rattle.std.specs.List.{flat_map, list_all}
 use Rattle.std.specs.Str.{bytes_eq}
+use Rattle.std.proofs.lemmas.Bool.{and_from, and_parts}
+use Rattle.base_types.proofs.TruthValues.{bytes_are}
 use Rattle.token_forms.specs.Tokens.{Token}
 use Rattle.token_forms.specs.Parts.{token_texts}
 use Rattle.token_forms.specs.Forms.{Form, made, key, passed, ◌&◌, ◌▸◌, ◌◂◌}
-use Rattle.token_forms.proofs.ClassLemmas.{both}
-use Rattle.token_forms.proofs.Spelled.{same_bytes}
 use Rattle.def_tokens.specs.DefTokens.{def_tokens}
 use Rattle.def_tokens.specs.DefStatements.{ends_with}
 use Rattle.def_syntax.specs.Words.{in_statement}
@@ -26,7 +26,7 @@ use Rattle.def_layout.proofs.Slices.{slice_law}
 use Rattle.def_layout.proofs.NetThere.{net_there}
 use Rattle.def_layout.proofs.NetBack.{is_passing, are_options, options_back, net_back}
 use Rattle.def_layout.proofs.NetLaw.{tokens_are_in}
-use Rattle.def_layout.proofs.NetWritten.{true_and, closing_of, closing_some, free_net_name, free_words, all_kept, all_both, others_end, others_options, passing_free}
+use Rattle.def_layout.proofs.NetWritten.{closing_of, closing_some, free_net_name, free_words, all_kept, all_both, others_end, others_options, passing_free}
 use Rattle.def_edit.specs.Alike.ByWords.{IsByWords}
 use Rattle.def_edit.specs.Alike.Changes.{NetChange, changed_connections, net_statement_words, names_both}
 use Rattle.def_edit.specs.Alike.Laws.{IsSameNet}
@@ -67,7 +67,7 @@ must_back ts h =
     }
 
 words_free : (x : Net) (cs : List ConnectionLayout) (ws : List (List ℕ)) → bytes_eq x.name (codes ";") ≡ false → are_free (flat_map connection_words cs) ≡ true → are_free ws ≡ true → are_free (x.name ∷ (flat_map connection_words cs ++ ws)) ≡ true
-words_free x cs ws name a b = true_and (not (bytes_eq x.name (codes ";"))) _ (rw name refl) (all_both (λ w. not (bytes_eq w (codes ";"))) (flat_map connection_words cs) ws a b)
+words_free x cs ws name a b = and_from (not (bytes_eq x.name (codes ";"))) _ (rw name refl) (all_both (λ w. not (bytes_eq w (codes ";"))) (flat_map connection_words cs) ws a b)
 
 pub same_net : (text other : List ℕ) (ts us : List Token) → AreIn text ts → AreIn other us → token_texts ts ≡ token_texts us → (x : NetStatement) → net.spells x ts → IsSameNet text x other us
 same_net text other ts us inside there e net_statements.MustJoin h =
@@ -91,8 +91,8 @@ ends_of (t ∷ u ∷ ts) (w ∷ ws) e = let tail : token_texts (u ∷ ts) ≡ ws
 options_free : (ws : List (List ℕ)) → are_options ws ≡ true → are_free ws ≡ true
 options_free [] h = refl
 options_free (w ∷ ws) h =
-    let a = both (bytes_eq w (codes "+")) (list_all is_passing ws) h in
-    let is = same_bytes w (codes "+") a.0 in
+    let a = and_parts (bytes_eq w (codes "+")) (list_all is_passing ws) h in
+    let is = bytes_are w (codes "+") a.0 in
     rw is (passing_free ws a.1)
 
 -- the tokens of a text that stand in it are in it

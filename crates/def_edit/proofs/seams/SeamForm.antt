@@ -3,11 +3,10 @@ use Rattle.std.proofs.Common.{◌≡◌, ℕ, suc, ◌+◌, ◌-◌, ◌<◌, �
 use Rattle.std.specs.Prelude.{nat_le}
 use Rattle.std.specs.List.{prefix_len}
 use Rattle.std.specs.Str.{bytes_eq}
-use Rattle.std.proofs.lemmas.Bool.{cases_lt}
+use Rattle.std.proofs.lemmas.Bool.{cases_lt, and_parts}
 use Rattle.std.proofs.lemmas.Bool.Decides.{nat_tests}
 use Rattle.std.proofs.lemmas.List.{take-append-le, take_at, get_or-append-add}
 use Rattle.token_forms.specs.declared.piece.Piece.TheVariants.{Blank, Token}
-use Rattle.token_forms.proofs.ClassLemmas.{both}
 use Rattle.token_forms.proofs.Spelled.{choose}
 use Rattle.token_forms.proofs.Fronts.{IsSeamForm}
 use Rattle.def_tokens.specs.DefTokens.{is_blank, is_black, len_with, has_end, run_piece, piece_at}
@@ -114,8 +113,8 @@ pub last_is : (x : List ℕ) (c : ℕ) → has_end (x ++ c ∷ []) ≡ true → 
 last_is x c end =
     let l = length-append x (c ∷ []) in
     let at : length (x ++ c ∷ []) - 1 ≡ length x + 0 = omega arith in
-    let parts = both (nat_le 2 (length (x ++ c ∷ []))) _ end in
-    let semi = (both (eqb (get_or (x ++ c ∷ []) (length (x ++ c ∷ []) - 1) 0) 59) _ parts.1).0 in
+    let parts = and_parts (nat_le 2 (length (x ++ c ∷ []))) _ end in
+    let semi = (and_parts (eqb (get_or (x ++ c ∷ []) (length (x ++ c ∷ []) - 1) 0) 59) _ parts.1).0 in
     let here : eqb c 59 ≡ true = rw (at, get_or-append-add x (c ∷ []) 0 0) at semi in
     grind (arith, nat_tests)
 

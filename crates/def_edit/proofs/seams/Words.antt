@@ -2,7 +2,7 @@
 use Rattle.std.proofs.Common.{◌≡◌, ℕ, zero, suc, ◌+◌, ◌<◌, ◌≤◌, Bool, true, false, cond, not, eqb, List, [], ◌∷◌, ◌++◌, length, take, drop, refl, sym, ap, ◌∙◌, subst, inl, inr, arith, codes, length-drop, append_assoc, get_or}
 use Rattle.std.specs.Str.{bytes_eq}
 use Rattle.std.specs.List.{prefix_len}
-use Rattle.std.proofs.lemmas.Bool.{cases_lt}
+use Rattle.std.proofs.lemmas.Bool.{cases_lt, and_parts, not-true}
 use Rattle.std.proofs.lemmas.Bool.Decides.{nat_tests}
 use Rattle.std.proofs.lemmas.List.{drop-take, drop-drop, drop_more}
 use Rattle.base_types.specs.declared.span.Span.{Span}
@@ -12,7 +12,6 @@ use Rattle.token_forms.specs.Tokens.{token_of, tokens_of, last_end_of, place_of}
 use Rattle.token_forms.specs.Tokens.{Token as token}
 use Rattle.token_forms.specs.Parts.{token_texts}
 use Rattle.token_forms.specs.Runs.{bytes_of, texts_of, end_of}
-use Rattle.token_forms.proofs.ClassLemmas.{both, not_true}
 use Rattle.token_forms.proofs.Spelled.{choose}
 use Rattle.token_forms.proofs.Fronts.{Front, part}
 use Rattle.std.proofs.lemmas.List.Sums.{prefix_len-le-length}
@@ -140,7 +139,7 @@ last_end s (t ∷ ts) = last_end t ts
 
 last_plain : (text : List ℕ) (s : Span) (ss : List Span) → ends_plain (tokens_of text (s ∷ ss)) ≡ true → begins_quote (bytes_of text (last_of s ss)) ≡ false
 unfolding last_of
-last_plain text s [] e = not_true _ e
+last_plain text s [] e = not-true _ e
 last_plain text s (t ∷ ts) e = last_plain text t ts e
 
 -- behind a run that ends with no text in quotes
@@ -178,7 +177,7 @@ cut_at : (text : List ℕ) (at : ℕ) (e : Edit) (fs rs bs : List Span) → toke
     → Cut text at e (tokens_of text fs) (tokens_of text rs) (tokens_of text bs)
 cut_at text at e fs [] bs is firm place = absurd cc
 cut_at text at e fs (s ∷ rs) bs is firm place =
-    let firm' : bytes_eq (bytes_of text s) (codes ";") ≡ false = not_true _ firm in
+    let firm' : bytes_eq (bytes_of text s) (codes ";") ≡ false = not-true _ firm in
     let r = reach (length text) text at fs s (rs ++ bs) (omega arith) firm' is in
     let j = run_end (length text) text s.start s rs bs (omega arith) r.rest in
     let begin : e.span.start ≡ s.start = ap (λ (x : Span). x.start) place in
@@ -211,11 +210,11 @@ cut text at e ts front run behind toks is firm place =
 no_token : (z : List ℕ) (m : ℕ) → begins_end z ≡ true → piece_at z ≡ Token m → bytes_eq (take m z) (codes ";") ≡ false → ⊥
 no_token [] m ends is firm = absurd cc
 no_token (b ∷ bs) m ends is firm =
-    let h = both (eqb b 59) (not (goes_on bs)) ends in
+    let h = and_parts (eqb b 59) (not (goes_on bs)) ends in
     let semi : b ≡ 59 = grind (arith, nat_tests) in
     let is' : piece_at (59 ∷ bs) ≡ Token m = rw semi at is in
     let firm' : bytes_eq (take m (59 ∷ bs)) (codes ";") ≡ false = rw semi at firm in
-    let e = alone bs m (none_black bs (not_true _ h.1)) is' in
+    let e = alone bs m (none_black bs (not-true _ h.1)) is' in
     absurd cc
 
 -- a token begins at none of these places but a semicolon
@@ -261,7 +260,7 @@ ends_front (b ∷ c ∷ cs) = refl
 -- behind a semicolon and a blank
 ends_inside : (z : List ℕ) → begins_end z ≡ true → (0 < length z) × (goes_on (drop 1 z) ≡ false)
 ends_inside [] e = absurd cc
-ends_inside (b ∷ bs) e = (omega arith, not_true _ (both (eqb b 59) (not (goes_on bs)) e).1)
+ends_inside (b ∷ bs) e = (omega arith, not-true _ (and_parts (eqb b 59) (not (goes_on bs)) e).1)
 
 two_behind : (es : List WordEdit) (text : List ℕ) (at : ℕ) (free : Bool) (ts : List token) (ws : List (List ℕ)) → begins_end (drop at text) ≡ true → AreRising (at + 1) (length text) (edits_of es)
     → tokens_of text (tokens_from piece_at at 0 (drop at text)) ≡ ts → AreWordEditsOf text free ts es ws → AreRising (at + 2) (length text) (edits_of es)
@@ -346,7 +345,7 @@ no_blank : (z : List ℕ) (n : ℕ) → begins_end z ≡ true → piece_at z ≡
 unfolding piece_at
 no_blank [] n ends is = absurd cc
 no_blank (b ∷ bs) n ends is =
-    let h = both (eqb b 59) (not (goes_on bs)) ends in
+    let h = and_parts (eqb b 59) (not (goes_on bs)) ends in
     let semi : b ≡ 59 = grind (arith, nat_tests) in
     let is' : run_piece (59 ∷ bs) (prefix_len is_black bs) ≡ Blank n = rw semi at is in
     choose (has_end (take (prefix_len is_black bs + 1) (59 ∷ bs))) (Token (prefix_len is_black bs)) (Token (prefix_len is_black bs + 1)) (Blank n) is' (λ e t. absurd cc) (λ e t. absurd cc)
@@ -359,7 +358,7 @@ semicolon_at text at (s ∷ ss) is ends firm =
       | Over n some within blank more ↦ no_blank (drop at text) n ends blank
       | First n rest some within token more whole ↦
           let bytes : bytes_of text s ≡ take n (drop at text) = ap (bytes_of text) (first_is s _ ss rest whole) ∙ piece_bytes text at n in
-          no_token (drop at text) n ends token (subst (λ (w : List ℕ). bytes_eq w (codes ";") ≡ false) bytes (not_true _ firm))
+          no_token (drop at text) n ends token (subst (λ (w : List ℕ). bytes_eq w (codes ";") ≡ false) bytes (not-true _ firm))
     ]
 
 pub behind_law : BehindLaw

@@ -24,13 +24,14 @@ use Rattle.std.proofs.lemmas.List.{length-map}
 use Rattle.std.proofs.lemmas.Option.{slice_get-map, slice_get_within, get_or_from_slice_get}
 use Rattle.std.proofs.lemmas.Map.Views.{Contains-from_any}
 use Rattle.netlist_core.specs.Netlists.{AreDistinct}
-use Rattle.chain_trace.proofs.Ranges.{then_some, port_within, and_left, all_at}
+use Rattle.chain_trace.proofs.Ranges.{then_some, port_within, all_at}
 use Rattle.chain_trace.proofs.NamedNets.{net_tells}
-use Rattle.path_links.proofs.PathSame.{and_right, net_is}
+use Rattle.path_links.proofs.PathSame.{net_is}
 use Rattle.net_edit.proofs.NewAssigns.{has_index, index_has}
 use Rattle.std.proofs.lemmas.List.Folds.{Any-from_list_any}
 use Rattle.std.proofs.lemmas.Option.{slice_get_read}
 use Rattle.std.specs.Prelude.{slice_index_or}
+use Rattle.base_types.proofs.TruthValues.{and_second, and_first}
 
 -- what is shown tells the member, where no two show the same
 shown_once : {X : Type 0} (f : X → List ℕ) (xs : List X) → AreDistinct (map f xs) → (i j : ℕ) (x y : X) → slice_get xs i ≡ Some x → slice_get xs j ≡ Some y → f x ≡ f y → x ≡ y
@@ -54,8 +55,8 @@ there_some false o x e = absurd (none-some x e)
 -- the same pin is the pin
 pub pin_is : (p q : NetPin) → same_pin p q ≡ true → p ≡ q
 pin_is (Cell c p) (Cell d q) e =
-    ap (λ (x : List ℕ). Cell x p) ((bytes_eq-Decides c d).0 (and_left (bytes_eq c d) (bytes_eq p q) e))
-    ∙ ap (λ (x : List ℕ). Cell d x) ((bytes_eq-Decides p q).0 (and_right (bytes_eq c d) (bytes_eq p q) e))
+    ap (λ (x : List ℕ). Cell x p) ((bytes_eq-Decides c d).0 (and_first (bytes_eq c d) (bytes_eq p q) e))
+    ∙ ap (λ (x : List ℕ). Cell d x) ((bytes_eq-Decides p q).0 (and_second (bytes_eq c d) (bytes_eq p q) e))
 pin_is (Cell c p) (Port q) e = absurd (false≢true e)
 pin_is (Port p) (Cell d q) e = absurd (false≢true e)
 pin_is (Port p) (Port q) e = ap (λ (x : List ℕ). Port x) ((bytes_eq-Decides p q).0 e)
@@ -88,7 +89,7 @@ module _ (n : Netlist) (d : Design) (ok : IsNetlist n) where
       record {
         row = row;
         has = index_has n.ports any.0 row (slice_get_read n.ports (length n.ports) any.0 row refl any.2 (sym any.3));
-        same = net_is row.net net (eqb-true row.net.0 net.0 (and_left (row.net.0 == net.0) (is_any row.direction) any.4));
+        same = net_is row.net net (eqb-true row.net.0 net.0 (and_first (row.net.0 == net.0) (is_any row.direction) any.4));
       }
 
   -- so is the port

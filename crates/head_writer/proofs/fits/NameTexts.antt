@@ -5,6 +5,7 @@ use Rattle.std.specs.Str.{bytes_eq}
 use Rattle.std.proofs.lemmas.Bool.{cases_Bool, eqb-true, eqb-false, eq-eqb, ne_eqb}
 use Rattle.std.proofs.lemmas.List.{append-nil}
 use Rattle.std.proofs.lemmas.Option.{same_Some}
+use Rattle.base_types.proofs.TruthValues.{and_false}
 use Rattle.token_forms.specs.declared.piece.Piece.TheVariants.{Token as token}
 use Rattle.token_forms.specs.Classes.{But, is_in}
 use Rattle.token_forms.specs.Tokens.{Token, front_of}
@@ -49,10 +50,6 @@ read_run : (w : List ℕ) → is_word w ≡ true → IsRunText w → name_read w
 read_run w word x =
     let alone : AreLaid [] ((true, w) ∷ []) = (x.some, x.stands [] refl, tt) in
     ap name_read (sym (append-nil w)) ∙ read_of ((true, w) ∷ []) alone ∙ ap name_in (name_word (token_of_bytes w 0) [] word)
-
-and_false : (b : Bool) → (b && false) ≡ false
-and_false true = refl
-and_false false = refl
 
 no_run : (w : List ℕ) → is_string w ≡ true → is_word w ≡ false
 no_run [] e = absurd cc

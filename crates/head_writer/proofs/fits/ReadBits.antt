@@ -2,7 +2,7 @@
 use Rattle.std.proofs.Common.{◌≡◌, ℕ, Bool, true, false, cond, not, ◌&&◌, eqb, inl, inr, List, [], ◌∷◌, ◌++◌, length, map, Option, Some, None, refl, sym, ap, ap₂, ◌∙◌, subst, arith}
 use Rattle.std.specs.Prelude.{option_map, unwrap_or}
 use Rattle.std.specs.List.{find, zip, AllByRecursion as Each}
-use Rattle.std.proofs.lemmas.Bool.{true≢false, eqb-true, eq-eqb}
+use Rattle.std.proofs.lemmas.Bool.{true≢false, eqb-true, eq-eqb, and_parts}
 use Rattle.base_types.specs.declared.span.Span.{Span}
 use Rattle.netlist_core.specs.declared.netlist.Netlist.{Netlist}
 use Rattle.cell_table.specs.Cells.{Cells}
@@ -15,7 +15,6 @@ use Rattle.head_checks.specs.Heads.{Declared, bit_names, differ, lists_others}
 use Rattle.path_chains.specs.Numbered.{bits_along, bits_of_paths}
 use Rattle.head_text.specs.Written.{NewBit, name_read}
 use Rattle.head_text.specs.Laws.{names_if, read_names}
-use Rattle.head_text.proofs.Ready.{both_true}
 use Rattle.head_writer.specs.declared.names.NamedBit.{NamedBit}
 use Rattle.head_writer.specs.NewChains.{with_names, named_bits, all_named, is_bit, name_for, new_bits}
 use Rattle.head_writer.specs.Fits.{AreNamesAt}
@@ -46,8 +45,8 @@ bit_same b =
 
 bit_is : (a b : BitId) → is_bit a b ≡ true → a ≡ b
 bit_is a b e =
-    let outer = both_true (eqb a.instance b.instance && eqb a.path b.path) (eqb a.index b.index) e in
-    let inner = both_true (eqb a.instance b.instance) (eqb a.path b.path) outer.0 in
+    let outer = and_parts (eqb a.instance b.instance && eqb a.path b.path) (eqb a.index b.index) e in
+    let inner = and_parts (eqb a.instance b.instance) (eqb a.path b.path) outer.0 in
     let i = eqb-true a.instance b.instance inner.0 in
     let p = eqb-true a.path b.path inner.1 in
     let x = eqb-true a.index b.index outer.1 in
@@ -108,7 +107,7 @@ module _ (n : Netlist) (cells : Cells) (text : List ℕ) where
   with_good all [] texts e sub = tt
   with_good all (b ∷ bs) [] e sub = tt
   with_good all (b ∷ bs) (x ∷ xs) e sub =
-      let both = both_true (names_cell n.«module» (name_at n b) (name_read x)) (name_each n.«module» (map (name_at n) bs) (map name_read xs)) e in
+      let both = and_parts (names_cell n.«module» (name_at n b) (name_read x)) (name_each n.«module» (map (name_at n) bs) (map name_read xs)) e in
       (record { named = both.0; there = sub x (inl refl) }, with_good all bs xs both.1 (λ y h. sub y (inr h)))
 
   with_stands : (bits : List BitId) (texts : List (List ℕ)) → name_each n.«module» (map (name_at n) bits) (map name_read texts) ≡ true → (b : BitId) → Has bits b → Stands (with_names bits texts) b
@@ -116,7 +115,7 @@ module _ (n : Netlist) (cells : Cells) (text : List ℕ) where
   with_stands (c ∷ cs) [] e b h = absurd cc
   with_stands (c ∷ cs) (x ∷ xs) e b (inl same) = record { one = record { bit = c; name = x }; there = inl refl; is = same }
   with_stands (c ∷ cs) (x ∷ xs) e b (inr h) =
-      let both = both_true (names_cell n.«module» (name_at n c) (name_read x)) (name_each n.«module» (map (name_at n) cs) (map name_read xs)) e in
+      let both = and_parts (names_cell n.«module» (name_at n c) (name_read x)) (name_each n.«module» (map (name_at n) cs) (map name_read xs)) e in
       let s = with_stands cs xs both.1 b h in
       record { one = s.one; there = inr s.there; is = s.is }
 

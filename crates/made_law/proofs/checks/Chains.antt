@@ -8,6 +8,7 @@ use Rattle.std.proofs.lemmas.Bool.Decides.{nat_tests}
 use Rattle.std.proofs.lemmas.List.{append-nil, length-map, length-drop}
 use Rattle.std.proofs.lemmas.List.FromFn.{length-map-range_with_len, get_or-map-range_with_len}
 use Rattle.std.proofs.lemmas.List.Elements.{All-from_recursion}
+use Rattle.std.proofs.lemmas.Bool.{cases_lt}
 use Rattle.base_types.specs.declared.kind.Kind.{Kind}
 use Rattle.base_types.specs.declared.kind.Kind.TheVariants.{NotAStretch, UnlistedBits, OrderBroken, OverMaxBits, TooManyUnits}
 use Rattle.netlist_core.specs.declared.netlist.NetId.{NetId}
@@ -35,7 +36,7 @@ use Rattle.made_law.specs.Designs.MadeChains.{element_numbers, made_element, mad
 use Rattle.made_law.specs.Designs.MadeDesign.{made_design}
 use Rattle.made_law.specs.Paths.MadeNetlist.{NetlistPlaces, net_id, in_number, out_number, made_instance, made_netlist}
 use Rattle.made_law.specs.Paths.MadePaths.{made_step, made_path}
-use Rattle.made_law.proofs.paths.Joins.{less_or, eight}
+use Rattle.made_law.proofs.paths.Joins.{eight}
 use Rattle.made_law.proofs.paths.Sources.{below_eight}
 use Rattle.made_law.specs.Checks.MadeAsked.{made_paths}
 use Rattle.made_law.specs.Checks.Laws.{ChainsLaw}
@@ -58,7 +59,7 @@ prefix_by test f a i xs (inr le) from passes differs more =
 prefix_made : {X : Type 0} (test : X → Bool) (f : ℕ → X) (a m i : ℕ) → a ≤ i → i < a + m → test (f i) ≡ true → ((j : ℕ) → j < i → test (f j) ≡ false) → prefix_len (λ x. not (test x)) (map f (range_with_len a m)) ≡ i - a
 prefix_made test f a zero i from to passes differs = absurd (omega arith)
 prefix_made test f a (suc m) i from to passes differs =
-    prefix_by test f a i (map f (range_with_len (a + 1) m)) (less_or a i) from passes (λ lt. differs a lt) (λ lt. prefix_made test f (a + 1) m i (omega arith) (omega arith) passes differs)
+    prefix_by test f a i (map f (range_with_len (a + 1) m)) (cases_lt a i) from passes (λ lt. differs a lt) (λ lt. prefix_made test f (a + 1) m i (omega arith) (omega arith) passes differs)
 
 number_of : (n : ℕ) (v : NetlistPlaces) (i : ℕ) → n ≤ 16384 → i < n → instance_number (made_netlist v n) (unit i) ≡ i
 number_of n v i most lt =

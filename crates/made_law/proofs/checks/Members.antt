@@ -3,8 +3,8 @@ use Rattle.std.proofs.Common.{◌≡◌, ℕ, zero, suc, ◌+◌, ◌*◌, ◌<�
 use Rattle.std.specs.Prelude.{sum_by}
 use Rattle.std.specs.List.{find, range_with_len, AllByRecursion as Each}
 use Rattle.std.proofs.lemmas.List.Sums.{sum_by-cons}
+use Rattle.std.proofs.lemmas.Bool.{cases_lt}
 use Rattle.made_law.specs.Designs.Places.{Place, placed}
-use Rattle.made_law.proofs.paths.Joins.{less_or}
 
 pub none_in : {X : Type 0} (x : X) → Contains [] x → ⊥
 none_in x h = let lt = h.1 in omega arith
@@ -95,7 +95,7 @@ pub find_placed : {X : Type 0} (test : X → Bool) (make : Place → ℕ → X) 
     → (p : Place) × (find test (placed make at (range_with_len a m)) ≡ Some (make p i))
 find_placed test make at a zero i from to passes differs = absurd (omega arith)
 find_placed test make at a (suc m) i from to passes differs =
-    found_by test make (at 0) a i (placed make (λ j. at (suc j)) (range_with_len (a + 1) m)) (less_or a i) from passes (λ lt. differs (at 0) a lt)
+    found_by test make (at 0) a i (placed make (λ j. at (suc j)) (range_with_len (a + 1) m)) (cases_lt a i) from passes (λ lt. differs (at 0) a lt)
     (λ lt. find_placed test make (λ j. at (suc j)) (a + 1) m i (omega arith) (omega arith) passes differs)
 
 -- what is found passes the test, and something is found where one passes it

@@ -4,8 +4,8 @@ use Rattle.std.specs.Prelude.{is_none}
 use Rattle.std.specs.List.{list_any, range_with_len, AllByRecursion as Each}
 use Rattle.std.specs.Str.{bytes_eq}
 use Rattle.std.proofs.lemmas.Option.{same_Some}
-use Rattle.std.proofs.lemmas.Bool.{both_ways}
-use Rattle.token_forms.proofs.Spelled.{same_bytes, same_text}
+use Rattle.std.proofs.lemmas.Bool.{both_ways, cases_lt}
+use Rattle.base_types.proofs.TruthValues.{bytes_are, bytes_same}
 use Rattle.netlist_core.specs.declared.netlist.NetId.{NetId}
 use Rattle.cell_table.specs.Table.{small_cells}
 use Rattle.chain_trace.specs.declared.path.Step.{Step}
@@ -26,7 +26,7 @@ use Rattle.made_law.specs.Designs.MadeDesign.{made_design}
 use Rattle.made_law.proofs.designs.Numbers.{value_of}
 use Rattle.made_law.specs.Paths.MadeNetlist.{NetlistPlaces, net_id, in_number, out_number, made_netlist}
 use Rattle.made_law.specs.Paths.MadePaths.{made_step, made_path}
-use Rattle.made_law.proofs.paths.Joins.{less_or, number_there, shown_by, shown_port, shown_low}
+use Rattle.made_law.proofs.paths.Joins.{number_there, shown_by, shown_port, shown_low}
 use Rattle.made_law.proofs.paths.Sources.{instance_at}
 use Rattle.made_law.proofs.paths.Netlists.{name_key}
 use Rattle.made_law.specs.Checks.MadeAsked.{made_paths}
@@ -73,10 +73,10 @@ module _ (n : ℕ) (v : NetlistPlaces) (d : Places) (some : 8 ≤ n) (most : n �
   has_output i lt (inr le) = not_alone (Cell (unit i) (codes "Q")) (out_net i) (out_there n i some (omega arith) lt) (rw (same_cell i (codes "Q") refl) refl)
 
   in_right : (k t : ℕ) → unit_of k t < n → lacks_in_net (made_netlist v n) small_cells (made_design d n) (made_step k t) ≡ false
-  in_right k t lt = rw (instance_at n v (unit_of k t) lt) (has_input (unit_of k t) lt (less_or (unit_of k t) 8))
+  in_right k t lt = rw (instance_at n v (unit_of k t) lt) (has_input (unit_of k t) lt (cases_lt (unit_of k t) 8))
 
   out_right : (k t : ℕ) → unit_of k t < n → lacks_out_net (made_netlist v n) small_cells (made_design d n) (made_step k t) ≡ false
-  out_right k t lt = rw (instance_at n v (unit_of k t) lt) (has_output (unit_of k t) lt (less_or (unit_of k t) (n - 8)))
+  out_right k t lt = rw (instance_at n v (unit_of k t) lt) (has_output (unit_of k t) lt (cases_lt (unit_of k t) (n - 8)))
 
   -- a port among the pins of a row
   port_among : (key : ℕ) (name : List ℕ) (ps : List NetPin) → Each (IsPinOf n v key) ps → list_any (same_pin (Port name)) ps ≡ true → IsPinOf n v key (Port name)
@@ -84,7 +84,7 @@ module _ (n : ℕ) (v : NetlistPlaces) (d : Places) (some : 8 ≤ n) (most : n �
   port_among key name (Cell component pin ∷ ps) h e = port_among key name ps h.1 e
   port_among key name (Port other ∷ ps) h e =
       either (bytes_eq name other) (list_any (same_pin (Port name)) ps) e
-      (λ same. subst (λ (w : List ℕ). IsPinOf n v key (Port w)) (sym (same_bytes name other same)) h.0)
+      (λ same. subst (λ (w : List ℕ). IsPinOf n v key (Port w)) (sym (bytes_are name other same)) h.0)
       (λ more. port_among key name ps h.1 more)
 
   -- the row of a port is the one whose net it shows
@@ -104,12 +104,12 @@ module _ (n : ℕ) (v : NetlistPlaces) (d : Places) (some : 8 ≤ n) (most : n �
       let row = row_of_port name b r.member s net shows r.there there (subst (λ (x : Net). list_any (same_pin (Port name)) x.pins ≡ true) r.is f.passes) in
       let net_name : f.member.name ≡ s.name = ap (λ (x : Net). x.name) r.is ∙ ap (λ (x : NetRow). x.name) row in
       let p = to_placed pins.made_pin d.pins (pins.pin_rows n) q pin in
-      let g = finds (λ (x : DesignPin). bytes_eq x.name name) (pins.made_pins d.pins n) (pins.made_pin p.0 q) p.1 (same_text q.name name named) in
+      let g = finds (λ (x : DesignPin). bytes_eq x.name name) (pins.made_pins d.pins n) (pins.made_pin p.0 q) p.1 (bytes_same q.name name named) in
       let t = of_placed pins.made_pin d.pins (pins.pin_rows n) g.member g.there in
-      let pin_name : t.member.name ≡ name = same_bytes t.member.name name (subst (λ (x : DesignPin). bytes_eq x.name name ≡ true) t.is g.passes) in
+      let pin_name : t.member.name ≡ name = bytes_are t.member.name name (subst (λ (x : DesignPin). bytes_eq x.name name ≡ true) t.is g.passes) in
       let pin_row = same_member pin_key 0 19 (pins.pin_rows n) t.member q (pins_rise n) t.there pin (ap name_key (pin_name ∙ sym named)) in
       let pin_net : g.member.net ≡ f.member.name = ap (λ (x : DesignPin). x.net) t.is ∙ ap (λ (x : pins.PinRow). x.net) pin_row ∙ named_net ∙ sym net_name in
-      rw (f.is, g.is, same_text g.member.net f.member.name pin_net) refl
+      rw (f.is, g.is, bytes_same g.member.net f.member.name pin_net) refl
 
   in_pin_there : (k : ℕ) → k < 8 → Contains (pins.pin_rows n) (pins.in_pin k)
   in_pin_there k lt =
@@ -127,7 +127,7 @@ module _ (n : ℕ) (v : NetlistPlaces) (d : Places) (some : 8 ≤ n) (most : n �
   input_right : (k : ℕ) → k < 8 → lacks_port (made_netlist v n) (made_design d n) (net_id (in_number k)) ≡ false
   input_right k lt =
       subst (λ (name : List ℕ). names_other (net_with (made_nets d.nets n) (Port name)) (pin_named (pins.made_pins d.pins n) name) ≡ false) (sym (in_name n k v lt))
-      (port_right (in_port k) (in_number k) (in_net k) (pins.in_pin k) (in_port_is n v k lt) (shown_low n (in_number k) (omega arith) ∙ sym (in_key k lt)) (in_there n k lt) (rw (same_text (in_port k) (in_port k) refl) refl)
+      (port_right (in_port k) (in_number k) (in_net k) (pins.in_pin k) (in_port_is n v k lt) (shown_low n (in_number k) (omega arith) ∙ sym (in_key k lt)) (in_there n k lt) (rw (bytes_same (in_port k) (in_port k) refl) refl)
       (in_pin_there k lt) refl refl)
 
   unit_key : (i : ℕ) → i < n → row_key (out_net i) ≡ 19 + i
@@ -137,7 +137,7 @@ module _ (n : ℕ) (v : NetlistPlaces) (d : Places) (some : 8 ≤ n) (most : n �
   output_right k lt =
       let i = last_unit n k in
       let same : k ≡ i % 8 = omega arith in
-      let port : bytes_eq (out_port k) (out_port (i % 8)) ≡ true = same_text (out_port k) (out_port (i % 8)) (ap out_port same) in
+      let port : bytes_eq (out_port k) (out_port (i % 8)) ≡ true = bytes_same (out_port k) (out_port (i % 8)) (ap out_port same) in
       subst (λ (name : List ℕ). names_other (net_with (made_nets d.nets n) (Port name)) (pin_named (pins.made_pins d.pins n) name) ≡ false) (sym (out_name n k v lt))
       (port_right (out_port k) (out_number k) (out_net i) (pins.out_pin n k) (out_port_is n v k lt) (shown_port n k lt ∙ sym (unit_key i (omega arith))) (out_there n i some (omega arith) (omega arith))
       (second_true (same_pin (Port (out_port k)) (Cell (unit i) (codes "Q"))) (same_pin (Port (out_port k)) (Port (out_port (i % 8)))) port)

@@ -3,6 +3,7 @@ use Rattle.std.proofs.Common.{◌≡◌, ℕ, zero, suc, ◌+◌, ◌-◌, ◌%�
 use Rattle.std.specs.List.{find, range_with_len, AllByRecursion as Each}
 use Rattle.std.specs.Str.{bytes_eq}
 use Rattle.std.specs.Fmt.{digits}
+use Rattle.std.proofs.lemmas.Bool.{cases_lt}
 use Rattle.def_syntax.proofs.FrameLaws.{each_append}
 use Rattle.netlist_core.specs.declared.netlist.Instance.{Instance}
 use Rattle.netlist_core.specs.Joining.{AreSides, IsChain, AreJoined}
@@ -19,7 +20,7 @@ use Rattle.made_law.proofs.designs.Numbers.{value_of}
 use Rattle.made_law.proofs.designs.Rising.{Rising, rising_both, rising_range}
 use Rattle.made_law.proofs.designs.Statements.{each_of}
 use Rattle.made_law.specs.Paths.MadeNetlist.{NetlistPlaces, net_id, in_number, out_number, unit_number, input_number, made_instance, made_netlist}
-use Rattle.made_law.proofs.paths.Joins.{less_or, eight, number_there, pair_there, shown_by, shown_port, shown_low, shown_unit, last_joined, itself_joined}
+use Rattle.made_law.proofs.paths.Joins.{eight, number_there, pair_there, shown_by, shown_port, shown_low, shown_unit, last_joined, itself_joined}
 use Rattle.made_law.proofs.paths.Sources.{below_eight}
 use Rattle.made_law.proofs.paths.Leading.{first_input, later_input}
 use Rattle.made_law.proofs.paths.Netlists.{name_key, each_range}
@@ -36,7 +37,7 @@ found_by {X} test f a i xs (inr le) from passes differs more =
 find_made : {X : Type 0} (test : X → Bool) (f : ℕ → X) (a m i : ℕ) → a ≤ i → i < a + m → test (f i) ≡ true → ((j : ℕ) → j < i → test (f j) ≡ false) → find test (map f (range_with_len a m)) ≡ Some (f i)
 find_made test f a zero i from to passes differs = absurd (omega arith)
 find_made test f a (suc m) i from to passes differs =
-    found_by test f a i (map f (range_with_len (a + 1) m)) (less_or a i) from passes (λ lt. differs a lt) (λ lt. find_made test f (a + 1) m i (omega arith) (omega arith) passes differs)
+    found_by test f a i (map f (range_with_len (a + 1) m)) (cases_lt a i) from passes (λ lt. differs a lt) (λ lt. find_made test f (a + 1) m i (omega arith) (omega arith) passes differs)
 
 -- keys of members in order
 module _ {X : Type 0} (key : X → ℕ) where
@@ -163,7 +164,7 @@ module _ (n : ℕ) (v : NetlistPlaces) where
       shown_itself x (subst (λ (y : ℕ). shown_by n y ≡ y) e (shown_unit n (x - 19)))
 
   shown_is : (x : ℕ) → IsShownBy x
-  shown_is x = shown_cases x (less_or x 11) (less_or x 19)
+  shown_is x = shown_cases x (cases_lt x 11) (cases_lt x 19)
 
   -- nets that show the same are joined
   pub joined_by : (a b : ℕ) → shown_by n a ≡ shown_by n b → AreJoined (made_netlist v n) a b

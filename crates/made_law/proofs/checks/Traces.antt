@@ -10,8 +10,10 @@ use Rattle.std.proofs.lemmas.List.{length-append}
 use Rattle.std.proofs.lemmas.List.FromFn.{length-map-range_with_len}
 use Rattle.std.proofs.lemmas.List.Folds.{list_any-append}
 use Rattle.std.proofs.lemmas.List.Elements.{All-from_recursion}
+use Rattle.std.proofs.lemmas.Bool.{cases_lt}
 use Rattle.base_types.specs.declared.fault.Fault.{Fault}
 use Rattle.base_types.specs.declared.fault.FileKind.{FileKind}
+use Rattle.base_types.proofs.TruthValues.{and_false}
 use Rattle.netlist_core.specs.declared.netlist.NetId.{NetId}
 use Rattle.netlist_core.specs.declared.netlist.Port.{Port}
 use Rattle.netlist_core.specs.Netlists.{plain_of}
@@ -32,7 +34,7 @@ use Rattle.made_law.specs.Designs.MadeChains.{chain_numbers, element_numbers, ma
 use Rattle.made_law.proofs.designs.Rising.{Rising, rising_both, rising_range}
 use Rattle.made_law.specs.Paths.MadeNetlist.{NetlistPlaces, net_id, in_number, out_number, input_port, output_port, made_netlist}
 use Rattle.made_law.specs.Paths.MadePaths.{made_step, made_path}
-use Rattle.made_law.proofs.paths.Joins.{less_or, eight}
+use Rattle.made_law.proofs.paths.Joins.{eight}
 use Rattle.made_law.proofs.paths.Sources.{below_eight, instance_at}
 use Rattle.made_law.proofs.paths.Leading.{path_is}
 use Rattle.made_law.proofs.paths.Netlists.{distinct_by}
@@ -74,17 +76,13 @@ either : {P : Type 0} (a b : Bool) → (a || b) ≡ true → (a ≡ true → P) 
 either true b e f g = f refl
 either false b e f g = g e
 
-and_off : (b : Bool) → (b && false) ≡ false
-and_off true = refl
-and_off false = refl
-
 and_on : (b : Bool) → (b && true) ≡ true → b ≡ true
 and_on true e = refl
 and_on false e = e
 
 none_in : (v : NetlistPlaces) (net : NetId) (a m : ℕ) → list_any (test net) (map (input_port v) (range_with_len a m)) ≡ false
 none_in v net a zero = refl
-none_in v net a (suc m) = rw (and_off (eqb a net.0)) (none_in v net (a + 1) m)
+none_in v net a (suc m) = rw (and_false (eqb a net.0)) (none_in v net (a + 1) m)
 
 in_outs : (v : NetlistPlaces) (net : NetId) (a m : ℕ) → list_any (test net) (map (output_port v) (range_with_len a m)) ≡ true → (a ≤ net.0) × (net.0 < a + m)
 in_outs v net a zero e = absurd cc
@@ -129,7 +127,7 @@ steps_once : (n : ℕ) → n ≤ 16384 → StandOnce (steps_of (made_paths n))
 steps_once n most i j d low high same =
     let steps = steps_of (made_paths n) in
     let keys : step_key (get_or steps i d) ≡ step_key (get_or steps j d) = ap (λ (x : ℕ). x % 8 * 4096 + x / 8) same.instance in
-    distinct_by step_key 0 32768 steps (steps_rise n 0 8 most (omega arith)) i j d low high keys (less_or i j) (less_or j i)
+    distinct_by step_key 0 32768 steps (steps_rise n 0 8 most (omega arith)) i j d low high keys (cases_lt i j) (cases_lt j i)
 
 -- few are asked for
 once_few : (before names : List (List ℕ)) → length (once_behind before names) ≤ length names

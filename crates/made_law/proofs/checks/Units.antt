@@ -5,7 +5,7 @@ use Rattle.std.specs.Str.{bytes_eq}
 use Rattle.std.proofs.lemmas.Fmt.{decimal_injective}
 use Rattle.std.proofs.lemmas.List.{append-nil}
 use Rattle.std.proofs.lemmas.Bool.{false_from_ne_true}
-use Rattle.token_forms.proofs.Spelled.{same_bytes, same_text}
+use Rattle.base_types.proofs.TruthValues.{bytes_are, bytes_same}
 use Rattle.def_reader.specs.declared.design.Component.{Component}
 use Rattle.def_reader.specs.declared.design.Element.{Element}
 use Rattle.def_reader.specs.declared.design.ScanChainText.{ScanChainText}
@@ -18,11 +18,11 @@ use Rattle.made_law.specs.Designs.MadeChains.{chain_numbers, element_numbers, ma
 use Rattle.made_law.proofs.checks.Members.{of_map, of_placed, number_in_range, find_placed}
 
 pub unit_same : (i : ℕ) → bytes_eq (unit i) (unit i) ≡ true
-unit_same i = same_text (unit i) (unit i) refl
+unit_same i = bytes_same (unit i) (unit i) refl
 
 pub unit_differs : (i j : ℕ) → i < 2 ^ 64 → j < i → bytes_eq (unit j) (unit i) ≡ false
 unit_differs i j small less = false_from_ne_true (bytes_eq (unit j) (unit i)) (λ e.
-    let names : unit j ≡ unit i = same_bytes (unit j) (unit i) e in
+    let names : unit j ≡ unit i = bytes_are (unit j) (unit i) e in
     let digits : decimal j ≡ decimal i = ap (drop 1) names in
     let same = decimal_injective j i (omega arith) small digits in
     omega (arith, same))

@@ -2,9 +2,9 @@
 use Rattle.std.proofs.Common.{◌≡◌, ℕ, true, false, List, [], ◌∷◌, ◌++◌, map, refl, sym, ap, ◌∙◌, append_assoc, codes, Some}
 use Rattle.std.specs.List.{AllByRecursion as Each}
 use Rattle.std.specs.Str.{bytes_eq}
+use Rattle.base_types.proofs.TruthValues.{bytes_same}
 use Rattle.token_forms.specs.Tokens.{Token}
 use Rattle.token_forms.specs.Parts.{token_texts}
-use Rattle.token_forms.proofs.Spelled.{same_text}
 use Rattle.def_syntax.specs.Frames.{section_named, word_of, opened_by, is_end, is_head, NoneEnds, Section, IsBlock}
 use Rattle.def_syntax.specs.declared.frame.SectionKind.{SectionKind}
 use Rattle.def_layout.specs.NetForms.{AreIn}
@@ -84,7 +84,7 @@ end_of word (t ∷ u ∷ v ∷ s) e = absurd cc
 end_of word (t ∷ u ∷ []) e =
     let here : t.text ≡ codes "END" = cc in
     let there : u.text ≡ word = cc in
-    rw (here, there, same_text word word refl) refl
+    rw (here, there, bytes_same word word refl) refl
 
 pub other_end : (word other : List ℕ) (s : List Token) → token_texts s ≡ closing word → bytes_eq word other ≡ false → is_end other s ≡ false
 other_end word other [] e differs = refl

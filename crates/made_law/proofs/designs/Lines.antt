@@ -3,7 +3,7 @@ use Rattle.std.proofs.Common.{◌≡◌, ℕ, zero, suc, ◌+◌, true, false, L
 use Rattle.std.specs.List.{list_all, flat_map, range_with_len}
 use Rattle.std.proofs.lemmas.List.{append-nil, map-append}
 use Rattle.std.proofs.lemmas.List.Concat.{flat_map-append}
-use Rattle.token_forms.proofs.ClassLemmas.{both}
+use Rattle.std.proofs.lemmas.Bool.{and_parts}
 use Rattle.def_tokens.specs.DefSplit.{goes_on}
 use Rattle.def_layout.specs.Words.{texts, is_whole, HasWords}
 use Rattle.def_layout.proofs.WordTokens.{whole_texts, blank_texts, words_behind, no_words}
@@ -27,7 +27,7 @@ parted (w ∷ ws) behind z free = refl
 led_texts : (ws : List (List ℕ)) (behind z : List ℕ) → list_all is_whole ws ≡ true → goes_on (behind ++ z) ≡ false → texts (led ws behind ++ z) ≡ ws ++ texts (behind ++ z)
 led_texts [] behind z all free = refl
 led_texts (w ∷ ws) behind z all free =
-    let h = both (is_whole w) (list_all is_whole ws) all in
+    let h = and_parts (is_whole w) (list_all is_whole ws) all in
     blank_texts 32 ((w ++ led ws behind) ++ z) refl ∙ ap texts (append_assoc w (led ws behind) z)
     ∙ whole_texts w (led ws behind ++ z) h.0 (parted ws behind z free)
     ∙ ap (λ (l : List (List ℕ)). w ∷ l) (led_texts ws behind z h.1 free)
@@ -35,7 +35,7 @@ led_texts (w ∷ ws) behind z all free =
 line_texts : (ws : List (List ℕ)) (behind z : List ℕ) → list_all is_whole ws ≡ true → goes_on (behind ++ z) ≡ false → texts (line ws behind ++ z) ≡ ws ++ texts (behind ++ z)
 line_texts [] behind z all free = refl
 line_texts (w ∷ ws) behind z all free =
-    let h = both (is_whole w) (list_all is_whole ws) all in
+    let h = and_parts (is_whole w) (list_all is_whole ws) all in
     ap texts (append_assoc w (led ws behind) z) ∙ whole_texts w (led ws behind ++ z) h.0 (parted ws behind z free)
     ∙ ap (λ (l : List (List ℕ)). w ∷ l) (led_texts ws behind z h.1 free)
 

@@ -1,6 +1,7 @@
 -- The nets of the made DEF.
 use Rattle.std.proofs.Common.{◌≡◌, ℕ, ◌+◌, ◌-◌, ◌%◌, Bool, true, false, List, [], ◌∷◌, ◌++◌, map, Option, Some, refl, sym, ap, ◌∙◌, subst, append-nil, codes, suc}
 use Rattle.std.specs.List.{flat_map, list_all, filter_map, cons_option, range_with_len, AllByRecursion as Each}
+use Rattle.std.proofs.lemmas.Bool.{and_from}
 use Rattle.base_types.specs.Names.{plain_name}
 use Rattle.base_types.specs.Lines.{line_at}
 use Rattle.token_forms.specs.Tokens.{Token, place_of}
@@ -19,7 +20,7 @@ use Rattle.def_layout.specs.NetForms.{AreIn, IsNet}
 use Rattle.def_layout.proofs.Closing.{are_free}
 use Rattle.def_layout.proofs.NetThere.{is_good}
 use Rattle.def_layout.proofs.NetBack.{options_back, net_back}
-use Rattle.def_layout.proofs.NetWritten.{free_net_name, free_words, true_and}
+use Rattle.def_layout.proofs.NetWritten.{free_net_name, free_words}
 use Rattle.def_reader.specs.Designs.{net_pin_of, net_pins_of, net_of}
 use Rattle.def_reader.specs.declared.design.NetPin.{NetPin}
 use Rattle.def_reader.specs.declared.design.NetPin.TheVariants.{Cell, Port}
@@ -53,7 +54,7 @@ laid_words (Port port ∷ ps) = ap (λ (l : List (List ℕ)). (codes "(" ∷ cod
 
 all_good : (ps : List NetPin) → Each GoodConnection ps → list_all is_good (map laid_out ps) ≡ true
 all_good [] h = refl
-all_good (p ∷ ps) h = true_and (is_good (laid_out p)) (list_all is_good (map laid_out ps)) h.0.good (all_good ps h.1)
+all_good (p ∷ ps) h = and_from (is_good (laid_out p)) (list_all is_good (map laid_out ps)) h.0.good (all_good ps h.1)
 
 -- what a layout connects
 abbrev pub connects : ConnectionLayout → Option NetPin

@@ -5,8 +5,8 @@ use Rattle.std.specs.List.{list_all, list_any}
 use Rattle.std.specs.Str.Parse.{digits_value}
 use Rattle.std.proofs.lemmas.Bool.Decides.{nat_tests}
 use Rattle.std.proofs.lemmas.Fmt.{decimal_is_IsNumeral}
+use Rattle.std.proofs.lemmas.Bool.{and_parts}
 use Rattle.base_types.specs.Names.{plain_name}
-use Rattle.token_forms.proofs.ClassLemmas.{both}
 use Rattle.def_tokens.specs.Numbers.{is_digit, has_minus, unsigned, is_integer, integer_of}
 use Rattle.def_layout.proofs.NumberWords.{number_number}
 use Rattle.def_reader.specs.Numbers.{coordinate_of, bits_of}
@@ -19,7 +19,7 @@ use Rattle.made_law.proofs.designs.Words.{digits_of}
 no_backslash : (ds : List ℕ) → list_all is_digit ds ≡ true → list_any (λ b. eqb b 92) ds ≡ false
 no_backslash [] all = refl
 no_backslash (c ∷ cs) all =
-    let h = both (is_digit c) (list_all is_digit cs) all in
+    let h = and_parts (is_digit c) (list_all is_digit cs) all in
     let d = h.0 in
     let here : eqb c 92 ≡ false = grind (arith, nat_tests) in
     rw here (no_backslash cs h.1)
@@ -49,7 +49,7 @@ plain_partition p = as_written (partition_name p) (clean p)
 no_sign : (ds : List ℕ) → list_all is_digit ds ≡ true → (has_minus ds ≡ false) × (unsigned ds ≡ ds)
 no_sign [] all = (refl, refl)
 no_sign (c ∷ cs) all =
-    let d = (both (is_digit c) (list_all is_digit cs) all).0 in
+    let d = (and_parts (is_digit c) (list_all is_digit cs) all).0 in
     let minus : eqb c 45 ≡ false = grind (arith, nat_tests) in
     let plus : eqb c 43 ≡ false = grind (arith, nat_tests) in
     (minus, rw (minus, plus) refl)
@@ -64,7 +64,7 @@ value_of n lt = (decimal_is_IsNumeral n lt).1
 pub integer_is : (n : ℕ) → n < 2 ^ 31 → integer_of (decimal n) ≡ Some (pos n)
 unfolding integer_of
 integer_is n lt =
-    let h = both (list_all is_digit (decimal n)) (nat_lt 0 (length (decimal n))) (number_number n) in
+    let h = and_parts (list_all is_digit (decimal n)) (nat_lt 0 (length (decimal n))) (number_number n) in
     let sign = no_sign (decimal n) h.0 in
     let value = value_of n (omega (arith, lt)) in
     let most : nat_le n (2 ^ 63 - 1) ≡ true = grind (arith, nat_tests) in

@@ -2,9 +2,9 @@
 use Rattle.std.proofs.Common.{◌≡◌, ℕ, ◌+◌, true, false, not, List, [], ◌∷◌, ◌++◌, length, take, drop, map, min, refl, ap, ◌∙◌, subst, append_assoc, codes, decimal, Option, Some, None, arith}
 use Rattle.std.specs.List.{flat_map, AllByRecursion as Each}
 use Rattle.std.specs.Str.{bytes_eq}
+use Rattle.std.proofs.lemmas.Bool.{and_parts}
 use Rattle.token_forms.specs.Tokens.{Token}
 use Rattle.token_forms.specs.Parts.{token_texts}
-use Rattle.token_forms.proofs.ClassLemmas.{both}
 use Rattle.token_forms.proofs.Joined.{no_texts, cut_texts}
 use Rattle.def_tokens.specs.DefStatements.{statement_len, statements_within, def_statements}
 use Rattle.def_tokens.proofs.DefCuts.{first_law}
@@ -57,7 +57,7 @@ each_of P Q f h (x ∷ xs) e = (h x e.0, each_of P Q f h xs e.1)
 
 -- a decimal is no semicolon
 pub number_open : (n : ℕ) → not (bytes_eq (decimal n) (codes ";")) ≡ true
-number_open n = (both (is_whole (decimal n)) (not (bytes_eq (decimal n) (codes ";"))) (part_number n)).1
+number_open n = (and_parts (is_whole (decimal n)) (not (bytes_eq (decimal n) (codes ";"))) (part_number n)).1
 
 pub shut_opening : (word count : List ℕ) → are_free (word ∷ count ∷ []) ≡ true → bytes_eq word (codes "END") ≡ false → bytes_eq word (codes "PROPERTYDEFINITIONS") ≡ false → bytes_eq word (codes "BEGINEXT") ≡ false
     → Shut (opening word count)

@@ -4,8 +4,8 @@ use Rattle.std.specs.Prelude.{nat_le}
 use Rattle.std.specs.List.{list_all}
 use Rattle.std.proofs.lemmas.Bool.Decides.{nat_tests}
 use Rattle.std.proofs.lemmas.List.Sums.{AllPass-from_list_all}
+use Rattle.std.proofs.lemmas.Bool.{and_parts}
 use Rattle.token_forms.specs.Classes.{But, is_in}
-use Rattle.token_forms.proofs.ClassLemmas.{both}
 use Rattle.def_tokens.specs.Numbers.{is_digit}
 use Rattle.def_tokens.specs.DefTokens.{is_blank, is_black, has_end}
 use Rattle.def_syntax.specs.Words.{marks}
@@ -14,19 +14,19 @@ use Rattle.def_layout.proofs.NumberWords.{number_name, number_number}
 use Rattle.made_law.specs.Designs.Names.{unit, unit_net, in_port, out_port, chain_name, partition_name}
 
 pub digits_of : (n : ℕ) → list_all is_digit (decimal n) ≡ true
-digits_of n = (both (list_all is_digit (decimal n)) _ (number_number n)).0
+digits_of n = (and_parts (list_all is_digit (decimal n)) _ (number_number n)).0
 
 pub number_whole : (n : ℕ) → is_whole (decimal n) ≡ true
-number_whole n = (both (is_whole (decimal n)) (is_in (But marks) (decimal n)) (number_name n)).0
+number_whole n = (and_parts (is_whole (decimal n)) (is_in (But marks) (decimal n)) (number_name n)).0
 
 pub number_free : (n : ℕ) → is_in (But marks) (decimal n) ≡ true
-number_free n = (both (is_whole (decimal n)) (is_in (But marks) (decimal n)) (number_name n)).1
+number_free n = (and_parts (is_whole (decimal n)) (is_in (But marks) (decimal n)) (number_name n)).1
 
 -- digits are no blanks, and end no statement
 black_digits : (ds : List ℕ) → list_all is_digit ds ≡ true → list_all is_black ds ≡ true
 black_digits [] all = refl
 black_digits (c ∷ cs) all =
-    let h = both (is_digit c) (list_all is_digit cs) all in
+    let h = and_parts (is_digit c) (list_all is_digit cs) all in
     let d = h.0 in
     let here : is_black c ≡ true = grind (arith, nat_tests) in
     rw here (black_digits cs h.1)
@@ -37,7 +37,7 @@ plain b = not (eqb b 59)
 plain_digits : (ds : List ℕ) → list_all is_digit ds ≡ true → list_all plain ds ≡ true
 plain_digits [] all = refl
 plain_digits (c ∷ cs) all =
-    let h = both (is_digit c) (list_all is_digit cs) all in
+    let h = and_parts (is_digit c) (list_all is_digit cs) all in
     let d = h.0 in
     let here : plain c ≡ true = grind (arith, nat_tests) in
     rw here (plain_digits cs h.1)

@@ -3,6 +3,7 @@ use Rattle.std.proofs.Common.{◌≡◌, ℕ, zero, suc, ◌+◌, ◌-◌, ◌<�
 use Rattle.std.specs.Prelude.{nat_lt, nat_le}
 use Rattle.std.specs.List.{flat_map, range_with_len, AllByRecursion as Each}
 use Rattle.std.proofs.lemmas.Bool.Decides.{nat_tests}
+use Rattle.std.proofs.lemmas.Bool.{cases_lt}
 use Rattle.netlist_core.specs.declared.netlist.Bit.{Bit}
 use Rattle.netlist_core.specs.declared.netlist.Bit.TheVariants.{Net, Zero, One, Unknown}
 use Rattle.netlist_core.specs.Netlists.{bit_pairs}
@@ -55,16 +56,6 @@ each_contains P (y ∷ xs) x e (suc k, lt, is) = each_contains P xs x e.1 (k, om
 pub eight : (P : ℕ → Type 0) → ((k : ℕ) → k < 8 → P k) → Each P (range_with_len 0 8)
 eight P f = (f 0 (omega arith), (f 1 (omega arith), (f 2 (omega arith), (f 3 (omega arith), (f 4 (omega arith), (f 5 (omega arith), (f 6 (omega arith), (f 7 (omega arith), tt))))))))
 
--- a number is less than another or isn't
-pub less_or : (i n : ℕ) → (i < n) ⊎ (n ≤ i)
-less_or i zero = inr (omega arith)
-less_or zero (suc n) = inl (omega arith)
-less_or (suc i) (suc n) = one_more (less_or i n)
-  where
-    one_more : (i < n) ⊎ (n ≤ i) → (suc i < suc n) ⊎ (suc n ≤ suc i)
-    one_more (inl lt) = inl (omega arith)
-    one_more (inr le) = inr (omega arith)
-
 -- a list of numbers holds each of them
 there_by : (a m k : ℕ) → (a < k) ⊎ (k ≤ a) → a ≤ k → (a < k → Contains (range_with_len (a + 1) m) k) → Contains (range_with_len a (suc m)) k
 there_by a m k (inl lt) from more = let r = more lt in (suc r.0, (let l = r.1 in omega arith), r.2)
@@ -72,7 +63,7 @@ there_by a m k (inr le) from more = let e : a ≡ k = omega arith in (zero, omeg
 
 pub number_there : (a m k : ℕ) → a ≤ k → k < a + m → Contains (range_with_len a m) k
 number_there a zero k from to = absurd (omega arith)
-number_there a (suc m) k from to = there_by a m k (less_or a k) from (λ lt. number_there (a + 1) m k (omega arith) (omega arith))
+number_there a (suc m) k from to = there_by a m k (cases_lt a k) from (λ lt. number_there (a + 1) m k (omega arith) (omega arith))
 
 module _ (n : ℕ) (at : NetlistPlaces) where
   pair_shown : (a b : ℕ) → Contains (assigned (made_netlist at n)) (net_bit a, net_bit b) → shown_by n a ≡ shown_by n b

@@ -7,6 +7,7 @@ use Rattle.std.specs.Str.Parse.{digits_value}
 use Rattle.std.proofs.lemmas.List.{length-map}
 use Rattle.std.proofs.lemmas.List.FromFn.{length-map-range_with_len}
 use Rattle.std.proofs.lemmas.List.Elements.{All-nil, All-cons, All-from_recursion}
+use Rattle.std.proofs.lemmas.Bool.{cases_lt}
 use Rattle.netlist_core.specs.declared.netlist.NetName.{NetName}
 use Rattle.netlist_core.specs.declared.netlist.Port.{Port}
 use Rattle.netlist_core.specs.declared.netlist.Connection.{Connection}
@@ -22,7 +23,6 @@ use Rattle.made_law.proofs.designs.Rising.{Rising, rising_both, rising_range}
 use Rattle.made_law.proofs.designs.Statements.{each_of}
 use Rattle.made_law.specs.Paths.MadeNetlist.{NetlistPlaces, net_id, out_number, unit_number, net_names, named_net, input_number, made_instance, made_assign, input_port, output_port, made_netlist}
 use Rattle.made_law.specs.Paths.Laws.{NetlistLaw}
-use Rattle.made_law.proofs.paths.Joins.{less_or}
 
 -- members whose keys rise are different
 module _ {X : Type 0} (key : X → ℕ) where
@@ -46,7 +46,7 @@ module _ {X : Type 0} (key : X → ℕ) where
   distinct_by a b xs h i j d low high e (inr le) (inr ge) = omega arith
 
   pub distinct_of : (a b : ℕ) (xs : List X) → Rising key a xs b → AreDistinct xs
-  distinct_of a b xs h i j d low high e = distinct_by a b xs h i j d low high (same_key xs i j d e) (less_or i j) (less_or j i)
+  distinct_of a b xs h i j d low high e = distinct_by a b xs h i j d low high (same_key xs i j d e) (cases_lt i j) (cases_lt j i)
 
 pub each_range : (P : ℕ → Type 0) (a m : ℕ) → ((k : ℕ) → a ≤ k → k < a + m → P k) → Each P (range_with_len a m)
 each_range P a zero f = tt

@@ -6,6 +6,8 @@ use Rattle.std.proofs.lemmas.Bool.Decides.{nat_tests}
 use Rattle.std.proofs.lemmas.Option.{same_Some, slice_get-get_or, slice_get_past}
 use Rattle.std.proofs.lemmas.List.FromFn.{length-map-range_with_len, get_or-map-range_with_len}
 use Rattle.std.proofs.lemmas.List.Folds.{list_any-append}
+use Rattle.std.proofs.lemmas.Bool.{cases_lt}
+use Rattle.base_types.proofs.TruthValues.{and_false}
 use Rattle.netlist_core.specs.declared.netlist.NetId.{NetId}
 use Rattle.netlist_core.specs.declared.netlist.Port.{Port}
 use Rattle.netlist_core.specs.Joining.{AreJoined}
@@ -17,7 +19,7 @@ use Rattle.chain_trace.specs.declared.path.Sink.TheVariants as sinks
 use Rattle.chain_trace.specs.Paths.{drives, is_driven, has_port, source_net, sink_net, AreApart, IsOnlySource}
 use Rattle.made_law.specs.Designs.MadeComponents.{units}
 use Rattle.made_law.specs.Paths.MadeNetlist.{NetlistPlaces, net_id, in_number, out_number, unit_number, input_number, made_instance, input_port, output_port, made_netlist}
-use Rattle.made_law.proofs.paths.Joins.{less_or, shown_by, shown_low, shown_unit, joined_shown}
+use Rattle.made_law.proofs.paths.Joins.{shown_by, shown_low, shown_unit, joined_shown}
 
 -- what holds of the numbers 0 to 7 holds of each number below 8
 pub below_eight : (P : ℕ → Type 0) → P 0 → P 1 → P 2 → P 3 → P 4 → P 5 → P 6 → P 7 → (k : ℕ) → k < 8 → P k
@@ -34,10 +36,6 @@ below_eight P a b c d e f g h (suc (suc (suc (suc (suc (suc (suc (suc k)))))))) 
 either : {P : Type 0} (a b : Bool) → (a || b) ≡ true → (a ≡ true → P) → (b ≡ true → P) → P
 either true b e f g = f refl
 either false b e f g = g e
-
-and_off : (b : Bool) → (b && false) ≡ false
-and_off true = refl
-and_off false = refl
 
 and_on : (b : Bool) → (b && true) ≡ true → b ≡ true
 and_on true e = refl
@@ -78,7 +76,7 @@ module _ (n : ℕ) (at : NetlistPlaces) where
 
   outputs_none : (net : NetId) (a m : ℕ) → list_any (test net) (map (output_port at) (range_with_len a m)) ≡ false
   outputs_none net a zero = refl
-  outputs_none net a (suc m) = rw (and_off (eqb a net.0)) (outputs_none net (a + 1) m)
+  outputs_none net a (suc m) = rw (and_false (eqb a net.0)) (outputs_none net (a + 1) m)
 
   or_none : (a b : Bool) → b ≡ false → (a || b) ≡ true → a ≡ true
   or_none true b e f = refl
@@ -134,7 +132,7 @@ module _ (n : ℕ) (at : NetlistPlaces) where
 
   source_by : (source : Source) (net : NetId) → source_net (made_netlist at n) small_cells source ≡ Some net → IsSource source net
   source_by (sources.Port port) net e = port_source port net (has_port drives (made_netlist at n) port) refl e
-  source_by (sources.Out step) net e = step_source step.instance step.path step.out net (less_or step.instance n) e
+  source_by (sources.Out step) net e = step_source step.instance step.path step.out net (cases_lt step.instance n) e
 
   -- the sinks
   pub in_is : (i : ℕ) → i < n → sink_net (made_netlist at n) small_cells (sinks.In i 0) ≡ Some (net_id (input_number i))

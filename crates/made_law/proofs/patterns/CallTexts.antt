@@ -3,8 +3,8 @@ use Rattle.std.proofs.Common.{◌≡◌, ℕ, zero, suc, ◌+◌, ◌*◌, ◌<�
 use Rattle.std.specs.List.{flat_map, list_all}
 use Rattle.std.specs.Fmt.{digits}
 use Rattle.std.proofs.lemmas.List.Sums.{sum_by-append}
+use Rattle.std.proofs.lemmas.Bool.{and_parts}
 use Rattle.token_forms.specs.Pieces.{texts_from}
-use Rattle.token_forms.proofs.ClassLemmas.{both}
 use Rattle.stil_tokens.specs.StilTokens.{piece_at, brace_piece}
 use Rattle.stil_parts.specs.declared.word.Word.TheVariants.{Known}
 use Rattle.stil_parts.specs.declared.scan.Mode.TheVariants.{Brace}
@@ -35,7 +35,7 @@ feeds_append x y = sum_by-append (λ b. cond (eqb b 10) 1 0) x y
 pub no_feeds : (x : List ℕ) → list_all is_letter x ≡ true → feeds x ≡ 0
 no_feeds [] all = refl
 no_feeds (b ∷ bs) all =
-    let h = both (is_letter b) (list_all is_letter bs) all in
+    let h = and_parts (is_letter b) (list_all is_letter bs) all in
     let more = no_feeds bs h.1 in
     rw (letter_apart b 10 h.0 refl, more) refl
 

@@ -1,10 +1,11 @@
 -- The calls of the made STIL beside its head.
-use Rattle.std.proofs.Common.{◌≡◌, ℕ, zero, suc, ◌<◌, ◌≤◌, Bool, true, false, ◌&&◌, max, List, [], ◌∷◌, ◌++◌, map, refl, ap, codes, Some, None, arith}
+use Rattle.std.proofs.Common.{◌≡◌, ℕ, zero, suc, ◌<◌, ◌≤◌, true, false, max, List, [], ◌∷◌, ◌++◌, map, refl, ap, codes, Some, None, arith}
 use Rattle.std.specs.Prelude.{nat_lt}
 use Rattle.std.specs.List.{flat_map}
 use Rattle.std.specs.Fmt.{digits}
 use Rattle.std.proofs.lemmas.Bool.Decides.{nat_tests}
 use Rattle.base_types.specs.declared.span.Span.{Span}
+use Rattle.base_types.proofs.TruthValues.{and_false}
 use Rattle.stil_types.specs.declared.head.StilHead.{StilHead}
 use Rattle.stil_types.specs.Calls.{most_bits, longest_string}
 use Rattle.stil_syntax.specs.declared.item.Item.{Item}
@@ -43,10 +44,6 @@ twice m = omega arith
 
 none_below : (m : ℕ) → nat_lt m 0 ≡ false
 none_below m = grind (arith, nat_tests)
-
-and_none : (a : Bool) → (a && false) ≡ false
-and_none true = refl
-and_none false = refl
 
 kind_none : (head : StilHead) (items : List Item) → gives_twice items ≡ false → has_unsound head.chains items ≡ false → is_foreign head.chains items ≡ false → is_short head.chains items ≡ false
     → is_long head.chains items ≡ false → is_vast head.chains items ≡ false → kind_of Lengths head (Scan items) ≡ None
@@ -184,7 +181,7 @@ module _ (n : ℕ) (least : 8 ≤ n) (most : n ≤ 16384) where
       let l = length_is n 0 least most (omega arith) in
       let few = l.few in
       let none : nat_lt (chain_length n 0) (chain_length n 0) ≡ false = grind (arith, nat_tests) in
-      let short : is_short cs items ≡ false = rw (shifts, longest by, none) (and_none (nat_lt 0 (chain_length n 0))) in
+      let short : is_short cs items ≡ false = rw (shifts, longest by, none) (and_false (nat_lt 0 (chain_length n 0))) in
       let small : nat_lt 524288 (chain_length n 0) ≡ false = grind (arith, nat_tests) in
       let vast : is_vast cs items ≡ false = rw (shifts, small) refl in
       kind_none head items twice unsound foreign short long vast

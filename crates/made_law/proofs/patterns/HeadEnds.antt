@@ -2,7 +2,8 @@
 use Rattle.std.proofs.Common.{◌≡◌, ℕ, zero, suc, ◌+◌, ◌-◌, ◌<◌, ◌≤◌, Bool, true, false, List, [], ◌∷◌, ◌++◌, length, refl, sym, ap, ◌∙◌, append_assoc, append-nil, length-append, codes, decimal, Option, Some, None, arith}
 use Rattle.std.specs.List.{list_all, concat}
 use Rattle.std.specs.Fmt.{digits}
-use Rattle.token_forms.proofs.ClassLemmas.{both}
+use Rattle.std.proofs.lemmas.Fmt.{decimal_nonempty}
+use Rattle.std.proofs.lemmas.Bool.{and_parts}
 use Rattle.stil_parts.specs.declared.gap.Comment.TheVariants.{Outside}
 use Rattle.stil_parts.specs.declared.word.Word.TheVariants.{Known}
 use Rattle.stil_parts.specs.declared.head.HeadTurn.TheVariants.{Passed, Here}
@@ -19,7 +20,7 @@ use Rattle.design_maker.specs.Chains.{chain_length}
 use Rattle.design_maker.specs.MadeStil.{signals_text, scan_chain, structures_text, shifted, procedures_text, pattern_text, first_call, later_call, stil_text}
 use Rattle.made_law.specs.Patterns.MadeHead.{head_bytes}
 use Rattle.made_law.proofs.patterns.Plain.{is_letter, letter_run, letters_run, letter_apart}
-use Rattle.made_law.proofs.patterns.Numbers.{decimal_letters, decimal_some}
+use Rattle.made_law.proofs.patterns.Numbers.{decimal_letters}
 use Rattle.made_law.proofs.patterns.Scans.{Through, over, through_both, through_none, at_mode, in_run, run_through}
 
 one_letter : (depth b : ℕ) → is_letter b ≡ true → step (at_mode depth) b ≡ Goes (in_run depth)
@@ -31,7 +32,7 @@ pub letters_through : (depth : ℕ) (w : List ℕ) → 0 < length w → list_all
 unfolding end_of run
 letters_through depth [] some all = absurd (omega arith)
 letters_through depth (b ∷ bs) some all =
-    let h = both (is_letter b) (list_all is_letter bs) all in
+    let h = and_parts (is_letter b) (list_all is_letter bs) all in
     let more = run_through depth bs (letters_run bs h.1) in
     record { none = rw (end_of, one_letter depth b h.0, more.none) refl; reaches = rw (run, one_letter depth b h.0) more.reaches }
 
@@ -68,7 +69,7 @@ chain_through n k most lt =
     let t5 = through_both (in_run 2) (in_run 2) (at_mode 1) (codes "; ScanOut so") (dk ++ e) through_d (through_both (in_run 2) (in_run 2) (at_mode 1) dk e (run_through 2 dk ks) through_e) in
     let t4 = through_both (in_run 2) (in_run 2) (at_mode 1) (codes "; ScanIn si") (dk ++ y5) through_c (through_both (in_run 2) (in_run 2) (at_mode 1) dk y5 (run_through 2 dk ks) t5) in
     let t3 = through_both (in_run 1) (at_mode 2) (at_mode 1) (codes " {\n    ScanLength ") (dl ++ y4) through_b
-    (through_both (at_mode 2) (in_run 2) (at_mode 1) dl y4 (letters_through 2 dl (decimal_some l (omega arith)) (decimal_letters l (omega arith))) t4)
+    (through_both (at_mode 2) (in_run 2) (at_mode 1) dl y4 (letters_through 2 dl (decimal_nonempty l (omega arith)) (decimal_letters l (omega arith))) t4)
     in
     through_both (at_mode 1) (in_run 1) (at_mode 1) (codes "  ScanChain c") (dk ++ y3) through_a (through_both (in_run 1) (in_run 1) (at_mode 1) dk y3 (run_through 1 dk ks) t3)
 

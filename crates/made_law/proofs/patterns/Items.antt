@@ -2,12 +2,12 @@
 use Rattle.std.proofs.Common.{◌≡◌, ℕ, zero, suc, ◌<◌, ◌≤◌, true, false, ◌&&◌, ◌||◌, if◌then◌else◌, List, [], ◌∷◌, ◌++◌, length, map, refl, sym, ap, ◌∙◌, append_assoc, append-nil, codes, Some, arith}
 use Rattle.std.specs.List.{flat_map, list_all}
 use Rattle.std.specs.Str.{bytes_eq}
+use Rattle.std.proofs.lemmas.Bool.{and_parts}
 use Rattle.base_types.specs.declared.span.Span.{Span}
 use Rattle.token_forms.specs.Tokens.{Token}
 use Rattle.token_forms.specs.Parsing.{word_at}
 use Rattle.token_forms.specs.Classes.{But, is_in, begins}
 use Rattle.token_forms.specs.Forms.{many_within, many_at, text_at, gathered_at, put_all}
-use Rattle.token_forms.proofs.ClassLemmas.{both}
 use Rattle.stil_syntax.specs.declared.item.Item.{Item}
 use Rattle.stil_syntax.specs.declared.item.Entry.TheVariants as entries
 use Rattle.stil_syntax.specs.Names.{marks, is_word, name_at}
@@ -57,8 +57,8 @@ pub row_is : (name string : List ℕ) → 0 < length name → list_all is_letter
 row_is [] string some all few letters = absurd (omega arith)
 row_is (b ∷ bs) [] some all few letters = absurd (omega arith)
 row_is (b ∷ bs) (c ∷ cs) some all few letters =
-    let h = both (is_letter b) (list_all is_letter bs) all in
-    let g = both (is_letter c) (list_all is_letter cs) letters in
+    let h = and_parts (is_letter b) (list_all is_letter bs) all in
+    let g = and_parts (is_letter c) (list_all is_letter cs) letters in
     record { name = plain_word b bs all; string = plain_word c cs letters; begins = first_no_end b bs h.0; first = first_mark b bs h.0; free = first_free c cs g.0 }
 
 name_is : (t : Token) (ts : List Token) → is_word t.text ≡ true → name_at (t ∷ ts) ≡ Some (t.text, ts)

@@ -5,7 +5,7 @@ use Rattle.std.specs.List.{list_all}
 use Rattle.std.specs.Str.Parse.{AllDigits, digits_value_after}
 use Rattle.std.specs.Char.{digit_value}
 use Rattle.std.proofs.lemmas.Bool.Decides.{nat_tests}
-use Rattle.std.proofs.lemmas.Fmt.{decimal_is_IsNumeral}
+use Rattle.std.proofs.lemmas.Fmt.{decimal_is_IsNumeral, decimal_nonempty}
 use Rattle.std.proofs.lemmas.Str.{digit_value_digit}
 use Rattle.std.proofs.lemmas.Str.Parse.{digit_from_value}
 use Rattle.stil_syntax.specs.Digits.{is_digit, counted, count_from}
@@ -56,15 +56,12 @@ length_back n some few =
 pub decimal_letters : (n : ℕ) → n < 2 ^ 64 → list_all is_letter (decimal n) ≡ true
 decimal_letters n few = let k = decimal_is_IsNumeral n few in all_letters (decimal n) k.0.1
 
-pub decimal_some : (n : ℕ) → n < 2 ^ 64 → 0 < length (decimal n)
-decimal_some n few = let k = decimal_is_IsNumeral n few in k.0.0
-
 plain_some : (w : List ℕ) → 0 < length w → list_all is_letter w ≡ true → Plain w
 plain_some [] some all = absurd (omega arith)
 plain_some (b ∷ bs) some all = plain_word b bs all
 
 pub decimal_plain : (n : ℕ) → n < 2 ^ 64 → Plain (decimal n)
-decimal_plain n few = plain_some (decimal n) (decimal_some n few) (decimal_letters n few)
+decimal_plain n few = plain_some (decimal n) (decimal_nonempty n few) (decimal_letters n few)
 
 pub chain_plain : (k : ℕ) → k < 8 → Plain (chain_name k)
 chain_plain k lt = plain_word 99 (decimal k) (rw (decimal_letters k (omega arith)) refl)

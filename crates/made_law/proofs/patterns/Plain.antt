@@ -1,11 +1,10 @@
 -- Names and numbers: words of letters and digits.
 use Rattle.std.proofs.Common.{◌≡◌, ℕ, Bool, true, false, ◌&&◌, ◌||◌, eqb, List, [], ◌∷◌, refl, sym, ap, ◌∙◌, subst, codes, inl, inr, eqb-true, true≢false}
-use Rattle.std.proofs.lemmas.Bool.{cases_Bool}
+use Rattle.std.proofs.lemmas.Bool.{cases_Bool, and_parts}
 use Rattle.std.specs.Prelude.{nat_le}
 use Rattle.std.specs.List.{list_all}
 use Rattle.std.specs.Str.{bytes_eq}
 use Rattle.base_types.specs.Names.{plain_name}
-use Rattle.token_forms.proofs.ClassLemmas.{both}
 use Rattle.stil_tokens.specs.StilTokens.{is_run}
 use Rattle.stil_tokens.specs.StilStatements.{is_only, is_note}
 use Rattle.stil_syntax.specs.Names.{is_word}
@@ -49,12 +48,12 @@ letter_run b h =
 
 pub letters_run : (bs : List ℕ) → list_all is_letter bs ≡ true → list_all is_run bs ≡ true
 letters_run [] all = refl
-letters_run (b ∷ bs) all = let h = both (is_letter b) (list_all is_letter bs) all in rw (letter_run b h.0) (letters_run bs h.1)
+letters_run (b ∷ bs) all = let h = and_parts (is_letter b) (list_all is_letter bs) all in rw (letter_run b h.0) (letters_run bs h.1)
 
 letters_plain : (bs : List ℕ) → list_all is_letter bs ≡ true → plain_name bs ≡ bs
 letters_plain [] all = refl
 letters_plain (b ∷ bs) all =
-    let h = both (is_letter b) (list_all is_letter bs) all in
+    let h = and_parts (is_letter b) (list_all is_letter bs) all in
     rw (letter_apart b 92 h.0 refl) (ap (λ (l : List ℕ). b ∷ l) (letters_plain bs h.1))
 
 not_only : (m b : ℕ) (bs : List ℕ) → is_letter b ≡ true → is_letter m ≡ false → is_only m (b ∷ bs) ≡ false
@@ -73,7 +72,7 @@ first_colon b bs h = rw (letter_apart b 58 h refl) refl
 
 pub plain_word : (b : ℕ) (bs : List ℕ) → list_all is_letter (b ∷ bs) ≡ true → Plain (b ∷ bs)
 plain_word b bs all =
-    let h = both (is_letter b) (list_all is_letter bs) all in
+    let h = and_parts (is_letter b) (list_all is_letter bs) all in
     record {
       semicolon = not_only 59 b bs h.0 refl;
       closing = not_only 125 b bs h.0 refl;

@@ -1,7 +1,7 @@
 -- How a scan for the end of a part passes over bytes that end none.
 use Rattle.std.proofs.Common.{◌≡◌, ℕ, Bool, true, false, List, [], ◌∷◌, ◌++◌, length, refl, ap, ◌∙◌, None}
 use Rattle.std.specs.List.{list_all}
-use Rattle.token_forms.proofs.ClassLemmas.{both}
+use Rattle.std.proofs.lemmas.Bool.{and_parts}
 use Rattle.stil_tokens.specs.StilTokens.{is_run}
 use Rattle.stil_parts.specs.declared.word.Word.TheVariants.{Known}
 use Rattle.stil_parts.specs.declared.scan.Mode.TheVariants.{Free, Run}
@@ -45,6 +45,6 @@ pub run_through : (depth : ℕ) (x : List ℕ) → list_all is_run x ≡ true �
 unfolding end_of run
 run_through depth [] all = record { none = refl; reaches = refl }
 run_through depth (b ∷ bs) all =
-    let h = both (is_run b) (list_all is_run bs) all in
+    let h = and_parts (is_run b) (list_all is_run bs) all in
     let more = run_through depth bs h.1 in
     record { none = rw (end_of, one_run depth b (dull b h.0), more.none) refl; reaches = rw (run, one_run depth b (dull b h.0)) more.reaches }

@@ -3,7 +3,7 @@ use Rattle.std.proofs.Common.{◌≡◌, ℕ, zero, suc, ◌+◌, ◌*◌, ◌%�
 use Rattle.std.specs.Prelude.{nat_lt, nat_eq}
 use Rattle.std.specs.List.{list_all}
 use Rattle.std.proofs.lemmas.Bool.Decides.{nat_tests}
-use Rattle.token_forms.proofs.ClassLemmas.{both}
+use Rattle.std.proofs.lemmas.Bool.{and_parts}
 use Rattle.stil_types.specs.Calls.{is_expectation}
 use Rattle.stil_calls.specs.declared.repeats.Repeat.{Repeat}
 use Rattle.stil_calls.specs.declared.repeats.Escape.TheVariants.{Outside}
@@ -31,17 +31,17 @@ repeats_are : (w : List ℕ) → list_all is_letter w ≡ true → repeats_of (w
 unfolding repeats_from
 repeats_are [] all = refl
 repeats_are (b ∷ bs) all =
-    let h = both (is_letter b) (list_all is_letter bs) all in
+    let h = and_parts (is_letter b) (list_all is_letter bs) all in
     rw (letter_apart b 32 h.0 refl, letter_apart b 92 h.0 refl) (ap (λ (l : List Repeat). repeat 1 b ∷ l) (repeats_are bs h.1))
 
 whole_is : (w : List ℕ) → list_all is_letter w ≡ true → whole_from Outside (with_blank w) ≡ true
 unfolding whole_from
 whole_is [] all = refl
-whole_is (b ∷ bs) all = let h = both (is_letter b) (list_all is_letter bs) all in rw (whole_from, letter_apart b 92 h.0 refl) (whole_is bs h.1)
+whole_is (b ∷ bs) all = let h = and_parts (is_letter b) (list_all is_letter bs) all in rw (whole_from, letter_apart b 92 h.0 refl) (whole_is bs h.1)
 
 singly_all : (side : Side) (w : List ℕ) → list_all (is_character side) w ≡ true → list_all (λ (r : Repeat). is_character side r.character) (singly w) ≡ true
 singly_all side [] all = refl
-singly_all side (b ∷ bs) all = let h = both (is_character side b) (list_all (is_character side) bs) all in rw h.0 (singly_all side bs h.1)
+singly_all side (b ∷ bs) all = let h = and_parts (is_character side b) (list_all (is_character side) bs) all in rw h.0 (singly_all side bs h.1)
 
 singly_count : (w : List ℕ) → count_of (singly w) ≡ length w
 singly_count [] = refl
@@ -76,7 +76,7 @@ string_of side w m all letters count =
 
 all_append : (test : ℕ → Bool) (u v : List ℕ) → list_all test u ≡ true → list_all test v ≡ true → list_all test (u ++ v) ≡ true
 all_append test [] v a b = b
-all_append test (x ∷ xs) v a b = let h = both (test x) (list_all test xs) a in rw h.0 (all_append test xs v h.1 b)
+all_append test (x ∷ xs) v a b = let h = and_parts (test x) (list_all test xs) a in rw h.0 (all_append test xs v h.1 b)
 
 pieces_all : (test : ℕ → Bool) (piece : ℕ → List ℕ) → ((i : ℕ) → list_all test (piece i) ≡ true) → (m : ℕ) → list_all test (pieces piece m) ≡ true
 unfolding pieces

@@ -3,9 +3,10 @@ use Rattle.std.proofs.Common.{◌≡◌, ℕ, zero, suc, ◌+◌, ◌<◌, ◌�
 use Rattle.std.specs.List.{list_all, prefix_len}
 use Rattle.std.specs.Fmt.{digits}
 use Rattle.std.proofs.Math.Seq.{drop-append_seam, take-append_seam}
+use Rattle.std.proofs.lemmas.Fmt.{decimal_nonempty}
+use Rattle.std.proofs.lemmas.Bool.{and_parts}
 use Rattle.token_forms.specs.declared.piece.Piece.TheVariants.{Token}
 use Rattle.token_forms.specs.Pieces.{texts_from}
-use Rattle.token_forms.proofs.ClassLemmas.{both}
 use Rattle.token_forms.proofs.Fronts.{texts-step}
 use Rattle.stil_tokens.specs.StilTokens.{is_run, piece_at, brace_piece}
 use Rattle.stil_tokens.proofs.StilPieces.{stil_cut}
@@ -16,7 +17,7 @@ use Rattle.design_maker.specs.MadeStil.{signals_text, scan_chain, structures_tex
 use Rattle.made_law.specs.Designs.Names.{in_port, out_port, chain_name}
 use Rattle.made_law.specs.Patterns.MadeHead.{head_bytes}
 use Rattle.made_law.proofs.patterns.Plain.{is_letter, letter_run, letters_run, letter_apart}
-use Rattle.made_law.proofs.patterns.Numbers.{decimal_letters, decimal_some}
+use Rattle.made_law.proofs.patterns.Numbers.{decimal_letters}
 use Rattle.made_law.proofs.patterns.HeadWords.{version_words, signal_words, chain_words, structure_words, procedure_words, head_words}
 
 abbrev pub texts : List ℕ → List (List ℕ)
@@ -25,14 +26,14 @@ texts text = texts_from piece_at 0 text
 prefix_is : (bs : List ℕ) (c : ℕ) (rest : List ℕ) → list_all is_run bs ≡ true → is_run c ≡ false → prefix_len is_run (bs ++ c ∷ rest) ≡ length bs
 prefix_is [] c rest all stop = rw stop refl
 prefix_is (b ∷ bs) c rest all stop =
-    let h = both (is_run b) (list_all is_run bs) all in
+    let h = and_parts (is_run b) (list_all is_run bs) all in
     let more = prefix_is bs c rest h.1 stop in
     rw (h.0, more) (omega arith)
 
 piece_is : (b : ℕ) (bs rest : List ℕ) (c : ℕ) → list_all is_letter (b ∷ bs) ≡ true → is_run c ≡ false → piece_at (b ∷ (bs ++ c ∷ rest)) ≡ Token (length (b ∷ bs))
 unfolding piece_at
 piece_is b bs rest c all stop =
-    let h = both (is_letter b) (list_all is_letter bs) all in
+    let h = and_parts (is_letter b) (list_all is_letter bs) all in
     let i = dull b (letter_run b h.0) in
     let n : 1 + length bs ≡ length (b ∷ bs) = omega arith in
     rw (i.blank, i.quote, i.opening, i.closing, i.semicolon, i.other, letter_apart b 47 h.0 refl, prefix_is bs c rest (letters_run bs h.1) stop) (ap Token n)
@@ -103,7 +104,7 @@ chain_texts n k z most lt =
     in
     ap texts nested ∙ block_a (c ++ r2)
     ∙ ap (λ (x : List (List ℕ)). codes "ScanChain" ∷ x) (named_texts 99 dk k 32 (drop 1 r2) (rw ks refl) refl ∙ ap (λ (x : List (List ℕ)). c ∷ x) (block_b (dl ++ r3)
-    ∙ ap (λ (x : List (List ℕ)). codes "{" ∷ codes "ScanLength" ∷ x) (word_texts dl (drop 1 r3) 59 (decimal_some l (omega arith)) ls refl ∙ ap (λ (x : List (List ℕ)). dl ∷ x) (block_c (i ++ r4)
+    ∙ ap (λ (x : List (List ℕ)). codes "{" ∷ codes "ScanLength" ∷ x) (word_texts dl (drop 1 r3) 59 (decimal_nonempty l (omega arith)) ls refl ∙ ap (λ (x : List (List ℕ)). dl ∷ x) (block_c (i ++ r4)
     ∙ ap (λ (x : List (List ℕ)). codes ";" ∷ codes "ScanIn" ∷ x) (named_texts 115 (105 ∷ dk) k 59 (drop 1 r4) (rw ks refl) refl ∙ ap (λ (x : List (List ℕ)). i ∷ x) (block_d (o ++ r5)
     ∙ ap (λ (x : List (List ℕ)). codes ";" ∷ codes "ScanOut" ∷ x) (named_texts 115 (111 ∷ dk) k 59 (drop 1 r5) (rw ks refl) refl ∙ ap (λ (x : List (List ℕ)). o ∷ x) (block_e z))))))))
 

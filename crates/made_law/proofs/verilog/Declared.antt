@@ -7,22 +7,21 @@ use Rattle.std.specs.List.{AllByRecursion as Each}
 use Rattle.std.proofs.lemmas.Bool.Decides.{nat_tests}
 use Rattle.std.proofs.lemmas.List.{append-nil}
 use Rattle.std.proofs.lemmas.List.Concat.{flat_map-append}
-use Rattle.token_forms.proofs.Spelled.{same_text}
+use Rattle.std.proofs.lemmas.Bool.{cases_lt}
 use Rattle.verilog_syntax.specs.declared.statement.Declared.{Declared}
 use Rattle.verilog_syntax.specs.declared.statement.Declared.TheVariants.{Input, Output, Wire}
 use Rattle.verilog_syntax.specs.declared.statement.Statement.{Statement}
 use Rattle.verilog_syntax.specs.declared.statement.Statement.TheVariants.{Module, Declare, Assign, Instance}
 use Rattle.verilog_syntax.specs.declared.reading.Placed.{Placed}
 use Rattle.base_types.specs.declared.span.Span.{Span}
+use Rattle.base_types.proofs.TruthValues.{or_true, bytes_same}
 use Rattle.verilog_names.specs.Values.{unescaped}
 use Rattle.verilog_names.specs.Declarations.{Declaration, declaration_of, declarations_in, declarations, is_named, is_declared, ports_in, header_ports}
 use Rattle.verilog_checks.specs.Faults.{instances_named, instance_names, is_badly_listed}
-use Rattle.verilog_checks.proofs.AnyLemmas.{or_true}
 use Rattle.design_maker.specs.Chains.{last_unit}
 use Rattle.made_law.specs.Designs.Names.{unit, unit_net, in_port, out_port}
 use Rattle.made_law.specs.Designs.MadeComponents.{units}
 use Rattle.made_law.specs.Paths.MadeNetlist.{net_names}
-use Rattle.made_law.proofs.paths.Joins.{less_or}
 use Rattle.made_law.proofs.paths.Sources.{below_eight}
 use Rattle.made_law.specs.Verilog.MadeWords.{input_names, output_names, wire_names}
 use Rattle.made_law.specs.Verilog.MadeModule.{instance_of, first_unit, later_unit, port_assign, made_header, made_module}
@@ -146,14 +145,14 @@ names_are n = ap (λ (l : List (List ℕ)). codes "clk" ∷ codes "se" ∷ codes
 -- names that are declared
 wire_declared : (a m i : ℕ) → a ≤ i → i < a + m → list_any (is_named (unit_net i)) (map (declaration_of Wire None) (map unit_net (range_with_len a m))) ≡ true
 wire_declared a zero i from to = absurd (omega arith)
-wire_declared a (suc m) i from to = of (λ lt. wire_declared (a + 1) m i (omega arith) (omega arith)) (less_or a i)
+wire_declared a (suc m) i from to = of (λ lt. wire_declared (a + 1) m i (omega arith) (omega arith)) (cases_lt a i)
   where
     of : (a < i → list_any (is_named (unit_net i)) (map (declaration_of Wire None) (map unit_net (range_with_len (a + 1) m))) ≡ true) → (a < i) ⊎ (i ≤ a)
         → list_any (is_named (unit_net i)) (map (declaration_of Wire None) (map unit_net (range_with_len a (suc m)))) ≡ true
     of more (inl lt) = ap (λ (b : Bool). is_named (unit_net i) (declaration_of Wire None (unit_net a)) || b) (more lt) ∙ or_true _
     of more (inr le) =
         let e : a ≡ i = omega arith in
-        let same : is_named (unit_net i) (declaration_of Wire None (unit_net a)) ≡ true = same_text (unit_net a) (unit_net i) (ap unit_net e) in
+        let same : is_named (unit_net i) (declaration_of Wire None (unit_net a)) ≡ true = bytes_same (unit_net a) (unit_net i) (ap unit_net e) in
         rw same refl
 
 pub net_declared : (n i : ℕ) → i < n → is_declared (made_declared n) (unit_net i) ≡ true

@@ -5,10 +5,10 @@ use Rattle.std.specs.Str.{bytes_eq}
 use Rattle.std.proofs.lemmas.Bool.Decides.{nat_tests}
 use Rattle.std.proofs.lemmas.List.{append-nil, map-append}
 use Rattle.std.proofs.lemmas.List.Concat.{flat_map-append}
+use Rattle.std.proofs.lemmas.Bool.{and_parts, not-true}
+use Rattle.base_types.proofs.TruthValues.{bytes_are}
 use Rattle.token_forms.specs.declared.piece.Piece.TheVariants.{Blank, Token}
-use Rattle.token_forms.proofs.ClassLemmas.{both, not_true}
 use Rattle.token_forms.proofs.Fronts.{texts-step}
-use Rattle.token_forms.proofs.Spelled.{same_bytes}
 use Rattle.verilog_syntax.specs.VerilogTokens.{is_blank, is_digit, is_word, open_piece, piece_at, texts}
 use Rattle.verilog_syntax.specs.Seams.{is_identifier}
 use Rattle.verilog_syntax.proofs.VerilogPieces.{verilog_cut}
@@ -99,7 +99,7 @@ fit_some (b ∷ bs) next e = record { rest = bs; is = refl }
 begins : (ps : List (ℕ × List ℕ)) (c : ℕ) (rest z : List ℕ) → are_fit ps c ≡ true → Begins (laid ps (c ∷ rest) ++ z) (next_of ps c)
 begins [] c rest z e = record { rest = rest ++ z; is = refl }
 begins ((zero, w) ∷ ps) c rest z e =
-    let h = both (is_fit w (next_of ps c)) (are_fit ps c) e in
+    let h = and_parts (is_fit w (next_of ps c)) (are_fit ps c) e in
     let b = fit_some w (next_of ps c) h.0 in
     record { rest = (b.rest ++ laid ps (c ∷ rest)) ++ z; is = ap (λ (l : List ℕ). (l ++ laid ps (c ∷ rest)) ++ z) b.is }
 begins ((suc g, w) ∷ ps) c rest z e = record { rest = spaced g (w ++ laid ps (c ∷ rest)) ++ z; is = refl }
@@ -111,7 +111,7 @@ mark_texts c z e = texts-step piece_at (c ∷ z) (Token 1) verilog_cut e
 plain_texts : (w z : List ℕ) → is_plain w ≡ true → texts (w ++ z) ≡ w ∷ texts z
 unfolding piece_at
 plain_texts w z e =
-    let say = λ (m : ℕ) (is : piece_at (m ∷ z) ≡ Token 1) (same : bytes_eq w (m ∷ []) ≡ true). subst (λ (v : List ℕ). texts (v ++ z) ≡ v ∷ texts z) (sym (same_bytes w (m ∷ []) same)) (mark_texts m z is) in
+    let say = λ (m : ℕ) (is : piece_at (m ∷ z) ≡ Token 1) (same : bytes_eq w (m ∷ []) ≡ true). subst (λ (v : List ℕ). texts (v ++ z) ≡ v ∷ texts z) (sym (bytes_are w (m ∷ []) same)) (mark_texts m z is) in
     either (bytes_eq w (codes ",")) _ e (say 44 refl)
     (λ e. either (bytes_eq w (codes ";")) _ e (say 59 refl)
     (λ e. either (bytes_eq w (codes ")")) _ e (say 41 refl)
@@ -121,11 +121,11 @@ open_texts : (w z : List ℕ) (c : ℕ) (rest : List ℕ) → bytes_eq w (codes 
 unfolding piece_at open_piece
 open_texts w z c rest e star is =
     let piece : piece_at (40 ∷ c ∷ rest) ≡ Token 1 = rw star refl in
-    subst (λ (v : List ℕ). texts (v ++ z) ≡ v ∷ texts z) (sym (same_bytes w (40 ∷ []) e)) (mark_texts 40 z (ap (λ (x : List ℕ). piece_at (40 ∷ x)) is ∙ piece))
+    subst (λ (v : List ℕ). texts (v ++ z) ≡ v ∷ texts z) (sym (bytes_are w (40 ∷ []) e)) (mark_texts 40 z (ap (λ (x : List ℕ). piece_at (40 ∷ x)) is ∙ piece))
 
 ident_texts : (w z : List ℕ) → is_identifier w ≡ true → prefix_len is_word z ≡ 0 → texts (w ++ z) ≡ w ∷ texts z
 ident_texts [] z e stop = absurd cc
-ident_texts (b ∷ bs) z e stop = let h = both _ (list_all is_word bs) e in name_texts b bs z h.0 h.1 stop
+ident_texts (b ∷ bs) z e stop = let h = and_parts _ (list_all is_word bs) e in name_texts b bs z h.0 h.1 stop
 
 stops : (z : List ℕ) (c : ℕ) (rest : List ℕ) → z ≡ c ∷ rest → is_word c ≡ false → prefix_len is_word z ≡ 0
 stops z c rest is word = ap (prefix_len is_word) is ∙ rw word refl
@@ -133,14 +133,14 @@ stops z c rest is word = ap (prefix_len is_word) is ∙ rw word refl
 word_texts : (w z : List ℕ) (c : ℕ) (rest : List ℕ) → is_fit w c ≡ true → z ≡ c ∷ rest → texts (w ++ z) ≡ w ∷ texts z
 word_texts w z c rest e is =
     either (is_identifier w && not (is_word c)) _ e
-    (λ h. let p = both (is_identifier w) (not (is_word c)) h in ident_texts w z p.0 (stops z c rest is (not_true _ p.1)))
+    (λ h. let p = and_parts (is_identifier w) (not (is_word c)) h in ident_texts w z p.0 (stops z c rest is (not-true _ p.1)))
     (λ h. either (is_plain w) (bytes_eq w (codes "(") && not (eqb c 42)) h (plain_texts w z)
-    (λ h. let p = both (bytes_eq w (codes "(")) (not (eqb c 42)) h in open_texts w z c rest p.0 (not_true _ p.1) is))
+    (λ h. let p = and_parts (bytes_eq w (codes "(")) (not (eqb c 42)) h in open_texts w z c rest p.0 (not-true _ p.1) is))
 
 pub laid_texts : (ps : List (ℕ × List ℕ)) (c : ℕ) (rest z : List ℕ) → are_fit ps c ≡ true → texts (laid ps (c ∷ rest) ++ z) ≡ words_of ps ++ texts (c ∷ rest ++ z)
 laid_texts [] c rest z e = refl
 laid_texts (p ∷ ps) c rest z e =
-    let h = both (is_fit p.1 (next_of ps c)) (are_fit ps c) e in
+    let h = and_parts (is_fit p.1 (next_of ps c)) (are_fit ps c) e in
     let b = begins ps c rest z h.1 in
     spaced_texts p.0 (p.1 ++ laid ps (c ∷ rest)) z ∙ ap texts (append_assoc p.1 (laid ps (c ∷ rest)) z)
     ∙ word_texts p.1 (laid ps (c ∷ rest) ++ z) (next_of ps c) b.rest h.0 b.is
@@ -150,7 +150,7 @@ laid_texts (p ∷ ps) c rest z e =
 word_digits : (ds : List ℕ) → list_all is_digit ds ≡ true → list_all is_word ds ≡ true
 word_digits [] all = refl
 word_digits (c ∷ cs) all =
-    let h = both (is_digit c) (list_all is_digit cs) all in
+    let h = and_parts (is_digit c) (list_all is_digit cs) all in
     let d = h.0 in
     let here : is_word c ≡ true = grind (arith, nat_tests) in
     rw here (word_digits cs h.1)

@@ -7,7 +7,7 @@ use Rattle.std.proofs.lemmas.List.{map-append}
 use Rattle.std.proofs.lemmas.List.Concat.{flat_map-append}
 use Rattle.base_types.specs.declared.kind.Kind.{Kind}
 use Rattle.base_types.specs.declared.kind.Kind.TheVariants.{VerilogNumber, VerilogTwice, BadSelect}
-use Rattle.token_forms.proofs.Spelled.{same_bytes}
+use Rattle.base_types.proofs.TruthValues.{bytes_are}
 use Rattle.verilog_syntax.specs.declared.statement.Item.{Item}
 use Rattle.verilog_syntax.specs.declared.statement.Item.TheVariants as items
 use Rattle.verilog_syntax.specs.declared.statement.Statement.{Statement}
@@ -126,7 +126,7 @@ module _ (key : List ℕ → ℕ) where
   apart x y differ =
       let cases : (t : Bool) → bytes_eq x y ≡ t → bytes_eq x y ≡ false
       = λ t. elim t as (λ t. bytes_eq x y ≡ t → bytes_eq x y ≡ false) [
-        | true ↦ λ is. absurd (differ (ap key (same_bytes x y is)))
+        | true ↦ λ is. absurd (differ (ap key (bytes_are x y is)))
         | false ↦ λ is. is
       ]
       in cases (bytes_eq x y) refl

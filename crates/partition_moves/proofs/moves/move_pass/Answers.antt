@@ -1,7 +1,8 @@
 use Rattle.std.proofs.Common.{ℕ, ◌<◌, Bool, length, ap, arith, cond, sym, ◌∙◌}
+use Rattle.base_types.proofs.TruthValues.{not_both}
 use Rattle.chain_rules.specs.declared.plan.Plan.{Plan}
 use Rattle.partition_moves.specs.Quiet.{NoMoveBetween}
-use Rattle.partition_moves.proofs.Settled.{not_both, not_true, still_quiet}
+use Rattle.partition_moves.proofs.Settled.{not_true, still_quiet}
 use Rattle.partition_moves.proofs.moves.move_pass.Goals as goal
 use Rattle.partition_moves.proofs.moves.move_pass.Goals.{then-moves_into, else-moves_into}
 

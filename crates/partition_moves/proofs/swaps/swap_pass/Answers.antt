@@ -1,8 +1,9 @@
 use Rattle.std.proofs.Common.{ℕ, ◌<◌, Bool, length, ap, arith, cond, sym, ◌∙◌}
+use Rattle.base_types.proofs.TruthValues.{not_both}
 use Rattle.chain_rules.specs.declared.plan.Plan.{Plan}
 use Rattle.partition_moves.specs.Quiet.{NoCloserSwap}
 use Rattle.partition_moves.proofs.Exchanged.{all_swaps}
-use Rattle.partition_moves.proofs.Settled.{is_false, not_both, not_true, still_quiet}
+use Rattle.partition_moves.proofs.Settled.{is_false, not_true, still_quiet}
 use Rattle.partition_moves.proofs.swaps.swap_pass.Goals as goal
 use Rattle.partition_moves.proofs.swaps.swap_pass.Goals.{then-swaps_into, else-swaps_into}
 

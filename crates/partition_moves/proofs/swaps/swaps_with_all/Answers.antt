@@ -1,4 +1,5 @@
 use Rattle.std.proofs.Common.{ℕ, Bool, List, length, ap, arith, cond, refl, subst, sym, ◌∙◌}
+use Rattle.base_types.proofs.TruthValues.{not_both}
 use Rattle.chain_rules.specs.declared.plan.Plan.{Plan}
 use Rattle.wire_cost.specs.Lengths.{chain_ends}
 use Rattle.partition_moves.specs.Covers.{AreBlocks}
@@ -6,7 +7,7 @@ use Rattle.order_search.proofs.Legal.{chain_few}
 use Rattle.partition_moves.specs.Quiet.{NoCloserSwap}
 use Rattle.partition_moves.proofs.Exchanged.{no_swap_across}
 use Rattle.partition_moves.proofs.Grouped.{quiet_after}
-use Rattle.partition_moves.proofs.Settled.{in_range, is_false, not_both, not_true}
+use Rattle.partition_moves.proofs.Settled.{in_range, is_false, not_true}
 use Rattle.partition_moves.proofs.swaps.swaps_with_all.Goals as goal
 use Rattle.partition_moves.proofs.swaps.swaps_with_all.Goals.{then-swaps_between, else-swaps_between}
 

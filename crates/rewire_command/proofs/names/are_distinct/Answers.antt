@@ -1,5 +1,6 @@
 use Rattle.std.proofs.Common.{sym, ◌∙◌, get_or}
-use Rattle.rewire_command.proofs.NameLists.{added_name, new_passes, new_fails, new_passed, was_there, was_new}
+use Rattle.base_types.proofs.TruthValues.{was_there, was_new}
+use Rattle.rewire_command.proofs.NameLists.{added_name, new_passes, new_fails, new_passed}
 use Rattle.rewire_command.proofs.names.are_distinct.Goals as goal
 
 pub returns-then-not-branch : goal.returns-then-not-branch

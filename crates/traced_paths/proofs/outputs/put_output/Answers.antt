@@ -1,6 +1,6 @@
 use Rattle.std.proofs.Common.{◌≡◌, ◌<◌, length, zero, refl, ap, inr, arith}
 use Rattle.std.specs.Prelude.{option_map}
-use Rattle.chain_trace.proofs.Marked.{was_marked, was_new}
+use Rattle.base_types.proofs.TruthValues.{was_there, was_new}
 use Rattle.traced_paths.specs.Steps.{told}
 use Rattle.traced_paths.proofs.Wanted.{put_none, put_again, put_new, put_full}
 use Rattle.traced_paths.proofs.outputs.put_output.Goals as goal
@@ -12,7 +12,7 @@ returns-in_default-clause-put c _ before has =
 pub returns-then-not-branch-clause-put : goal.returns-then-not-branch-clause-put
 returns-then-not-branch-clause-put c _ before has =
     put_again c.args.ports.now before (told c.args.ask.now) c.args.nets.now.items c.args.seen.now has c.in-Some.name (ap (option_map (λ name. name.now)) c.in-Some.is) c.insert.new.self
-    c.in_ok-insert.ensures.updates.0 (was_marked _ _ c.in_ok-insert.ensures.added c.if-not-branch.true)
+    c.in_ok-insert.ensures.updates.0 (was_there _ _ c.in_ok-insert.ensures.added c.if-not-branch.true)
 
 pub returns-then-len-eq-MOST_PATHS-clause-full : goal.returns-then-len-eq-MOST_PATHS-clause-full
 returns-then-len-eq-MOST_PATHS-clause-full c _ before has =

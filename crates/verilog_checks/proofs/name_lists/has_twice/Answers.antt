@@ -1,7 +1,7 @@
 use Rattle.std.proofs.Common.{List, ℕ, get_or, take, ap, sym, ◌∙◌, rules}
+use Rattle.base_types.proofs.TruthValues.{was_there, was_new}
 use Rattle.verilog_names.specs.Declarations.{has}
 use Rattle.verilog_checks.proofs.NameLists.{now_of, now_last, added, first_behind, new_passes, new_fails, new_passed}
-use Rattle.verilog_checks.proofs.Passes.{was_there, was_new}
 use Rattle.verilog_checks.proofs.name_lists.has_twice.Goals as goal
 
 pub loop-name-init : goal.loop-name-init

@@ -3,6 +3,7 @@ use Rattle.std.specs.List.{slice_get}
 use Rattle.std.proofs.lemmas.Bool.{false≢true}
 use Rattle.base_types.specs.Faults.{at_line}
 use Rattle.base_types.specs.declared.fault.FileKind.TheVariants.{Verilog}
+use Rattle.base_types.proofs.TruthValues.{was_there, was_new}
 use Rattle.base_types.specs.declared.kind.Kind.TheVariants as kinds
 use Rattle.chain_trace.specs.declared.path.Step.{Step}
 use Rattle.chain_trace.specs.declared.path.Source.{Source}
@@ -13,7 +14,7 @@ use Rattle.chain_trace.specs.Paths.{IsScanPath}
 use Rattle.chain_trace.specs.Faults.{IsMet, IsAmong, line_of_instance}
 use Rattle.chain_trace.specs.Drivers.{Traced, AreMarks}
 use Rattle.chain_trace.proofs.Ranges.{instance_within}
-use Rattle.chain_trace.proofs.Marked.{marks_more, marked_among, among_marked, was_marked, was_new}
+use Rattle.chain_trace.proofs.Marked.{marks_more, marked_among, among_marked}
 use Rattle.chain_trace.proofs.Meeting.{met_more, met_port, source_of}
 use Rattle.chain_trace.proofs.tracer.Tracer.walk.Goals as goal
 
@@ -33,7 +34,7 @@ returns-then-not-branch-clause-fault c =
     let step = c.in-Only-Out.step in
     let source : c.in-Only-Out.field-0 ≡ sources.Out step = rw c.in-Only-Out.is at c.in-Only-Out.field-0-is in
     let only = source_of n t c.back.sink c.back.found (sources.Out step) (c.in-Only-Out.is ∙ ap (λ (x : Source). Only x) source) c.back.invariant.says in
-    let marked = sym (c.back.invariant.marks (step.instance, step.path)) ∙ was_marked c.in_ok-insert-in-Only-Out.field-0 _ c.in_ok-insert-in-Only-Out.ensures.added c.if-not-branch.true in
+    let marked = sym (c.back.invariant.marks (step.instance, step.path)) ∙ was_there c.in_ok-insert-in-Only-Out.field-0 _ c.in_ok-insert-in-Only-Out.ensures.added c.if-not-branch.true in
     rw c.loop_fault.ensures.value
     (inr (inr (record {
       steps = c.back.steps.items;

@@ -1,5 +1,5 @@
 use Rattle.std.proofs.Common.{◌+◌, ap, refl}
-use Rattle.verilog_checks.proofs.Passes.{was_new, was_there}
+use Rattle.base_types.proofs.TruthValues.{was_new, was_there}
 use Rattle.verilog_checks.proofs.Counting.{counts_new, counts_old}
 use Rattle.verilog_checks.proofs.number.Vectors.add.Goals as goal
 
