@@ -6,7 +6,7 @@ use Rattle.std.specs.List.{flat_map, slice_get, position_from, AllByRecursion as
 use Rattle.std.specs.Str.{bytes_eq}
 use Rattle.std.proofs.lemmas.Bool.{false≢true, and_parts}
 use Rattle.base_types.specs.declared.span.Span.{Span}
-use Rattle.base_types.proofs.TruthValues.{not_both, bytes_are, bytes_same}
+use Rattle.base_types.proofs.TruthValues.{not_both as never_both, bytes_are, bytes_same}
 use Rattle.splice.specs.declared.Edit.{Edit}
 use Rattle.netlist_core.specs.declared.netlist.NetId.{NetId}
 use Rattle.netlist_core.specs.declared.netlist.Assign.{Assign}
@@ -85,7 +85,7 @@ record IsFoundAt (pin : List ℕ) (cs : List Connection) : Type 0 where
   is : connection_at pin cs ≡ Some connection
 
 found_one : (pin : List ℕ) (cs : List Connection) (c : Connection) → Has c cs → c.pin ≡ pin → (o : Option Connection) → connection_at pin cs ≡ o → IsFoundAt pin cs
-found_one pin cs c h same None is = absurd (not_both (bytes_eq c.pin pin) (bytes_same c.pin pin same) (find_none (λ (x : Connection). bytes_eq x.pin pin) c cs is h))
+found_one pin cs c h same None is = absurd (never_both (bytes_eq c.pin pin) (bytes_same c.pin pin same) (find_none (λ (x : Connection). bytes_eq x.pin pin) c cs is h))
 found_one pin cs c h same (Some x) is = record { connection = x; is = is }
 
 number_plain : (ts : List TailEdit) (k : ℕ) (t : TailEdit) → slice_get ts k ≡ Some t → plain_of (map net_named (map (λ (t : TailEdit). t.tail) ts)) (record { 0 = k }) ≡ t.tail
@@ -190,13 +190,13 @@ module _ (text : List ℕ) (n : Netlist) (d : DenotesNetlist text n) (cells : Ce
       none : (y : Edit) → IsOfKind n cells edits y → y.span.start ≡ c.expr.span.start → ⊥
       none y (OfPin e has a) start =
           let one = one_of e.instance k (input_of (scan_path_at n cells e.instance e.path)) a.connection c placed (in_pin_of n cells e a.connection a.is) at h (sym (start_of y a.connection.expr.span _ a.edit) ∙ start) in
-          not_both (is_edit_at n cells k c.pin e) (rw (number_same e.instance k one.0, bytes_same (input_of (scan_path_at n cells e.instance e.path)) c.pin one.1) refl)
+          never_both (is_edit_at n cells k c.pin e) (rw (number_same e.instance k one.0, bytes_same (input_of (scan_path_at n cells e.instance e.path)) c.pin one.1) refl)
           (find_none (is_edit_at n cells k c.pin) e edits.pins no_pin has)
       none y (OfPort e has a) start =
           not_both c.expr.span a.assign.right.span (has_span n.instances k placed c at h) (has_right_span n.assigns e.assign a.assign a.is) (sym start ∙ start_of y a.assign.right.span _ a.edit)
       none y (OfTail t has a) start =
           let one = one_of t.instance k t.pin a.connection c placed (tail_pin_of n t a.connection a.is) at h (sym (start_of y a.connection.expr.span _ a.edit) ∙ start) in
-          not_both (is_tail_at k c.pin t) (rw (number_same t.instance k one.0, bytes_same t.pin c.pin one.1) refl) (position_none (is_tail_at k c.pin) (length n.nets) t edits.tails no_tail has)
+          never_both (is_tail_at k c.pin t) (rw (number_same t.instance k one.0, bytes_same t.pin c.pin one.1) refl) (position_none (is_tail_at k c.pin) (length n.nets) t edits.tails no_tail has)
 
   pub pin_comes : (k : ℕ) (placed : Instance) (c : Connection) → slice_get n.instances k ≡ Some placed → Has c placed.connections → Comes more m bits c.expr.span (at_pin n cells edits k c.pin)
   pin_comes k placed c at h =
@@ -235,7 +235,7 @@ module _ (text : List ℕ) (n : Netlist) (d : DenotesNetlist text n) (cells : Ce
       none y (OfPort e has b) start =
           let place = one_place (right_spans n.assigns) 0 end b.assign.right.span a.right.span slots.rights (has_right_span n.assigns e.assign b.assign b.is) (has_right_span n.assigns k a at) (sym (start_of y b.assign.right.span _ b.edit) ∙ start) in
           let one = one_assign n.assigns 0 end slots.rights e.assign k b.assign a b.is at place in
-          not_both (e.assign == k) (number_same e.assign k one) (find_none (λ (e : PortEdit). e.assign == k) e edits.ports no_port has)
+          never_both (e.assign == k) (number_same e.assign k one) (find_none (λ (e : PortEdit). e.assign == k) e edits.ports no_port has)
 
   pub right_comes : (k : ℕ) (a : Assign) → slice_get n.assigns k ≡ Some a → Comes more m bits a.right.span (at_right n edits k)
   right_comes k a at = by (find (λ (e : PortEdit). e.assign == k) edits.ports) (λ none. right_kept k a at none) (λ e is. right_edited k a e at is)
