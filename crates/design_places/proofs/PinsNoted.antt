@@ -2,21 +2,23 @@
 use Rattle.std.proofs.Common.{◌≡◌, ℕ, ◌+◌, ◌<◌, inl, inr, Bool, true, false, cond, ◌||◌, ◌&&◌, List, [], ◌∷◌, length, get_or, take, Bor, Option, Some, None, refl, sym, ap, ◌∙◌, arith}
 use Rattle.std.specs.Prelude.{option_and_then, slice_get}
 use Rattle.std.specs.HashMap.{HashMap, get}
+use Rattle.std.specs.HashSet.{HashSet, contains_by}
 use Rattle.std.specs.List.{find, list_any}
 use Rattle.std.specs.Map.{lookup}
-use Rattle.std.specs.Option.{option_or, option_eq, is_some}
+use Rattle.std.specs.Option.{option_or, option_eq}
 use Rattle.std.specs.Str.{bytes_eq}
-use Rattle.std.proofs.lemmas.Bool.{cases_Bool}
+use Rattle.std.proofs.lemmas.Bool.{cases_Bool, and_parts}
 use Rattle.std.proofs.lemmas.List.{take_more, take_all}
 use Rattle.std.proofs.lemmas.List.Folds.{find-append, list_any_more}
 use Rattle.std.proofs.lemmas.Option.{slice_get-get_or}
-use Rattle.base_types.proofs.TruthValues.{bytes_turned}
+use Rattle.base_types.proofs.TruthValues.{bytes_are, bytes_turned, not_both, or_false}
 use Rattle.def_reader.specs.declared.design.Net.{Net}
 use Rattle.def_reader.specs.declared.design.NetPin.{NetPin}
+use Rattle.def_reader.specs.declared.design.NetPin.TheVariants.{Cell, Port}
 use Rattle.def_reader.specs.Steps.{PinKey, same_key, pin_by, pin_of_key}
 use Rattle.def_reader.proofs.PinKeys.{key_exact}
 use Rattle.design_places.specs.NetPins.{same_pin}
-use Rattle.design_places.specs.PinPlaces.{ArePinsNoted}
+use Rattle.design_places.specs.PinPlaces.{is_asked, ArePinsNoted}
 
 parts : (a b : Option (Bor (List ℕ))) (p q : List ℕ) → (option_eq (λ x y. bytes_eq x.now y.now) a b && bytes_eq p q) ≡ same_pin (pin_by b q) (pin_by a p)
 parts None None p q = bytes_turned p q
@@ -99,37 +101,62 @@ next_within n true None place within e = let same : n ≡ place = cc in omega ar
 next_within n false None place within e = absurd cc
 next_within n t (Some p) place within e = let below = within p refl in let same : p ≡ place = cc in omega arith
 
--- nothing is noted at first
-pub none_noted : {S : Type 0} (places : HashMap PinKey ℕ S) (nets : List Net) → ((q : PinKey) → get same_key places q ≡ None) → ArePinsNoted places nets 0
-none_noted places nets none = record {
-  is = λ q. ap (option_and_then (λ place. slice_get nets place)) (none q);
-  within = λ q place e. let no = none q in absurd cc;
-}
+-- what is asked for hangs on the name of the pin
+asked_same : {S : Type 0} (names : HashSet (Bor (List ℕ)) S) (a b : NetPin) → same_pin a b ≡ true → is_asked names a ≡ is_asked names b
+asked_same names (Cell c p) (Cell d q) e =
+    let named = bytes_are p q (and_parts (bytes_eq c d) (bytes_eq p q) e).1 in
+    ap (λ (x : List ℕ). contains_by (λ (name : Bor (List ℕ)). bytes_eq x name.now) names) named
+asked_same names (Cell c p) (Port q) e = absurd cc
+asked_same names (Port p) (Cell d q) e = absurd cc
+asked_same names (Port p) (Port q) e = refl
 
-module _ {S : Type 0} (old new : HashMap PinKey ℕ S) (nets : List Net) (n : ℕ) (net : Net) (lt : n < length nets) (is : net ≡ get_or nets n net)
-    (added : (q : PinKey) → get same_key new q ≡ option_or (get same_key old q) (cond (list_any (same_pin (pin_of_key q)) net.pins) (Some n) None)) (noted : ArePinsNoted old nets n) where
+-- a pin that isn't asked for is none that is
+pub pin_passed : {S : Type 0} (names : HashSet (Bor (List ℕ)) S) (q : PinKey) (pins : List NetPin) (i : ℕ) (pin : NetPin) (place : ℕ) (first old : Option ℕ) → i < length pins → pin ≡ get_or pins i pin
+    → is_asked names (pin_of_key q) ≡ true → is_asked names pin ≡ false
+    → old ≡ option_or first (cond (list_any (same_pin (pin_of_key q)) (take i pins)) (Some place) None)
+    → old ≡ option_or first (cond (list_any (same_pin (pin_of_key q)) (take (i + 1) pins)) (Some place) None)
+pin_passed names q pins i pin place first old lt is asked passed was =
+    let p : NetPin → Bool = same_pin (pin_of_key q) in
+    let other : p pin ≡ false = elim (cases_Bool (p pin)) [
+      | inl same ↦ absurd (not_both (is_asked names pin) (sym (asked_same names (pin_of_key q) pin same) ∙ asked) passed)
+      | inr fails ↦ fails
+    ] in
+    let more : list_any p (take (i + 1) pins) ≡ list_any p (take i pins) =
+    list_any_more p pins i pin lt ∙ ap (λ (x : NetPin). list_any p (take i pins) || p x) (sym is) ∙ ap (λ (t : Bool). list_any p (take i pins) || t) other ∙ or_false (list_any p (take i pins)) in
+    was ∙ ap (λ (t : Bool). option_or first (cond t (Some place) None)) (sym more)
+
+module _ {S : Type 0} (asked : NetPin → Bool) where
+  -- nothing is noted at first
+  pub none_noted : (places : HashMap PinKey ℕ S) (nets : List Net) → ((q : PinKey) → get same_key places q ≡ None) → ArePinsNoted asked places nets 0
+  none_noted places nets none = record {
+    is = λ q a. ap (option_and_then (λ place. slice_get nets place)) (none q);
+    within = λ q place a e. let no = none q in absurd cc;
+  }
+
+module _ {S : Type 0} (asked : NetPin → Bool) (old new : HashMap PinKey ℕ S) (nets : List Net) (n : ℕ) (net : Net) (lt : n < length nets) (is : net ≡ get_or nets n net)
+    (added : (q : PinKey) → asked (pin_of_key q) ≡ true → get same_key new q ≡ option_or (get same_key old q) (cond (list_any (same_pin (pin_of_key q)) net.pins) (Some n) None)) (noted : ArePinsNoted asked old nets n) where
   here : slice_get nets n ≡ Some net
   here = slice_get-get_or nets n net lt ∙ ap (λ (x : Net). Some x) (sym is)
 
-  found : (q : PinKey) → option_and_then (λ place. slice_get nets place) (get same_key new q) ≡ find (λ x. list_any (same_pin (pin_of_key q)) x.pins) (take (n + 1) nets)
-  found q =
+  found : (q : PinKey) → asked (pin_of_key q) ≡ true → option_and_then (λ place. slice_get nets place) (get same_key new q) ≡ find (λ x. list_any (same_pin (pin_of_key q)) x.pins) (take (n + 1) nets)
+  found q a =
       let test : Net → Bool = λ x. list_any (same_pin (pin_of_key q)) x.pins in
       let more = ap (find test) (take_more nets n net lt) ∙ find-append test (take n nets) (get_or nets n net ∷ []) in
       let last = ap (λ (x : Net). option_or (find test (take n nets)) (find test (x ∷ []))) (sym is) in
-      ap (option_and_then (λ place. slice_get nets place)) (added q) ∙ found_next nets n (test net) (get same_key old q) net lt here (noted.within q)
-      ∙ ap (λ (o : Option Net). option_or o (cond (test net) (Some net) None)) (noted.is q)
+      ap (option_and_then (λ place. slice_get nets place)) (added q a) ∙ found_next nets n (test net) (get same_key old q) net lt here (λ place. noted.within q place a)
+      ∙ ap (λ (o : Option Net). option_or o (cond (test net) (Some net) None)) (noted.is q a)
       ∙ sym (more ∙ last)
 
   -- one net more
-  pub net_noted : ArePinsNoted new nets (n + 1)
+  pub net_noted : ArePinsNoted asked new nets (n + 1)
   net_noted = record {
     is = found;
-    within = λ q place e. next_within n (list_any (same_pin (pin_of_key q)) net.pins) (get same_key old q) place (noted.within q) (sym (added q) ∙ e);
+    within = λ q place a e. next_within n (list_any (same_pin (pin_of_key q)) net.pins) (get same_key old q) place (λ p. noted.within q p a) (sym (added q a) ∙ e);
   }
 
-module _ {S : Type 0} (places : HashMap PinKey ℕ S) (nets : List Net) (q : PinKey) (all : ArePinsNoted places nets (length nets)) where
+module _ {S : Type 0} (asked : NetPin → Bool) (places : HashMap PinKey ℕ S) (nets : List Net) (q : PinKey) (all : ArePinsNoted asked places nets (length nets)) (a : asked (pin_of_key q) ≡ true) where
   in_all : option_and_then (λ place. slice_get nets place) (get same_key places q) ≡ find (λ net. list_any (same_pin (pin_of_key q)) net.pins) nets
-  in_all = all.is q ∙ ap (find (λ (net : Net). list_any (same_pin (pin_of_key q)) net.pins)) (take_all (length nets) nets (omega arith))
+  in_all = all.is q a ∙ ap (find (λ (net : Net). list_any (same_pin (pin_of_key q)) net.pins)) (take_all (length nets) nets (omega arith))
 
   pub pin_at : (place : ℕ) → get same_key places q ≡ Some place → slice_get nets place ≡ find (λ net. list_any (same_pin (pin_of_key q)) net.pins) nets
   pin_at place there = sym (ap (option_and_then (λ place. slice_get nets place)) there) ∙ in_all

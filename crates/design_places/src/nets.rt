@@ -15,6 +15,7 @@ use chain_trace::{Path, Sink, Step, out_pin, plain_of, scan_path, sink_line};
 use def_reader::{Design, DesignPin, Net, lesser};
 use netlist_core::{NetId, Netlist};
 use std::alloc::Global;
+use std::collections::HashSet;
 use std::marker::Model;
 
 /// A netlist with the table of its cells, and a design with its nets by their pins. Contracts see netlist, table and design.
@@ -37,6 +38,39 @@ impl<'d> Model for Traced<'d> {
     ghost invariant = { λ t. t.nets ≡ t.design.now.nets };
 }
 
+/// Notes the names of the pins by which a step enters and leaves its scan path.
+fn note_pins<'t>(
+    names: &mut HashSet<&'t [u8]>,
+    netlist: &Netlist,
+    table: &'t CellTable,
+    step: Step,
+) -> Result<(), NoMemory> {
+    let Some(path) = scan_path(netlist, table, step.instance, step.path) else {
+        return Ok(());
+    };
+    names.insert(path.input.bytes())?;
+    if let Some(out) = out_pin(path, step.out) {
+        names.insert(out.pin.bytes())?;
+    }
+    Ok(())
+}
+
+/// The names of the pins by which paths enter and leave cells.
+fn pin_names<'t>(
+    alloc: Global,
+    netlist: &Netlist,
+    table: &'t CellTable,
+    paths: &[Path],
+) -> Result<HashSet<&'t [u8]>, NoMemory> {
+    let mut names = HashSet::new(alloc);
+    for path in paths {
+        for step in path.steps.as_slice() {
+            note_pins(&mut names, netlist, table, *step)?;
+        }
+    }
+    Ok(names)
+}
+
 fn names_other(net: &Net, pin: Option<&DesignPin>) -> bool
     ensures value { result ≡ names_other (Some net.now) (option_map (λ pin. pin.now) pin.entry) }
 {
@@ -52,14 +86,16 @@ impl<'d> Traced<'d> {
         netlist: &'d Netlist,
         table: &'d CellTable,
         design: &'d Design,
+        paths: &[Path],
     ) -> Result<Traced<'d>, NoMemory>
         ensures value { IfOk result (λ t. t ≡ record { netlist = netlist.now; cells = table.now; design = design.now }) }
     {
+        let names = pin_names(alloc, netlist, table, paths)?;
         Ok(Traced {
             netlist,
             table,
             design,
-            nets: Nets::of(alloc, design.nets.as_slice())?,
+            nets: Nets::of(alloc, names, design.nets.as_slice())?,
         })
     }
 
@@ -173,7 +209,7 @@ pub fn check_nets(
     ensures fault { IfFault result (IsFirstFault (HoldsInNets netlist.now table.now design.now paths.now)) }
     ensures no_fault { OnOk result ((fault : Fault) → HoldsInNets netlist.now table.now design.now paths.now fault → ⊥) }
 {
-    let traced = Traced::of(alloc, netlist, table, design)?;
+    let traced = Traced::of(alloc, netlist, table, design, paths)?;
     match traced.paths(paths) {
         Some(line) => Err(in_verilog(Kind::PinMissing, line)),
         None => Ok(()),
