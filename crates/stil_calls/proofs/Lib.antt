@@ -1,5 +1,6 @@
 pub mod Accepted
 mod Answered
+mod Apart
 mod Examples
 mod Placed
 mod Plain

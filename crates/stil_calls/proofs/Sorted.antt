@@ -15,7 +15,7 @@ use Rattle.stil_syntax.specs.declared.item.Item.{Item}
 use Rattle.stil_calls.specs.Scans.{has_name, gives_twice}
 use Rattle.stil_calls.specs.Twice.{equal_beside, has_equal, rises_beside, rises}
 
-abbrev names : List Item → List (List ℕ)
+abbrev pub names : List Item → List (List ℕ)
 names items = map (λ i. i.name) items
 
 -- no name is given twice exactly where the names are distinct
@@ -36,7 +36,7 @@ distinct (i ∷ is) e =
     let p = or_parts (has_name is i.name) (gives_twice is) e in
     (apart i.name is (p.0), distinct is (p.1))
 
-once : (items : List Item) → IsDistinct bytes_eq (names items) → gives_twice items ≡ false
+pub once : (items : List Item) → IsDistinct bytes_eq (names items) → gives_twice items ≡ false
 unfolding IsDistinct
 once [] d = refl
 once (i ∷ is) d = or_from (has_name is i.name) (gives_twice is) (together i.name is (d.0)) (once is (d.1))

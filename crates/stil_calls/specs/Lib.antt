@@ -1,5 +1,6 @@
 pub mod Faults
 pub mod Given
+pub mod Keys
 pub mod Laws
 pub mod Parts
 pub mod Reaches

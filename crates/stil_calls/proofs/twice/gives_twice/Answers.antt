@@ -1,16 +1,10 @@
-use Rattle.std.proofs.Common.{sym, ap, ◌∙◌, List, ℕ, Bor, map}
-use Rattle.stil_calls.specs.Twice.{has_equal, rises}
-use Rattle.stil_calls.proofs.Sorted.{equal_found, none_found}
+use Rattle.std.proofs.Common.{sym, ap, ◌∙◌, List, ℕ}
+use Rattle.stil_calls.specs.Keys.{keys_rise}
+use Rattle.stil_calls.proofs.Apart.{none_by_keys}
 use Rattle.stil_calls.proofs.twice.gives_twice.Goals as goal
 
-pub returns-then-has_equal : goal.returns-then-has_equal
-returns-then-has_equal c = record {
-  value = equal_found c.args.items.now c.in_ok-names.names.items c.sort.new.self.items c.in_ok-names.ensures.value c.sort.ensures.permutation
-      (ap (λ (l : List (Bor (List ℕ))). has_equal (map (λ t. t.now) l)) (sym c.deref.ensures.value) ∙ sym c.has_equal.ensures.value ∙ c.if-has_equal.true);
-}
-
-pub returns-then-rises : goal.returns-then-rises
-returns-then-rises c = record {
-  value = none_found c.args.items.now c.in_ok-names.names.items c.sort.new.self.items c.in_ok-names.ensures.value c.sort.ensures.permutation
-      (ap (λ (l : List (Bor (List ℕ))). rises (map (λ t. t.now) l)) (sym c.deref-2.ensures.value) ∙ sym c.rises.ensures.value ∙ c.if-rises.true);
+pub returns-then-keys_rise : goal.returns-then-keys_rise
+returns-then-keys_rise c = record {
+  value = none_by_keys c.args.items.now c.in_ok-keys.keys.items c.sort_unstable.new.self.items c.in_ok-keys.ensures.value c.sort_unstable.ensures.permutation
+      (ap keys_rise (sym c.deref.ensures.value) ∙ sym c.keys_rise.ensures.value ∙ c.if-keys_rise.true);
 }
