@@ -34,7 +34,7 @@ module _ {K : Type 0} (rows : List (K × ℕ)) (name : K) (line : ℕ) where
   }
   to_last n (inr h) = record { front = rows; name = name; behind = []; is = ap (λ (m : ℕ). rows ++ (name, m) ∷ []) (sym h.1); before = h.0 }
 
-  from_last : (n : ℕ) → StandsAgain (rows ++ (name, line) ∷ []) n → StandsAgain rows n ⊎ (Contains (names_in rows) name × (n ≡ line))
+  pub from_last : (n : ℕ) → StandsAgain (rows ++ (name, line) ∷ []) n → StandsAgain rows n ⊎ (Contains (names_in rows) name × (n ≡ line))
   from_last n h =
       elim (split_last rows h.front h.behind (name, line) (h.name, n) h.is) [
         | inl w ↦ inl (record { front = h.front; name = h.name; behind = w.0; is = w.1; before = h.before })

@@ -2,10 +2,12 @@ pub mod Again
 pub mod Agreeing
 pub mod AgreementFaults
 pub mod AllTwice
+pub mod Apart
 pub mod Chained
 pub mod DesignFaults
 pub mod Finding
 pub mod LeastLines
+pub mod Marks
 pub mod Members
 pub mod NetClasses
 pub mod Noted
@@ -14,4 +16,5 @@ pub mod Places
 pub mod PlainNames
 pub mod RowsMore
 pub mod SoundDesigns
+pub mod Told
 pub mod Within

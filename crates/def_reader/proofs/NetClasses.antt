@@ -4,7 +4,6 @@ use Rattle.std.specs.Prelude.{is_none, option_map}
 use Rattle.std.specs.List.{list_any, flat_map}
 use Rattle.std.proofs.lemmas.List.{take_all}
 use Rattle.std.proofs.lemmas.List.Elements.{Contains-append_left, Contains-append_right, Contains-append_cases}
-use Rattle.std.specs.HashSet.{HashSet}
 use Rattle.netlist_core.specs.declared.netlist.Instance.{Instance}
 use Rattle.def_reader.specs.declared.design.Net.{Net}
 use Rattle.def_reader.specs.Classes.{is_split, has_class, has_in, HasClasses, is_bad_net, IsBadNet, FailsOn}
@@ -55,11 +54,11 @@ any_same : (p q : ℕ → Bool) (xs : List ℕ) → ((x : ℕ) → p x ≡ q x) 
 any_same p q [] e = refl
 any_same p q (x ∷ xs) e = ap (λ b. b || list_any p xs) (e x) ∙ ap (λ b. q x || b) (any_same p q xs e)
 
--- a net is bad as the set knows
-pub bad_is : {S : Type 0} (set : HashSet ℕ S) (before cs found : List ℕ) (split shared bad : Bool) → HasClasses set before → found ≡ cs → split ≡ is_split found → shared ≡ list_any (has_in set) found → bad ≡ (split || shared)
+-- a net is bad as the marks know
+pub bad_is : (marks : List Bool) (before cs found : List ℕ) (split shared bad : Bool) → HasClasses marks before → found ≡ cs → split ≡ is_split found → shared ≡ list_any (has_in marks) found → bad ≡ (split || shared)
     → bad ≡ is_bad_net before cs
-bad_is set before cs found split shared bad has same split_is shared_is is =
-    is ∙ ap (λ (b : Bool). b || shared) split_is ∙ ap (λ (b : Bool). is_split found || b) (shared_is ∙ any_same (has_in set) (has_class before) found has)
+bad_is marks before cs found split shared bad has same split_is shared_is is =
+    is ∙ ap (λ (b : Bool). b || shared) split_is ∙ ap (λ (b : Bool). is_split found || b) (shared_is ∙ any_same (has_in marks) (has_class before) found has)
     ∙ ap (λ (l : List ℕ). is_split l || list_any (has_class before) l) same
 
 module _ (bad : Instance → Bool) (rows : List Instance) (row : Instance) where

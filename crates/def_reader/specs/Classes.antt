@@ -1,7 +1,6 @@
 -- Nets of a design by the classes of their pins' net bits, as the code goes over them.
-use Rattle.std.specs.Prelude.{◌≡◌, ℕ, Bool, true, false, ◌||◌, not, ◌==◌, List, ◌∷◌, ◌++◌, Option, Some, None, is_none, option_map, Contains, slice_index}
+use Rattle.std.specs.Prelude.{◌≡◌, ℕ, Bool, true, false, ◌||◌, not, ◌==◌, List, ◌∷◌, ◌++◌, Option, Some, None, is_none, option_map, Contains, slice_index, slice_index_or}
 use Rattle.std.specs.List.{filter_map, flat_map, list_any}
-use Rattle.std.specs.HashSet.{HashSet, contains}
 use Rattle.std.specs.Str.{bytes_eq}
 use Rattle.netlist_core.specs.declared.netlist.Instance.{Instance}
 use Rattle.netlist_core.specs.declared.netlist.Netlist.{Netlist}
@@ -27,13 +26,13 @@ is_split cs = list_any (λ d. not (d == slice_index cs 0)) cs
 abbrev pub has_class : List ℕ → ℕ → Bool
 has_class cs c = list_any (λ d. d == c) cs
 
--- whether a set has a number
-abbrev pub has_in : {S : Type 0} → HashSet ℕ S → ℕ → Bool
-has_in set c = contains (λ x y. x == y) set c
+-- whether a number is marked
+abbrev pub has_in : List Bool → ℕ → Bool
+has_in marks c = slice_index_or marks c false
 
--- the set has these numbers
-abbrev pub HasClasses : {S : Type 0} → HashSet ℕ S → List ℕ → Type 0
-HasClasses set cs = (c : ℕ) → has_in set c ≡ has_class cs c
+-- these numbers are marked
+abbrev pub HasClasses : List Bool → List ℕ → Type 0
+HasClasses marks cs = (c : ℕ) → has_in marks c ≡ has_class cs c
 
 -- the numbers differ, or one stands before
 abbrev pub is_bad_net : List ℕ → List ℕ → Bool

@@ -3,6 +3,7 @@ pub mod Classes
 pub mod Denoted
 pub mod Designs
 pub mod Faults
+pub mod Hashes
 pub mod NamedRows
 pub mod Numbers
 pub mod Places

@@ -33,7 +33,12 @@ pub record AreChained {X : Type 0} (name : X → List ℕ) (key : ℕ) (heads li
 abbrev pub AreEntered : {X : Type 0} → (X → List ℕ) → Index → List X → Type 0
 AreEntered name index rows = AreChained name index.key index.heads.items index.links.items rows
 
+-- each row is the first of its name
+abbrev pub AreApart : {X : Type 0} → (X → List ℕ) → List X → Type 0
+AreApart {X} name rows = (p : ℕ) (row : X) → slice_get rows p ≡ Some row → position (λ other. bytes_eq (name other) (name row)) rows ≡ Some p
+
 -- all rows are
 pub record IsIndexOf {X : Type 0} (name : X → List ℕ) (index : Index) (rows : List X) : Type 0 where
   pub entered : AreEntered name index rows
   pub whole : length index.links.items ≡ length rows
+  pub apart : index.apart ≡ true → AreApart name rows

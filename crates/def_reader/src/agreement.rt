@@ -1,5 +1,5 @@
 //! Whether a netlist and a placed design agree.
-ghost use Rattle.std.specs.Prelude.{◌≡◌, ◌++◌, [], ℕ, List, option_map, option_and_then, IfOk, OnOk};
+ghost use Rattle.std.specs.Prelude.{◌≡◌, ◌<◌, ◌++◌, [], ℕ, List, All, length, option_map, option_and_then, IfOk, OnOk};
 ghost use Rattle.std.specs.List.{list_any, cons_option};
 ghost use Rattle.base_types.specs.declared.fault.Fault.{Fault as ghost_fault};
 ghost use Rattle.base_types.specs.Faults.{at_line};
@@ -20,7 +20,6 @@ use crate::ports::Ports;
 use base_types::{Fault, FileKind, Kind, Name, NoMemory, ReadFault};
 use netlist_core::{Classes, Instance, NetId, Netlist, net_of};
 use std::alloc::Global;
-use std::collections::HashSet;
 use std::marker::Model;
 
 /// The instances and ports of a netlist by name. Contracts see the netlist.
@@ -63,6 +62,13 @@ impl<'n> Pins<'n> {
             instances: ByName::of(alloc, netlist.instances.as_slice())?,
             ports: Ports::of(alloc, netlist)?,
         })
+    }
+
+    /// How many net bits there are.
+    fn count_nets(&self) -> usize
+        ensures value { result ≡ length self.now.nets }
+    {
+        self.netlist.nets.as_slice().len()
     }
 
     /// The net of a port bit.
@@ -136,24 +142,28 @@ fn is_split(classes: &[u32]) -> bool
     classes.iter().any(|class| *class != first)
 }
 
-fn is_shared(seen: &HashSet<u32>, classes: &[u32]) -> bool
+/// Whether one of the classes is marked.
+fn is_shared(seen: &[bool], classes: &[u32]) -> bool
+    requires within { All (λ class. class < length seen.now) classes.now }
     ensures value { result ≡ list_any (has_in seen.now) classes.now }
 {
     for class in classes {
-        if seen.contains(class) {
+        if seen[*class as usize] {
             return true;
         }
     }
     false
 }
 
-fn add_all(seen: &mut HashSet<u32>, classes: &[u32]) -> Result<(), NoMemory>
-    ensures value { OnOk result ((before : List ℕ) → HasClasses seen.old before → HasClasses seen.new (before ++ classes.now)) }
+/// Marks the classes.
+fn add_all(seen: &mut Vec<bool>, classes: &[u32])
+    requires within { All (λ class. class < length seen.old.items) classes.now }
+    ensures len { length seen.new.items ≡ length seen.old.items }
+    ensures value { (before : List ℕ) → HasClasses seen.old.items before → HasClasses seen.new.items (before ++ classes.now) }
 {
     for class in classes {
-        seen.insert(*class)?;
+        seen[*class as usize] = true;
     }
-    Ok(())
 }
 
 /// The least line of a net whose pins are on two classes, or on a class of a net before it.
@@ -167,14 +177,14 @@ fn least_bad_net(
     requires classes { AreClassesOf pins.now classes.now }
     ensures value { IfOk result (IsLeast (IsBadNet (net_classes pins.now classes.now) nets.now)) }
 {
-    let mut seen = HashSet::new(alloc);
+    let mut seen = vec![in alloc; false; pins.count_nets()]?;
     let mut found = Vec::new(alloc);
     let mut least = None;
     for net in nets {
         pins.put_classes(classes, net, &mut found)?;
         let bad = is_split(found.as_slice()) | is_shared(&seen, found.as_slice());
         least = lesser(least, line_if(bad, net.line));
-        add_all(&mut seen, found.as_slice())?;
+        add_all(&mut seen, found.as_slice());
     }
     Ok(least)
 }

@@ -1,11 +1,14 @@
 //! Connections that stand a second time.
-ghost use Rattle.std.specs.Prelude.{◌≡◌, ◌∷◌, ◌++◌, ◌-◌, ◌^◌, [], ℕ, List, length, min, IfOk, OnOk};
+ghost use Rattle.std.specs.Prelude.{◌≡◌, ◌∷◌, ◌++◌, ◌-◌, ◌^◌, [], ℕ, List, length, min, true, None, IfOk, OnOk};
 ghost use Rattle.def_reader.specs.declared.design.NetPin.{NetPin as ghost_pin};
-ghost use Rattle.def_reader.specs.Faults.{StandsAgain, connections_of, connection_rows};
+ghost use Rattle.def_reader.specs.Faults.{StandsAgain, net_rows, connections_of, connection_rows};
+ghost use Rattle.def_reader.specs.Hashes.{AreTold, IsNameHeld, IsPinHeld};
 ghost use Rattle.def_reader.specs.Steps.{IsLeast, pin_of_key};
 ghost use Rattle.def_reader.specs.SeenConnections.{IsSeenPins};
 
 use crate::design::{Net, NetPin};
+use crate::hashes::{Hashes, name_hash, pin_hash};
+use crate::index::Index;
 use crate::least::{lesser, line_if};
 use base_types::NoMemory;
 use std::alloc::Global;
@@ -71,7 +74,7 @@ pub fn count_connections(nets: &[Net]) -> usize
 }
 
 /// The least line of a net one of whose connections stood before, in it or in another net.
-pub(crate) fn least_connection(alloc: Global, nets: &[Net]) -> Result<Option<u64>, NoMemory>
+fn least_connection(alloc: Global, nets: &[Net]) -> Result<Option<u64>, NoMemory>
     ensures value { IfOk result (IsLeast (StandsAgain (connection_rows nets.now))) }
 {
     let mut seen = SeenPins::with_room(alloc, count_connections(nets))?;
@@ -79,4 +82,49 @@ pub(crate) fn least_connection(alloc: Global, nets: &[Net]) -> Result<Option<u64
         seen.add_net(net)?;
     }
     Ok(seen.least)
+}
+
+/// Adds the hashes of a net's name and of its connections, and says whether all were new.
+fn add_hashes(hashes: &mut Hashes, net: &Net) -> bool
+    ensures told { result ≡ true → (names : List (List ℕ × ℕ)) (rows : List (ghost_pin × ℕ)) → AreTold (IsNameHeld hashes.old) names → AreTold (IsPinHeld hashes.old) rows → AreTold (IsNameHeld hashes.new) (names ++ (net.now.name, net.now.line) ∷ []) × AreTold (IsPinHeld hashes.new) (rows ++ connections_of net.now) }
+{
+    if !hashes.add(name_hash(net.name.bytes())) {
+        return false;
+    }
+    for pin in net.pins.as_slice() {
+        if !hashes.add(pin_hash(pin)) {
+            return false;
+        }
+    }
+    true
+}
+
+/// Whether no name of a net and no connection stands a second time, as far as their hashes tell.
+fn are_apart(alloc: Global, nets: &[Net]) -> Result<bool, NoMemory>
+    ensures names { IfOk result (λ apart. apart ≡ true → IsLeast (StandsAgain (net_rows nets.now)) None) }
+    ensures connections { IfOk result (λ apart. apart ≡ true → IsLeast (StandsAgain (connection_rows nets.now)) None) }
+{
+    let count = count_connections(nets).saturating_add(nets.len());
+    let mut hashes = Hashes::with_room(alloc, count)?;
+    for net in nets {
+        if !add_hashes(&mut hashes, net) {
+            return Ok(false);
+        }
+    }
+    Ok(true)
+}
+
+/// The least line of a net whose name stands before, and that of one of whose connections one does.
+pub(crate) fn least_nets(
+    alloc: Global,
+    nets: &[Net],
+) -> Result<(Option<u64>, Option<u64>), NoMemory>
+    ensures names { IfOk result (λ r. IsLeast (StandsAgain (net_rows nets.now)) r.0) }
+    ensures connections { IfOk result (λ r. IsLeast (StandsAgain (connection_rows nets.now)) r.1) }
+{
+    if are_apart(alloc, nets)? {
+        return Ok((None, None));
+    }
+    let (_, names) = Index::of(alloc, nets)?;
+    Ok((names, least_connection(alloc, nets)?))
 }

@@ -1,5 +1,5 @@
 //! Where rows stand by their names.
-ghost use Rattle.std.specs.Prelude.{◌≡◌, ◌+◌, ◌≤◌, ◌<◌, ℕ, Option, Some, length, map, take, slice_get, is_none, IfOk, OnOk};
+ghost use Rattle.std.specs.Prelude.{◌≡◌, ◌+◌, ◌≤◌, ◌<◌, ℕ, Option, Some, length, map, take, slice_get, is_none, is_some, option_map, unwrap_or, false, IfSome, IfOk, OnOk};
 ghost use Rattle.std.specs.List.{position};
 ghost use Rattle.std.specs.Str.{bytes_eq};
 ghost use Rattle.def_reader.specs.Faults.{StandsAgain};
@@ -10,6 +10,7 @@ use crate::least::{lesser, line_if};
 use crate::named::Named;
 use base_types::NoMemory;
 use std::alloc::Global;
+use std::cell::Cell;
 use std::hash::{DefaultHasher, FoldHasher, Hasher};
 
 // How many buckets there are for a row: of so many few are shared, and each row of another name costs a way to it.
@@ -19,11 +20,28 @@ const BUCKETS: usize = 4;
 ///
 /// The rows of a bucket are a chain. A link is one more than the place of a row, or 0 where there is none: `heads` has a link for each
 /// bucket, to the row that was entered last, and `links` one for each row, to the row of its bucket that was entered before it.
+///
+/// Files mostly name rows in their order. So where no two rows have one name, the row that was found last and the one behind it are tried
+/// before the chains.
 #[derive(Drop)]
 pub(crate) struct Index {
     heads: Vec<u32>,
     links: Vec<u32>,
     key: u64,
+    /// Whether no two rows have one name.
+    apart: bool,
+    /// The place that was found last.
+    last: Cell<usize>,
+}
+
+/// Whether the row at a place has a name.
+fn is_named<T: Named>(rows: &[T], place: usize, name: &[u8]) -> bool
+    ensures value { result ≡ unwrap_or (option_map (λ row. bytes_eq (T.name_of row) name.now) (slice_get rows.now place)) false }
+{
+    match rows.get(place) {
+        Some(row) => row.name() == name,
+        None => false,
+    }
 }
 
 /// A key from the names of all rows, so that who writes the names doesn't know it before they are written, nor which of them get one
@@ -104,13 +122,44 @@ impl Index {
             heads: vec![in alloc; 0; rows.len().saturating_mul(BUCKETS).max(1)]?,
             links: Vec::with_capacity(alloc, rows.len())?,
             key: key_of(rows),
+            apart: false,
+            last: Cell::new(0),
         };
         let mut least = None;
         for row in rows {
             let added = index.enter(rows, row)?;
             least = lesser(least, line_if(!added, row.line()));
         }
+        index.apart = least.is_none();
         Ok((index, least))
+    }
+
+    /// The place of the row of a name, where that was found last or stands behind the one that was.
+    fn near<T: Named>(&self, rows: &[T], name: &[u8]) -> Option<usize>
+        requires index { IsIndexOf T.name_of self.now rows.now }
+        ensures value { IfSome result (λ place. position (λ row. bytes_eq (T.name_of row) name.now) rows.now ≡ Some place) }
+    {
+        if !self.apart {
+            return None;
+        }
+        let last = self.last.get();
+        if is_named(rows, last, name) {
+            return Some(last);
+        }
+        let next = last.saturating_add(1);
+        if is_named(rows, next, name) {
+            return Some(next);
+        }
+        None
+    }
+
+    /// The place of the first row of a name, by the chain of its bucket.
+    fn far<T: Named>(&self, rows: &[T], name: &[u8]) -> Option<usize>
+        requires index { IsIndexOf T.name_of self.now rows.now }
+        ensures value { result ≡ position (λ row. bytes_eq (T.name_of row) name.now) rows.now }
+    {
+        let bucket = self.bucket(name);
+        self.along(rows, name, self.heads[bucket])
     }
 
     /// The place of the first row of a name.
@@ -118,7 +167,13 @@ impl Index {
         requires index { IsIndexOf T.name_of self.now rows.now }
         ensures value { result ≡ position (λ row. bytes_eq (T.name_of row) name.now) rows.now }
     {
-        let bucket = self.bucket(name);
-        self.along(rows, name, self.heads[bucket])
+        let found = match self.near(rows, name) {
+            Some(place) => Some(place),
+            None => self.far(rows, name),
+        };
+        if let Some(place) = found {
+            self.last.set(place);
+        }
+        found
     }
 }

@@ -13,6 +13,7 @@ mod chains;
 mod connections;
 mod convert;
 mod design;
+mod hashes;
 mod index;
 mod judge;
 mod least;

@@ -17,7 +17,7 @@ ghost use Rattle.def_reader.specs.Steps.{IsLeast};
 
 use crate::cells::Cells;
 use crate::chains::chains_of;
-use crate::connections::least_connection;
+use crate::connections::least_nets;
 use crate::convert::{components_of, nets_of, pins_of};
 use crate::design::Design;
 use crate::index::Index;
@@ -88,10 +88,9 @@ fn least_twice(
     requires named { IsLeast (λ line. StandsAgain (component_rows design.now.components) line ⊎ StandsAgain (pin_rows design.now.pins) line) named }
     ensures value { IfOk result (λ least. (text : List ℕ) (cells : ghost_cells) (t : ghost_text) → design.now ≡ design_of text cells t → sections.now ≡ t.sections → IsLeast (TwiceAt text t) least) }
 {
-    let (_, nets) = Index::of(alloc, design.nets.as_slice())?;
+    let (nets, connections) = least_nets(alloc, design.nets.as_slice())?;
     let (_, chains) = Index::of(alloc, design.chains.as_slice())?;
     let (_, again) = Index::of(alloc, sections)?;
-    let connections = least_connection(alloc, design.nets.as_slice())?;
     let named = lesser(named, lesser(nets, chains));
     Ok(lesser(named, lesser(again, connections)))
 }

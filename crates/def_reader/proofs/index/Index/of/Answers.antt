@@ -1,4 +1,4 @@
-use Rattle.std.proofs.Common.{rules, ◌≡◌, ◌<◌, ◌+◌, ℕ, List, not, is_none, length, take, replicate, refl, ap, ◌∙◌, arith}
+use Rattle.std.proofs.Common.{rules, ◌≡◌, ◌<◌, ◌+◌, ℕ, List, Option, not, is_none, length, map, take, replicate, refl, ap, ◌∙◌, subst, arith}
 use Rattle.std.specs.List.{position}
 use Rattle.std.specs.Str.{bytes_eq}
 use Rattle.std.proofs.lemmas.Option.{slice_get_read}
@@ -7,6 +7,7 @@ use Rattle.std.specs.Prelude.{slice_get}
 use Rattle.def_reader.specs.Faults.{StandsAgain}
 use Rattle.def_reader.specs.Steps.{IsLeast, IsSeen, lesser, line_if}
 use Rattle.def_reader.proofs.Again.{seen_more, none_again}
+use Rattle.def_reader.proofs.Apart.{apart, none_is}
 use Rattle.def_reader.proofs.Chained.{has_row, has_more, none_entered, not_some}
 use Rattle.def_reader.proofs.RowsMore.{take_next, row_next, rows_all}
 use Rattle.def_reader.proofs.index.Index.of.Goals as goal
@@ -46,6 +47,19 @@ loop-row-preserved g c =
           (seen_more {Q = List ℕ} {K = List ℕ} (λ q. q) (has_row name (take i rows)) (has_row name (take (i + 1) rows)) (λ q. bytes_eq (name row) q) (name row) (λ q e. (bytes_eq-Decides (name row) q).0 e)
           (λ q e. (bytes_eq-Decides (name row) q).1 e) added c.loop-row.least _ c.line.result (λ q. ap (λ l. has_row name l q) (take_next rows i row c.loop-row-test.true c.row-item.is) ∙ has_more name (take i rows) row q) fresh
           c.loop-row.invariant.seen));
+    }
+
+pub returns-clause-index : goal.returns-clause-index
+returns-clause-index g c =
+    let name = g.T.Named.name_of in
+    let line = g.T.Named.line_of in
+    let rows = c.args.rows.now in
+    let least = rows_all name line rows c.loop-row.row-index (λ (l : List (List ℕ × ℕ)). IsLeast (StandsAgain l) c.loop-row.least) c.loop-row-test.false c.loop-row.invariant.seen.least in
+    let whole : length c.loop-row.index.links.items ≡ length rows = omega (arith, c.loop-row.invariant.count) in
+    record {
+      entered = c.loop-row.invariant.entered;
+      whole = whole;
+      apart = λ e. apart name line rows (subst (λ (o : Option ℕ). IsLeast (StandsAgain (map {B = List ℕ × ℕ} (λ r. (name r, line r)) rows)) o) (none_is c.loop-row.least c.is_none.result e c.is_none.ensures) least);
     }
 
 pub returns-clause-least : goal.returns-clause-least
