@@ -3,6 +3,7 @@ use Rattle.std.proofs.Common.{◌≡◌, ◌<◌, ◌≤◌, ℕ, zero, suc, ◌
 use Rattle.std.specs.Prelude.{◌==◌}
 use Rattle.std.specs.List.{list_all, list_any}
 use Rattle.std.proofs.lemmas.Bool.{or_parts, or_cases, and_parts, and_from, not-true, both_ways, eqb-true, false≢true, false_from_ne_true}
+use Rattle.std.proofs.lemmas.List.{append-nil}
 use Rattle.memchr.specs.Find.{Nowhere, Passes, is_byte2}
 use Rattle.lane_kernels.specs.Kernels.{is_allowed}
 use Rattle.stil_types.specs.Calls.{is_expectation}
@@ -218,3 +219,14 @@ pub next_reach : (b0 r0 b1 r1 b2 r2 : ℕ) (p : List ℕ) (r : Repeat) (rs0 rs1 
     → ((l a : List Repeat) → Reaching b0 r0 (r ∷ l) a → Reaching b1 r1 l a) → ((l a : List Repeat) → Reaching b1 r1 (singly p ++ l) a → Reaching b2 r2 l a) → Reaching b2 r2 rs2 all
 next_reach b0 r0 b1 r1 b2 r2 p r rs0 rs1 rs2 all inv f0 f1 f g =
     g rs2 all (subst (λ (rs : List Repeat). Reaching b1 r1 rs all) f1 (f rs1 all (subst (λ (rs : List Repeat). Reaching b0 r0 rs all) f0 inv)))
+
+-- what data of one token, with the blank behind it, write
+pub written_token : (n : ℕ) (bs : List ℕ) → drop n bs ≡ 32 ∷ [] → repeats_from Outside bs ≡ singly (take n bs) ++ repeats_from Outside (drop n bs) → written (repeats_from Outside bs) ≡ take n bs
+unfolding repeats_from
+written_token n bs e split =
+    let none : written (repeats_from Outside (32 ∷ [])) ≡ [] = refl in
+    ap written split
+    ∙ written_singly (take n bs) (repeats_from Outside (drop n bs))
+    ∙ ap (λ (xs : List ℕ). take n bs ++ written (repeats_from Outside xs)) e
+    ∙ ap (λ (xs : List ℕ). take n bs ++ xs) none
+    ∙ append-nil (take n bs)

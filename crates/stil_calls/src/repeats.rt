@@ -1,6 +1,7 @@
 //! The data of a scan call as repeats of characters, of which none is written out.
-ghost use Rattle.std.specs.Prelude.{◌≡◌, ◌∷◌, [], ◌++◌, ◌<◌, ◌≤◌, ◌^◌, ◌-◌, List, min, replicate, length, take, drop, MatchOption, IfSome, IfOk};
+ghost use Rattle.std.specs.Prelude.{◌≡◌, ◌∷◌, [], ◌++◌, ◌<◌, ◌≤◌, ◌^◌, ◌-◌, ℕ, true, List, min, replicate, length, take, drop, slice_index, MatchOption, IfSome, IfOk};
 ghost use Rattle.std.specs.List.{list_all};
+ghost use Rattle.lane_kernels.specs.Kernels.{is_allowed};
 ghost use Rattle.stil_calls.specs.declared.repeats.Repeat.{Repeat as ghost_repeat};
 ghost use Rattle.stil_calls.specs.Repeats.{repeats_from, repeats_of, whole_from, singly, alphabet, is_character, is_sound, count_of, reach_from, written};
 ghost use Rattle.stil_calls.specs.Reaches.{Reaching};
@@ -74,16 +75,53 @@ fn alphabet(side: Side) -> &'static [u8]
     }
 }
 
+/// How many bytes stand before the first that isn't allowed.
+fn allowed_len(allowed: &[u8], bytes: &[u8]) -> usize
+    ensures within { result ≤ length bytes.now }
+    ensures each { (k : ℕ) → k < result → is_allowed allowed.now (slice_index bytes.now k) ≡ true }
+{
+    match any_byte_outside(bytes, allowed) {
+        Some(before) => before,
+        None => bytes.len(),
+    }
+}
+
+/// The same for a whole block of 32 bytes or more, which are looked at at once: the last block goes over some bytes again, so that none
+/// is looked at alone.
+fn allowed_in_blocks(allowed: &[u8], bytes: &[u8]) -> usize
+    requires block { 32 ≤ length bytes.now }
+    ensures within { result ≤ length bytes.now }
+    ensures each { (k : ℕ) → k < result → is_allowed allowed.now (slice_index bytes.now k) ≡ true }
+{
+    let (blocks, _rest) = bytes.split_at(bytes.len() - bytes.len() % 32);
+    let front = allowed_len(allowed, blocks);
+    if front < blocks.len() {
+        return front;
+    }
+    let start = bytes.len() - 32;
+    let (_before, last) = bytes.split_at(start);
+    start + allowed_len(allowed, last)
+}
+
+/// The same for any bytes.
+fn before_others(allowed: &[u8], bytes: &[u8]) -> usize
+    ensures within { result ≤ length bytes.now }
+    ensures each { (k : ℕ) → k < result → is_allowed allowed.now (slice_index bytes.now k) ≡ true }
+{
+    if bytes.len() < 32 {
+        allowed_len(allowed, bytes)
+    } else {
+        allowed_in_blocks(allowed, bytes)
+    }
+}
+
 /// How many bytes stand before the first that is no character of a side; outside an escape they stand for themselves.
 fn alphabet_len(side: Side, bytes: &[u8]) -> usize
     ensures within { result ≤ length bytes.now }
     ensures sound { list_all (λ r. is_character side r.character) (repeats_of bytes.now) ≡ list_all (λ r. is_character side r.character) (repeats_of (drop result bytes.now)) }
     ensures whole { whole_from Escape.Outside bytes.now ≡ whole_from Escape.Outside (drop result bytes.now) }
 {
-    match any_byte_outside(bytes, alphabet(side)) {
-        Some(before) => before,
-        None => bytes.len(),
-    }
+    before_others(alphabet(side), bytes)
 }
 
 /// How many bytes at the front are characters of a side that stand for themselves.
@@ -272,9 +310,9 @@ fn put(text: &mut Vec<u8>, repeat: Repeat) -> Result<(), NoMemory>
     Ok(())
 }
 
-/// The characters of data, written out.
+/// The characters of data, written out repeat by repeat.
 #[tactic(auto, using(crate::proofs::Plain::written_singly))]
-pub(crate) fn write_out(alloc: Global, bytes: &[u8]) -> Result<Text, NoMemory>
+fn write_each(alloc: Global, bytes: &[u8]) -> Result<Text, NoMemory>
     ensures value { IfOk result (λ text. text ≡ written (repeats_of bytes.now)) }
 {
     let mut repeats = Repeats::of(bytes);
@@ -285,4 +323,15 @@ pub(crate) fn write_out(alloc: Global, bytes: &[u8]) -> Result<Text, NoMemory>
         text.extend_from_slice(repeats.plain())?;
     }
     Ok(Text::of(text))
+}
+
+/// The characters of data, written out. Of one token without escapes these are its bytes, which are copied at once.
+pub(crate) fn write_out(alloc: Global, bytes: &[u8]) -> Result<Text, NoMemory>
+    ensures value { IfOk result (λ text. text ≡ written (repeats_of bytes.now)) }
+{
+    let (token, rest) = bytes.split_at(unescaped_len(bytes));
+    if rest == b" ".as_slice() {
+        return Ok(Text::copy(alloc, token)?);
+    }
+    write_each(alloc, bytes)
 }

@@ -1,4 +1,4 @@
-use Rattle.std.proofs.Common.{sym, ap, ◌∙◌, List, ℕ}
+use Rattle.std.proofs.Common.{sym, ap, ◌∙◌}
 use Rattle.stil_calls.specs.Keys.{keys_rise}
 use Rattle.stil_calls.proofs.Apart.{none_by_keys}
 use Rattle.stil_calls.proofs.twice.gives_twice.Goals as goal
