@@ -8,7 +8,6 @@ use Rattle.stil_syntax.specs.declared.item.Item.{Item}
 use Rattle.stil_syntax.specs.declared.shape.Shape.{Shape}
 use Rattle.stil_syntax.specs.declared.shape.Shape.TheVariants.{NoForm, Unsupported, Other, Scan, Loop}
 use Rattle.stil_syntax.specs.Shapes.{shape_of, body_statements}
-use Rattle.stil_calls.specs.declared.repeats.Side.{Side}
 use Rattle.stil_calls.specs.declared.repeats.Side.TheVariants.{Load, Compare}
 use Rattle.stil_calls.specs.Faults.{is_pattern_syntax}
 use Rattle.stil_calls.specs.Scans.{given, count_in, reach_in}
