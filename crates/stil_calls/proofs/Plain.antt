@@ -3,7 +3,7 @@ use Rattle.std.proofs.Common.{◌≡◌, ◌<◌, ◌≤◌, ℕ, zero, suc, ◌
 use Rattle.std.specs.Prelude.{◌==◌}
 use Rattle.std.specs.List.{list_all, list_any}
 use Rattle.std.proofs.lemmas.Bool.{or_parts, or_cases, and_parts, and_from, not-true, both_ways, eqb-true, false≢true, false_from_ne_true}
-use Rattle.std.proofs.lemmas.List.{append-nil}
+use Rattle.std.proofs.lemmas.List.{append-nil, length-take-le}
 use Rattle.memchr.specs.Find.{Nowhere, Passes, is_byte2}
 use Rattle.lane_kernels.specs.Kernels.{is_allowed}
 use Rattle.stil_types.specs.Calls.{is_expectation}
@@ -113,6 +113,12 @@ module _ (side : Side) (n : ℕ) (bs : List ℕ) (le : n ≤ length bs) (all : (
       and_true (list_all (λ b. is_character side b) (take n bs)) (list_all (λ r. is_character side r.character) (repeats_from Outside (drop n bs))) (list_all (λ r. is_character side r.character) (repeats_from Outside bs))
       (ap (λ (rs : List Repeat). list_all (λ r. is_character side r.character) rs) split ∙ sound_singly side (take n bs) (repeats_from Outside (drop n bs)))
       (taken_all (λ b. is_character side b) n bs le (λ k l. passes (λ b. is_character side b) (get_or bs k 0) (alphabet side) (alphabet_sound side) (all k l)))
+
+  pub front_count : count_of (repeats_from Outside bs) ≡ n + count_of (repeats_from Outside (drop n bs))
+  front_count =
+      let split = first_plain n bs le (λ k low high. plain_there side (get_or bs k 0) (all k high)) in
+      let size : length (take n bs) ≡ n = length-take-le n bs le in
+      ap count_of split ∙ count_singly (take n bs) (repeats_from Outside (drop n bs)) ∙ ap (λ (m : ℕ). m + count_of (repeats_from Outside (drop n bs))) size
 
 -- how far they reach
 reach_behind : (x a b z : ℕ) → z ≡ max a b → max x z ≡ max (max x a) b

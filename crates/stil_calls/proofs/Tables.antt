@@ -65,14 +65,12 @@ or_skip : (x y : Bool) → x ≡ false → (x || y) ≡ y
 or_skip true y e = absurd (false≢true (sym e))
 or_skip false y e = refl
 
-module _ (chains : List ScanChainDecl) (items : List Item) (loads compares : List (Option (Bor (List ℕ)))) (a : AreGiven chains items loads compares) (r : Bool) (load : r ≡ list_any (λ d. is_unsound Load (option_copied d)) loads) where
-  pub unsound_then : r ≡ true → r ≡ has_unsound chains items
-  unsound_then t =
-      t ∙ sym (or_left (list_any (λ d. is_unsound Load (option_copied d)) loads) (list_any (λ d. is_unsound Compare (option_copied d)) compares) (sym load ∙ t)) ∙ unsound_is chains items loads compares a
+module _ (chains : List ScanChainDecl) (items : List Item) (loads compares : List (Option (Bor (List ℕ)))) (a : AreGiven chains items loads compares) where
+  pub unsound_first : list_any (λ d. is_unsound Load (option_copied d)) loads ≡ true → has_unsound chains items ≡ true
+  unsound_first e = sym (unsound_is chains items loads compares a) ∙ or_left (list_any (λ d. is_unsound Load (option_copied d)) loads) (list_any (λ d. is_unsound Compare (option_copied d)) compares) e
 
-  pub unsound_else : (s : Bool) → r ≡ false → s ≡ list_any (λ d. is_unsound Compare (option_copied d)) compares → s ≡ has_unsound chains items
-  unsound_else s f e =
-      e ∙ sym (or_skip (list_any (λ d. is_unsound Load (option_copied d)) loads) (list_any (λ d. is_unsound Compare (option_copied d)) compares) (sym load ∙ f)) ∙ unsound_is chains items loads compares a
+  pub unsound_rest : list_any (λ d. is_unsound Load (option_copied d)) loads ≡ false → has_unsound chains items ≡ list_any (λ d. is_unsound Compare (option_copied d)) compares
+  unsound_rest e = sym (unsound_is chains items loads compares a) ∙ or_skip (list_any (λ d. is_unsound Load (option_copied d)) loads) (list_any (λ d. is_unsound Compare (option_copied d)) compares) e
 
 -- lengths
 four : (a b c d r : ℕ) → max c d ≡ r → max (max a c) (max b d) ≡ max (max a b) r

@@ -1,12 +1,11 @@
 //! What is wrong with a statement.
-ghost use Rattle.std.specs.Prelude.{◌≡◌, IfOk};
+ghost use Rattle.std.specs.Prelude.{◌≡◌, ◌-◌, ◌^◌, min, IfOk};
+ghost use Rattle.stil_calls.specs.Scans.{shifts_in};
 ghost use Rattle.stil_calls.specs.Faults.{size_kind, kind_of};
 ghost use Rattle.stil_calls.specs.Given.{AreGiven};
 
 use crate::judging::{Judging, by_lengths};
-use crate::scan::{
-    Given, given_to, has_unsound, is_foreign, is_long, is_short, is_vast, shifts_in,
-};
+use crate::scan::{Given, given_to, is_foreign, is_long, is_short, is_vast, shifts_in};
 use crate::twice::gives_twice;
 use base_types::{Kind, NoMemory};
 use std::alloc::Global;
@@ -19,11 +18,12 @@ fn size_kind(
     chains: &[ScanChainDecl],
     items: &[Item],
     given: &Given<'_>,
+    shifts: u64,
 ) -> Option<Kind>
     requires given { AreGiven chains.now items.now given.now.loads.items given.now.compares.items }
+    requires shifts { shifts ≡ min (shifts_in chains.now items.now) (2 ^ 64 - 1) }
     ensures value { result ≡ size_kind judging chains.now items.now }
 {
-    let shifts = shifts_in(chains, items, given);
     if by_lengths(judging) && is_short(chains, items, shifts) {
         return Some(Kind::ShortLoad);
     }
@@ -50,13 +50,13 @@ fn scan_kind(
         return Ok(Some(Kind::PatternSyntax));
     }
     let given = given_to(alloc, chains, items)?;
-    if has_unsound(chains, items, &given) {
+    let Some(shifts) = shifts_in(chains, items, &given) else {
         return Ok(Some(Kind::ScanCharacter));
-    }
+    };
     if is_foreign(chains, items) {
         return Ok(Some(Kind::ForeignData));
     }
-    Ok(size_kind(judging, chains, items, &given))
+    Ok(size_kind(judging, chains, items, &given, shifts))
 }
 
 /// The least kind that holds of a statement and counts.

@@ -1,5 +1,5 @@
 //! The data of a scan call as repeats of characters, of which none is written out.
-ghost use Rattle.std.specs.Prelude.{◌≡◌, ◌∷◌, [], ◌++◌, ◌<◌, ◌≤◌, ◌^◌, ◌-◌, ℕ, true, List, min, replicate, length, take, drop, slice_index, MatchOption, IfSome, IfOk};
+ghost use Rattle.std.specs.Prelude.{◌≡◌, ◌∷◌, [], ◌++◌, ◌<◌, ◌≤◌, ◌+◌, ◌^◌, ◌-◌, ℕ, true, false, List, min, replicate, length, take, drop, slice_index, MatchOption, IfSome, IfOk};
 ghost use Rattle.std.specs.List.{list_all};
 ghost use Rattle.lane_kernels.specs.Kernels.{is_allowed};
 ghost use Rattle.stil_calls.specs.declared.repeats.Repeat.{Repeat as ghost_repeat};
@@ -120,6 +120,7 @@ fn alphabet_len(side: Side, bytes: &[u8]) -> usize
     ensures within { result ≤ length bytes.now }
     ensures sound { list_all (λ r. is_character side r.character) (repeats_of bytes.now) ≡ list_all (λ r. is_character side r.character) (repeats_of (drop result bytes.now)) }
     ensures whole { whole_from Escape.Outside bytes.now ≡ whole_from Escape.Outside (drop result bytes.now) }
+    ensures count { count_of (repeats_of bytes.now) ≡ result + count_of (repeats_of (drop result bytes.now)) }
 {
     before_others(alphabet(side), bytes)
 }
@@ -130,6 +131,7 @@ fn sound_len(side: Side, escape: Escape, bytes: &[u8]) -> usize
     ensures within { result ≤ length bytes.now }
     ensures sound { list_all (λ r. is_character side r.character) (repeats_from escape bytes.now) ≡ list_all (λ r. is_character side r.character) (repeats_from escape (drop result bytes.now)) }
     ensures whole { whole_from escape bytes.now ≡ whole_from escape (drop result bytes.now) }
+    ensures count { count_of (repeats_from escape bytes.now) ≡ result + count_of (repeats_from escape (drop result bytes.now)) }
 {
     match escape {
         Escape::Outside => alphabet_len(side, bytes),
@@ -166,17 +168,18 @@ impl<'t> Repeats<'t> {
         plain
     }
 
-    /// Passes characters of a side that stand for themselves before the next blank, escape or other byte.
+    /// Passes characters of a side that stand for themselves before the next blank, escape or other byte. The answer is how many.
     #[inline(always)]
-    fn pass_sound(&mut self, side: Side)
+    fn pass_sound(&mut self, side: Side) -> usize
         ensures sound { list_all (λ r. is_character side r.character) (repeats_from self.old.escape self.old.bytes.now) ≡ list_all (λ r. is_character side r.character) (repeats_from self.new.escape self.new.bytes.now) }
         ensures whole { whole_from self.old.escape self.old.bytes.now ≡ whole_from self.new.escape self.new.bytes.now }
+        ensures count { count_of (repeats_from self.old.escape self.old.bytes.now) ≡ result + count_of (repeats_from self.new.escape self.new.bytes.now) }
         ensures shorter { length self.new.bytes.now ≤ length self.old.bytes.now }
     {
-        let (_passed, rest) = self
-            .bytes
-            .split_at(sound_len(side, self.escape, self.bytes));
+        let len = sound_len(side, self.escape, self.bytes);
+        let (_passed, rest) = self.bytes.split_at(len);
         self.bytes = rest;
+        len
     }
 
     /// Takes the next repeat.
@@ -200,20 +203,27 @@ impl<'t> Repeats<'t> {
     }
 }
 
-/// Whether data are of a side's alphabet, with whole escapes.
+/// How many characters data stand for, the greatest number where they are more; None where they aren't of a side's alphabet or an escape
+/// isn't whole.
 #[tactic(auto, unfolding(crate::specs::Repeats::whole_from))]
-pub(crate) fn is_sound(side: Side, bytes: &[u8]) -> bool
-    ensures value { result ≡ is_sound side bytes.now }
+pub(crate) fn sound_count(side: Side, bytes: &[u8]) -> Option<u64>
+    ensures value { MatchOption result (is_sound side bytes.now ≡ false)
+        (λ count. (is_sound side bytes.now ≡ true) × (count ≡ min (count_of (repeats_of bytes.now)) (2 ^ 64 - 1))) }
 {
     let mut repeats = Repeats::of(bytes);
-    repeats.pass_sound(side);
+    let mut count = repeats.pass_sound(side) as u64;
     while let Some(repeat) = repeats.next() {
         if !is_character(side, repeat.character) {
-            return false;
+            return None;
         }
-        repeats.pass_sound(side);
+        let passed = repeats.pass_sound(side) as u64;
+        count = count.saturating_add(repeat.times).saturating_add(passed);
     }
-    is_outside(repeats.escape)
+    if is_outside(repeats.escape) {
+        Some(count)
+    } else {
+        None
+    }
 }
 
 /// How many characters data stand for; the greatest number where they are more.

@@ -1,12 +1,12 @@
 //! A scan call beside the chains of the head.
-ghost use Rattle.std.specs.Prelude.{◌≡◌, ◌^◌, ◌-◌, ◌||◌, false, length, map, max, min, nat_lt, option_copied, IfOk};
+ghost use Rattle.std.specs.Prelude.{◌≡◌, ◌^◌, ◌-◌, ◌||◌, false, true, length, map, max, min, nat_lt, option_copied, IfOk, MatchOption};
 ghost use Rattle.std.specs.List.{list_any};
 ghost use Rattle.std.specs.Str.{bytes_eq};
 ghost use Rattle.stil_types.specs.Calls.{most_bits};
 ghost use Rattle.stil_calls.specs.Scans.{has_name, gives_twice, data_for, port, given, is_port, is_foreign, is_unsound, has_unsound, count_in, reach_in, shifts_in, bits_of, is_short, is_long, is_vast};
 ghost use Rattle.stil_calls.specs.Given.{data_of, longest_in, reach_beyond, AreGiven};
 
-use crate::repeats::{Side, count_of, is_sound, reach_of};
+use crate::repeats::{Side, reach_of, sound_count};
 use base_types::NoMemory;
 use std::alloc::Global;
 use stil_syntax::Item;
@@ -158,35 +158,14 @@ pub(crate) fn is_foreign(chains: &[ScanChainDecl], items: &[Item]) -> bool
     false
 }
 
-fn is_unsound(side: Side, given: Option<&[u8]>) -> bool
-    ensures value { result ≡ is_unsound side (option_copied given.entry) }
+/// How many characters a chain is given, at most the greatest number; None where its data are unsound.
+fn sound_count_in(side: Side, given: Option<&[u8]>) -> Option<u64>
+    ensures value { MatchOption result (is_unsound side (option_copied given.entry) ≡ true)
+        (λ count. (is_unsound side (option_copied given.entry) ≡ false) × (count ≡ min (count_in (option_copied given.entry)) (2 ^ 64 - 1))) }
 {
     match given {
-        Some(bytes) => !is_sound(side, bytes),
-        None => false,
-    }
-}
-
-fn has_unsound_on(side: Side, each: &[Option<&[u8]>]) -> bool
-    ensures value { result ≡ list_any (λ given. is_unsound side (option_copied given)) each.now }
-{
-    each.iter().any(|given| is_unsound(side, *given))
-}
-
-/// Whether a chain is given data with another character or escape than their alphabet has.
-pub(crate) fn has_unsound(chains: &[ScanChainDecl], items: &[Item], given: &Given<'_>) -> bool
-    requires given { AreGiven chains.now items.now given.now.loads.items given.now.compares.items }
-    ensures value { result ≡ has_unsound chains.now items.now }
-{
-    has_unsound_on(Side::Load, &given.loads) || has_unsound_on(Side::Compare, &given.compares)
-}
-
-fn count_in(given: Option<&[u8]>) -> u64
-    ensures value { result ≡ min (count_in (option_copied given.entry)) (2 ^ 64 - 1) }
-{
-    match given {
-        Some(bytes) => count_of(bytes),
-        None => 0,
+        Some(bytes) => sound_count(side, bytes),
+        None => Some(0),
     }
 }
 
@@ -199,24 +178,37 @@ fn reach_in(given: Option<&[u8]>) -> u64
     }
 }
 
-fn longest_in(each: &[Option<&[u8]>]) -> u64
-    ensures value { result ≡ min (longest_in (data_of each.now)) (2 ^ 64 - 1) }
+/// The length of the longest string on a side, at most the greatest number; None where some data are unsound.
+fn longest_on(side: Side, each: &[Option<&[u8]>]) -> Option<u64>
+    ensures value { MatchOption result (list_any (λ given. is_unsound side (option_copied given)) each.now ≡ true)
+        (λ longest. (list_any (λ given. is_unsound side (option_copied given)) each.now ≡ false) × (longest ≡ min (longest_in (data_of each.now)) (2 ^ 64 - 1))) }
 {
     let mut longest: u64 = 0;
     let mut at = 0;
     while at < each.len() {
-        longest = longest.max(count_in(each[at]));
+        match sound_count_in(side, each[at]) {
+            Some(count) => longest = longest.max(count),
+            None => return None,
+        }
         at += 1;
     }
-    longest
+    Some(longest)
 }
 
-/// The length of the longest string, at most the greatest number.
-pub(crate) fn shifts_in(chains: &[ScanChainDecl], items: &[Item], given: &Given<'_>) -> u64
+/// The length of the longest string, at most the greatest number; None where a chain is given data with another character or escape than
+/// their alphabet has.
+pub(crate) fn shifts_in(chains: &[ScanChainDecl], items: &[Item], given: &Given<'_>) -> Option<u64>
     requires given { AreGiven chains.now items.now given.now.loads.items given.now.compares.items }
-    ensures value { result ≡ min (shifts_in chains.now items.now) (2 ^ 64 - 1) }
+    ensures value { MatchOption result (has_unsound chains.now items.now ≡ true)
+        (λ shifts. (has_unsound chains.now items.now ≡ false) × (shifts ≡ min (shifts_in chains.now items.now) (2 ^ 64 - 1))) }
 {
-    longest_in(&given.loads).max(longest_in(&given.compares))
+    let Some(loads) = longest_on(Side::Load, &given.loads) else {
+        return None;
+    };
+    let Some(compares) = longest_on(Side::Compare, &given.compares) else {
+        return None;
+    };
+    Some(loads.max(compares))
 }
 
 fn most_bits(chains: &[ScanChainDecl]) -> u32
