@@ -1,5 +1,5 @@
 -- Hashes that are told apart, and of what they are.
-use Rattle.std.specs.Prelude.{◌≡◌, ℕ, ◌-◌, ◌%◌, ◌<◌, ◌≤◌, max, List, length, codes, slice_index, Contains}
+use Rattle.std.specs.Prelude.{◌≡◌, ℕ, ◌-◌, ◌*◌, ◌/◌, ◌%◌, ◌^◌, ◌<◌, ◌≤◌, max, List, length, codes, slice_index, Contains}
 use Rattle.std.specs.Hash.FoldHasher as folding
 use Rattle.def_reader.specs.declared.design.NetPin.{NetPin}
 use Rattle.def_reader.specs.declared.design.NetPin.TheVariants.{Cell, Port}
@@ -19,21 +19,24 @@ abbrev pub pin_hash : NetPin → ℕ
 pin_hash (Cell component pin) = pair_hash component pin
 pin_hash (Port pin) = pair_hash (codes "PIN") pin
 
+-- what stands for a hash
+abbrev pub tag_of : ℕ → ℕ
+tag_of hash = max (hash / 2 ^ 32) 1
+
 -- the first slot that is looked at for a hash
 abbrev pub home_of : List ℕ → ℕ → ℕ
-home_of slots hash = hash % max (length slots - 128) 1
+home_of slots hash = hash % 2 ^ 32 * (length slots - 128) % 2 ^ 64 / 2 ^ 32
 
--- a hash stands in a slot from its first on, and no slot between is empty
-pub record IsIn (slots : List ℕ) (hash : ℕ) : Type 0 where
-  pub some : hash ≡ 0 → ⊥
+-- a tag stands in a slot from its first on, and no slot between is empty
+pub record IsIn (slots : List ℕ) (home tag : ℕ) : Type 0 where
   pub at : ℕ
-  pub from : home_of slots hash ≤ at
-  pub is : slice_index slots at ≡ hash
-  pub full : (k : ℕ) → home_of slots hash ≤ k → k < at → slice_index slots k ≡ 0 → ⊥
+  pub from : home ≤ at
+  pub is : slice_index slots at ≡ tag
+  pub full : (k : ℕ) → home ≤ k → k < at → slice_index slots k ≡ 0 → ⊥
 
 -- a hash was added
 abbrev pub IsHeld : Hashes → ℕ → Type 0
-IsHeld hashes hash = IsIn hashes.slots.items hash
+IsHeld hashes hash = IsIn hashes.slots.items (home_of hashes.slots.items hash) (tag_of hash)
 
 -- a hash is added that wasn't there
 pub record Adds (old new : Hashes) (hash : ℕ) : Type 0 where

@@ -1,6 +1,6 @@
 //! Hashes that are told apart.
 ghost use Rattle.std.specs.Prelude.{◌≡◌, true};
-ghost use Rattle.def_reader.specs.Hashes.{home_of, name_hash, pair_hash, pin_hash, Adds};
+ghost use Rattle.def_reader.specs.Hashes.{tag_of, home_of, name_hash, pair_hash, pin_hash, Adds};
 
 use crate::design::NetPin;
 use base_types::NoMemory;
@@ -11,11 +11,20 @@ use std::hash::{FoldHasher, Hasher};
 // full ones don't come by chance.
 const RUN: usize = 128;
 
-/// Hashes that are told apart: each stands in the first slot that was empty, from one on that the hash names. Two of one hash are never
-/// both added; some that are apart may not be added either.
+const HALF: u64 = 0x1_0000_0000;
+
+/// Hashes that are told apart, each by one half: it stands in the first slot that was empty, from one on that the other half names. Two
+/// of one hash are never both added; some that are apart may not be added either.
 #[derive(Drop)]
 pub(crate) struct Hashes {
-    slots: Vec<u64>,
+    slots: Vec<u32>,
+}
+
+/// What stands for a hash.
+fn tag_of(hash: u64) -> u32
+    ensures value { result ≡ tag_of hash }
+{
+    ((hash / HALF) as u32).max(1)
 }
 
 impl Hashes {
@@ -31,26 +40,24 @@ impl Hashes {
     fn home(&self, hash: u64) -> usize
         ensures value { result ≡ home_of self.now.slots.items hash }
     {
-        let homes = self.slots.len().saturating_sub(RUN).max(1);
-        (hash % homes as u64) as usize
+        let homes = self.slots.len().saturating_sub(RUN) as u64;
+        ((hash % HALF).wrapping_mul(homes) / HALF) as usize
     }
 
     /// Adds a hash, and says whether it did. It didn't stand there then.
     pub(crate) fn add(&mut self, hash: u64) -> bool
         ensures added { result ≡ true → Adds self.old self.new hash }
     {
-        if hash == 0 {
-            return false;
-        }
+        let tag = tag_of(hash);
         let home = self.home(hash);
         let end = home.saturating_add(RUN).min(self.slots.len());
         for at in home..end {
             let slot = self.slots[at];
             if slot == 0 {
-                self.slots[at] = hash;
+                self.slots[at] = tag;
                 return true;
             }
-            if slot == hash {
+            if slot == tag {
                 return false;
             }
         }
