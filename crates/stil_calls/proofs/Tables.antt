@@ -1,16 +1,19 @@
 -- What is given to the chains, in two lists, is what each of them is given.
-use Rattle.std.proofs.Common.{◌≡◌, ◌<◌, ℕ, zero, suc, ◌-◌, ◌^◌, Bool, true, false, ◌||◌, nat_lt, cond, min, max, List, [], ◌∷◌, length, map, get_or, Option, Some, Bor, refl, sym, ap, ◌∙◌, arith}
+use Rattle.std.proofs.Common.{◌≡◌, ◌<◌, ◌≤◌, ℕ, zero, suc, ◌+◌, ◌-◌, ◌^◌, Bool, true, false, ◌||◌, nat_lt, cond, min, max, List, [], ◌∷◌, length, map, get_or, Option, Some, None, Bor, refl, sym, ap, ◌∙◌, arith}
 use Rattle.std.specs.Prelude.{option_copied}
 use Rattle.std.specs.List.{list_any}
 use Rattle.std.specs.Str.{bytes_eq}
 use Rattle.std.proofs.lemmas.List.{length-map}
-use Rattle.std.proofs.lemmas.Bool.{or_parts, or_left, false≢true}
+use Rattle.std.proofs.lemmas.Bool.{or_parts, or_left, false≢true, false_from_ne_true, ltb-true}
 use Rattle.std.proofs.lemmas.Slice.Eq.{bytes_eq-Decides}
 use Rattle.std.proofs.lemmas.List.Folds.{list_any_at}
 use Rattle.stil_types.specs.declared.head.ScanChainDecl.{ScanChainDecl}
 use Rattle.stil_syntax.specs.declared.item.Item.{Item}
 use Rattle.stil_calls.specs.declared.repeats.Side.{Side}
 use Rattle.stil_calls.specs.declared.repeats.Side.TheVariants.{Load, Compare}
+use Rattle.stil_types.specs.Calls.{is_expectation}
+use Rattle.stil_calls.specs.declared.repeats.Repeat.{Repeat}
+use Rattle.stil_calls.specs.Repeats.{repeats_of, count_of, reach_from}
 use Rattle.stil_calls.specs.Scans.{has_name, gives_twice, data_for, given, is_unsound, has_unsound, count_in, reach_in, shifts_in, is_long, written_in, strings_of}
 use Rattle.stil_calls.specs.Given.{data_of, longest_in, reach_beyond, AreGiven}
 
@@ -93,6 +96,31 @@ shifts_are chains items loads compares x y a e f =
     (longest_both chains items)
 
 -- compares that reach too far
+within_by : (t : Bool) (before times more all : ℕ) → more ≤ before + times + all → max (cond t (before + times) 0) more ≤ before + (times + all)
+within_by true before times more all le = omega arith
+within_by false before times more all le = omega arith
+
+reach_within : (before : ℕ) (rs : List Repeat) → reach_from before rs ≤ before + count_of rs
+reach_within before [] = omega arith
+reach_within before (r ∷ rs) = within_by (is_expectation r.character) before r.times (reach_from (before + r.times) rs) (count_of rs) (reach_within (before + r.times) rs)
+
+given_within : (d : Option (List ℕ)) → reach_in d ≤ count_in d
+given_within None = omega arith
+given_within (Some bytes) = omega (arith, reach_within 0 (repeats_of bytes))
+
+pub not_beyond : (x bits most : ℕ) (d : Option (List ℕ)) → x ≡ bits → bits < 2 ^ 32 → min (count_in d) (2 ^ 64 - 1) ≤ most → most ≤ x → nat_lt x most ≡ nat_lt bits (reach_in d)
+not_beyond x bits most d same small le least =
+    let no_more : nat_lt x most ≡ false = false_from_ne_true (nat_lt x most) (λ e. absurd (omega (arith, ltb-true x most e))) in
+    let within : nat_lt bits (reach_in d) ≡ false = false_from_ne_true (nat_lt bits (reach_in d)) (λ e. absurd (omega (arith, given_within d, ltb-true bits (reach_in d) e))) in
+    no_more ∙ sym within
+
+pub longest_within : (chains : List ScanChainDecl) (items : List Item) (loads compares : List (Option (Bor (List ℕ)))) (shifts : ℕ) → AreGiven chains items loads compares → shifts ≡ min (shifts_in chains items) (2 ^ 64 - 1)
+    → min (longest_in (data_of compares)) (2 ^ 64 - 1) ≤ shifts
+longest_within chains items loads compares shifts a e =
+    let both = longest_both chains items in
+    let same : longest_in (data_of compares) ≡ longest_in (map (given Compare items) chains) = ap longest_in a.compares in
+    omega (arith, both, same, e)
+
 beyond_each : (chains : List ScanChainDecl) (items : List Item) → reach_beyond chains (map (given Compare items) chains) ≡ is_long chains items
 beyond_each [] items = refl
 beyond_each (c ∷ cs) items = ap (λ (b : Bool). nat_lt c.length (reach_in (given Compare items c)) || b) (beyond_each cs items)

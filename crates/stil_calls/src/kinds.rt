@@ -27,7 +27,7 @@ fn size_kind(
     if by_lengths(judging) && is_short(chains, items, shifts) {
         return Some(Kind::ShortLoad);
     }
-    if by_lengths(judging) && is_long(chains, items, given) {
+    if by_lengths(judging) && is_long(chains, items, given, shifts) {
         return Some(Kind::LongCompare);
     }
     if is_vast(chains, items, shifts) {

@@ -1,5 +1,5 @@
 //! A scan call beside the chains of the head.
-ghost use Rattle.std.specs.Prelude.{◌≡◌, ◌^◌, ◌-◌, ◌||◌, false, true, length, map, max, min, nat_lt, option_copied, IfOk, MatchOption};
+ghost use Rattle.std.specs.Prelude.{◌≡◌, ◌≤◌, ◌^◌, ◌-◌, ◌||◌, false, true, length, map, max, min, nat_lt, option_copied, IfOk, MatchOption};
 ghost use Rattle.std.specs.List.{list_any};
 ghost use Rattle.std.specs.Str.{bytes_eq};
 ghost use Rattle.stil_types.specs.Calls.{most_bits};
@@ -239,13 +239,23 @@ fn is_beyond(chain: &ScanChainDecl, given: Option<&[u8]>) -> bool
     u64::from(bits) < reach_in(given)
 }
 
-fn reach_beyond(chains: &[ScanChainDecl], each: &[Option<&[u8]>]) -> bool
+/// The same for data of at most so many characters, which mostly tell without a look at them.
+fn is_beyond_of(chain: &ScanChainDecl, given: Option<&[u8]>, most: u64) -> bool
+    requires most { min (count_in (option_copied given)) (2 ^ 64 - 1) ≤ most }
+    ensures value { result ≡ nat_lt chain.now.length (reach_in (option_copied given.entry)) }
+{
+    let bits = chain.length;
+    u64::from(bits) < most && is_beyond(chain, given)
+}
+
+fn reach_beyond(chains: &[ScanChainDecl], each: &[Option<&[u8]>], most: u64) -> bool
     requires lengths { length each.now ≡ length chains.now }
+    requires most { min (longest_in (data_of each.now)) (2 ^ 64 - 1) ≤ most }
     ensures value { result ≡ reach_beyond chains.now (data_of each.now) }
 {
     let mut at = 0;
     while at < chains.len() {
-        if is_beyond(&chains[at], each[at]) {
+        if is_beyond_of(&chains[at], each[at], most) {
             return true;
         }
         at += 1;
@@ -253,13 +263,19 @@ fn reach_beyond(chains: &[ScanChainDecl], each: &[Option<&[u8]>]) -> bool
     false
 }
 
-/// Whether an `L` or `H` stands at an index that isn't below its chain's bits.
-#[tactic(auto, using(crate::proofs::Tables::beyond_is, crate::proofs::Tables::same_length))]
-pub(crate) fn is_long(chains: &[ScanChainDecl], items: &[Item], given: &Given<'_>) -> bool
+/// Whether an `L` or `H` of a call that shifts so often stands at an index that isn't below its chain's bits.
+#[tactic(auto, using(crate::proofs::Tables::beyond_is, crate::proofs::Tables::same_length, crate::proofs::Tables::longest_within))]
+pub(crate) fn is_long(
+    chains: &[ScanChainDecl],
+    items: &[Item],
+    given: &Given<'_>,
+    shifts: u64,
+) -> bool
     requires given { AreGiven chains.now items.now given.now.loads.items given.now.compares.items }
+    requires shifts { shifts ≡ min (shifts_in chains.now items.now) (2 ^ 64 - 1) }
     ensures value { result ≡ is_long chains.now items.now }
 {
-    reach_beyond(chains, &given.compares)
+    reach_beyond(chains, &given.compares, shifts)
 }
 
 /// Whether a call that shifts so often has a string of more characters than are taken.
