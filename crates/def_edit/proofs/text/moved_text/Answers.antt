@@ -5,7 +5,7 @@ use Rattle.def_edit.proofs.TextFacts.{own_nets, has_section}
 use Rattle.def_edit.proofs.Written.{is_moved_ok, rising_of, many_of, denoted_ok, erased_ok}
 use Rattle.def_edit.proofs.text.moved_text.Goals as goal
 
-pub read_without_components-requires-clause-read : goal.read_without_components-text-requires-clause-read
+pub read_without_components-requires-clause-read : goal.read_without_components-requires-clause-read
 read_without_components-requires-clause-read c = (c.requires.read.statements, c.requires.read.reads)
 
 pub written-requires-clause-long : goal.written-requires-clause-long
