@@ -21,7 +21,7 @@ use base_types::{Name, NoMemory, Span, Text};
 use cell_table::CellTable;
 use def_layout::section_text;
 use def_reader::Design;
-use def_syntax::{Chain, DesignText, Located, Section, SectionKind, read_design_text};
+use def_syntax::{Chain, DesignText, Located, Section, SectionKind, read_without_components};
 use splice::{Edit, spliced};
 use std::alloc::Global;
 
@@ -179,8 +179,6 @@ pub fn moved_text(
     // nets of free ports' design pins and the chains both texts are the same.
     ensures erased { (e : Erasing) → ErasesMoves e design.now.nets moves.now → IfOk result (λ out. AreErasedAlike e bytes.now out.text) }
 {
-    let Ok(text) = read_design_text(alloc, bytes) else {
-        return Err(NoMemory);
-    };
+    let text = read_without_components(alloc, bytes)?;
     written(alloc, bytes, design, moves, chains, &text)
 }

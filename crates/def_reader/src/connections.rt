@@ -63,7 +63,7 @@ impl<'a> SeenPins<'a> {
 }
 
 /// How many connections nets have; of more than a `usize` holds, the greatest of them.
-pub fn count_connections(nets: &[Net]) -> usize
+fn count_connections(nets: &[Net]) -> usize
     ensures value { result ≡ min (length (connection_rows nets.now)) (2 ^ 64 - 1) }
 {
     let mut count: usize = 0;

@@ -27,7 +27,6 @@ mod side;
 
 pub use agreement::agree;
 pub use by_name::add_place;
-pub use connections::count_connections;
 pub use design::{
     Component, Design, DesignPin, Element, ElementList, EndText, Net, NetPin, ScanChainText,
 };

@@ -29,7 +29,7 @@ cut_of [] = IsOpen tt
 cut_of (s ∷ ss) = more_cut s ss (is_end (codes "DESIGN") s) refl (cut_of ss)
 
 -- the statements of a body, none of which is END DESIGN
-pub read_body : List ℕ → Option ℕ → Found → List (List Token) → Result Found ℕ
+unfoldable pub read_body : List ℕ → Option ℕ → Found → List (List Token) → Result Found ℕ
 read_body text unclosed found [] = Ok found
 read_body text unclosed found (s ∷ ss) = or_place (read_turn text unclosed found s) (start_of s) (λ next. read_body text unclosed next ss)
 

@@ -1,7 +1,8 @@
 -- What is read of a text is its value and no other, or its first fault.
-use Rattle.std.proofs.Common.{◌≡◌, ◌≤◌, ◌==◌, ℕ, Bool, true, false, if◌then◌else◌, List, [], ◌∷◌, ◌++◌, Option, Some, None, Result, Ok, Err, refl, sym, ap, ◌∙◌, subst, append-nil, arith, codes}
+use Rattle.std.proofs.Common.{◌≡◌, ◌≤◌, ◌==◌, ℕ, Bool, true, false, if◌then◌else◌, List, [], ◌∷◌, ◌++◌, Option, Some, None, is_some, option_map, Result, Ok, Err, refl, sym, ap, ◌∙◌, subst, append-nil, arith, codes}
 use Rattle.std.specs.List.{flat_map, list_any, AllByRecursion as Each}
 use Rattle.std.proofs.lemmas.Bool.{eqb-true}
+use Rattle.std.proofs.lemmas.Option.{option_and_then_some}
 use Rattle.base_types.specs.declared.fault.ReadFault.{ReadFault}
 use Rattle.base_types.proofs.TruthValues.{not_both}
 use Rattle.base_types.specs.declared.fault.ReadFault.TheVariants as faults
@@ -10,18 +11,21 @@ use Rattle.token_forms.specs.Parsing.{◌>>=◌}
 use Rattle.def_syntax.specs.Grammar.{units, component, design_pin, net, chain}
 use Rattle.def_syntax.specs.Frames.{is_end, Block, Begun, Frame, IsFrame, statements_in, outside, within, start_of}
 use Rattle.def_syntax.specs.Designs.{statements_of, NoneCloses, IsBody, AreLocated, HasNoForm, IsOnly, section_in, IsDesignText, StandsBehind, StandsAt, NoEnd, NoUnits, Unclosed, NoHead, NoForm, Second, IsExactDesign}
-use Rattle.def_syntax.specs.Reading.{fresh_outline, outline_from, unclosed_of, is_unclosed, fresh_found, read_from, or_place, with_design, read_outlined, read_design, Reads}
+use Rattle.def_syntax.specs.AtOnce.{without_components, closed_design, read_wanted, read_at_once}
+use Rattle.def_syntax.specs.Reading.{design_of, fresh_outline, outline_from, unclosed_of, is_unclosed, fresh_found, read_from, or_place, with_design, read_outlined, read_design, Reads}
 use Rattle.def_syntax.specs.declared.frame.SectionKind.{SectionKind}
 use Rattle.def_syntax.specs.declared.frame.SectionKind.TheVariants.{Components, Pins, Nets, ScanChains}
 use Rattle.def_syntax.specs.declared.units.Units.{Units}
 use Rattle.def_syntax.specs.declared.outline.Outline.{Outline}
 use Rattle.def_syntax.specs.declared.design.Located.{Located}
 use Rattle.def_syntax.specs.declared.design.DesignText.{DesignText}
+use Rattle.def_syntax.specs.declared.found.Opened.{Opened}
 use Rattle.def_syntax.specs.declared.found.Found.{Found}
 use Rattle.def_syntax.proofs.Lawful.{component_statement, pin_statement, net_statement, chain_statement}
 use Rattle.def_syntax.proofs.FrameLaws.{steps, no_blocks, frame_of, one_frame, steps_append}
-use Rattle.def_syntax.proofs.ReadTurns.{FoundIs, TurnFault, Head, Left, Inside, Again, UnitsAre, inside_of}
+use Rattle.def_syntax.proofs.ReadTurns.{FoundIs, TurnFault, Head, Left, Inside, Again, UnitsAre, opened_of, inside_of}
 use Rattle.def_syntax.proofs.Designs.{Cut, IsOpen, IsCut, cut_of, read_body, body_read, outlines, body_outline, open_outline, OutlineIs, outlines_are, fresh_is, place_of_begun, unclosed_is, is_units, no_units, some_units, Rising, Ends, AtEnd, AtStop, NoEarlier, ends_of, each_at, no_earlier}
+use Rattle.def_syntax.proofs.AtOnce.{spared, wanted_open, wanted_body, spared_body}
 use Rattle.def_syntax.proofs.Places.{rising_statements, rising_front}
 use Rattle.def_syntax.proofs.Sole.{same_cut, same_located, only_one, Good, good_design, good_before, no_fault}
 
@@ -241,6 +245,73 @@ module _ (text : List ℕ) (body behind : List (List Token)) (end : List Token) 
   closed_text =
       subst (λ (o : Option Outline). ExactPlace text (read_outlined text o)) (sym (ap (outline_from fresh_outline) is ∙ body_outline fresh_outline body behind end none ends)) (outlined o.units refl)
 
+  outline_read : read_outlined text (outline_from fresh_outline (statements_of text)) ≡ (if o.units then with_design (read_from text (unclosed_of o) fresh_found (statements_of text)) else Err 0)
+  unfolding o
+  outline_read = ap (read_outlined text) (ap (outline_from fresh_outline) is ∙ body_outline fresh_outline body behind end none ends)
+
+  -- what is read in one pass
+  module _ (f : Found) (read : read_body text None fresh_found body ≡ Ok f) where
+    ended : (r : Result Found ℕ) → r ≡ Ok f → Ends text None no_blocks body r → FoundIs text (g text body b).blocks (g text body b).begun f
+    unfolding g
+    ended r e (AtEnd x h) = let same : x ≡ f = cc in subst (FoundIs text (steps no_blocks body).blocks (steps no_blocks body).begun) same h
+    ended r e (AtStop front rest s at fault) = absurd cc
+
+    found_is : FoundIs text (g text body b).blocks (g text body b).begun f
+    found_is = ended (read_body text None fresh_found body) read (ends_of text None no_blocks fresh_found body (fresh_found_is text))
+
+    has_units : (x : Located Units) → f.units ≡ Some x → (u : Bool) → o.units ≡ u → u ≡ true
+    has_units x same true e = refl
+    has_units x same false e =
+        let none = no_units (outside (g text body b).blocks) (sym found_outline.units ∙ e) in
+        let only = subst (UnitsAre text (outside (g text body b).blocks)) same found_is.units in
+        absurd (each_at (HasNoForm units) only.front only.behind only.statement (subst (Each (HasNoForm units)) only.is none) x.statement only.located.spelled)
+
+    closes : (h : Option Begun) → opened_of text h ≡ None → h ≡ None
+    closes None e = refl
+    closes (Some c) e = absurd cc
+
+    design_read : (d : DesignText) → f.section ≡ None → design_of f ≡ Some d → read_outlined text (outline_from fresh_outline (statements_of text)) ≡ Ok d
+    unfolding unclosed
+    design_read d closed e =
+        let at_none = ap place_of_begun (closes (g text body b).begun (sym found_is.section ∙ closed)) in
+        let same = same_read ∙ ap (λ (u : Option ℕ). read_body text u fresh_found body) at_none ∙ read in
+        option_and_then_some _ f.units _ e (λ x u rest.
+        outline_read ∙ ap (λ (u : Bool). if u then with_design (read_from text (unclosed_of o) fresh_found (statements_of text)) else Err 0) (has_units x u o.units refl) ∙ ap with_design same
+        ∙ ap (λ (q : Option DesignText). or_place q 0 (λ (d : DesignText). Ok d)) e)
+
+    closed_read : (d : DesignText) (s : Option Opened) → f.section ≡ s → (if is_some s then None else design_of f) ≡ Some d → read_outlined text (outline_from fresh_outline (statements_of text)) ≡ Ok d
+    closed_read d None same e = design_read d same e
+    closed_read d (Some p) same e = absurd cc
+
+    spared_units : (t : DesignText) (u : Option (Located Units))
+        → (u >>= λ units. Some (record { units = units; components = f.components; pins = f.pins; nets = f.nets; chains = f.chains; sections = f.sections })) ≡ Some t
+        → (u >>= λ units. Some (record { units = units; components = []; pins = f.pins; nets = f.nets; chains = f.chains; sections = f.sections })) ≡ Some (without_components t)
+    spared_units t None e = absurd cc
+    spared_units t (Some x) e = ap (option_map without_components) e
+
+    spared_read : (t : DesignText) → f.section ≡ None → design_of f ≡ Some t → (read_wanted false text fresh_found (statements_of text) >>= closed_design) ≡ Some (without_components t)
+    spared_read t closed e =
+        ap (λ (q : Option Found). q >>= closed_design) (ap (read_wanted false text fresh_found) is ∙ spared_body text fresh_found f body behind end none ends read)
+        ∙ ap (λ (s : Option Opened). if is_some s then None else design_of (spared f)) closed ∙ spared_units t f.units e
+
+  of_place : (t : DesignText) (q : Option DesignText) → or_place q 0 (λ (d : DesignText). Ok d) ≡ Ok t → q ≡ Some t
+  of_place t None e = absurd cc
+  of_place t (Some d) e = let same : d ≡ t = cc in ap Some same
+
+  of_result : (t : DesignText) → o.units ≡ true → (r : Result Found ℕ) → read_body text (unclosed text body b) fresh_found body ≡ r → with_design r ≡ Ok t
+      → (read_wanted false text fresh_found (statements_of text) >>= closed_design) ≡ Some (without_components t)
+  unfolding unclosed
+  of_result t has (Err at) read e = absurd cc
+  of_result t has (Ok f) read e =
+      let none_begun = none_open text body b (sym found_outline.units ∙ has) f read (g text body b).begun refl in
+      let read_so = sym (ap (λ (u : Option ℕ). read_body text u fresh_found body) (ap place_of_begun none_begun)) ∙ read in
+      spared_read f read_so t ((found_is f read_so).section ∙ ap (opened_of text) none_begun) (of_place t (design_of f) e)
+
+  of_outline : (t : DesignText) (u : Bool) → o.units ≡ u → (if u then with_design (read_from text (unclosed_of o) fresh_found (statements_of text)) else Err 0) ≡ Ok t
+      → (read_wanted false text fresh_found (statements_of text) >>= closed_design) ≡ Some (without_components t)
+  of_outline t false has e = absurd cc
+  of_outline t true has e = of_result t has (read_body text (unclosed text body b) fresh_found body) refl (sym (ap with_design same_read) ∙ e)
+
 exact_place : (text : List ℕ) → ExactPlace text (read_design text)
 unfolding read_design
 exact_place text = decide (cut_of (statements_of text))
@@ -253,3 +324,30 @@ pub exact_design : (text : List ℕ) (result : Result DesignText ReadFault) → 
 exact_design text (Ok d) e = subst (ExactPlace text) e (exact_place text)
 exact_design text (Err (faults.Fault f)) e = let p = subst (ExactPlace text) e.1 (exact_place text) in (record { at = e.0; stands = p.0; least = p.1; is = e.2 }, p.2)
 exact_design text (Err faults.NoMemory) e = tt
+
+-- what is read in one pass is what the text is read as
+pub at_once_is : (text : List ℕ) (d : DesignText) → read_at_once true text ≡ Some d → read_design text ≡ Ok d
+unfolding read_at_once read_design
+at_once_is text d e = option_and_then_some _ (read_wanted true text fresh_found (statements_of text)) _ e (λ f read closed. decide f read closed (cut_of (statements_of text)))
+  where
+    decide : (f : Found) → read_wanted true text fresh_found (statements_of text) ≡ Some f → closed_design f ≡ Some d → Cut (statements_of text) → read_outlined text (outline_from fresh_outline (statements_of text)) ≡ Ok d
+    decide f read closed (IsOpen none) = let nothing = wanted_open true text fresh_found (statements_of text) none in absurd cc
+    decide f read closed (IsCut body behind end is ends none) =
+        closed_read text body behind end is ends none f (wanted_body text fresh_found f body behind end none ends (sym (ap (read_wanted true text fresh_found) is) ∙ read)) d f.section refl closed
+
+-- and so without its components
+pub without_is : (text : List ℕ) (t : DesignText) → IsDesignText text t → read_at_once false text ≡ Some (without_components t)
+unfolding read_at_once read_design
+without_is text t h = decide (cut_of (statements_of text))
+  where
+    sole : (r : Result DesignText ℕ) → ExactPlace text r → r ≡ Ok t
+    sole (Ok d) p = ap Ok (sym (p.1 t h))
+    sole (Err at) p = absurd (p.2 t h)
+
+    read : read_outlined text (outline_from fresh_outline (statements_of text)) ≡ Ok t
+    read = sole (read_outlined text (outline_from fresh_outline (statements_of text))) (exact_place text)
+
+    decide : Cut (statements_of text) → (read_wanted false text fresh_found (statements_of text) >>= closed_design) ≡ Some (without_components t)
+    decide (IsOpen none) = let outlined = open_outline fresh_outline (statements_of text) none in let nothing : read_outlined text None ≡ Ok t = sym (ap (read_outlined text) outlined) ∙ read in absurd cc
+    decide (IsCut body behind end is ends none) =
+        of_outline text body behind end is ends none t (o text body behind end is ends none).units refl (sym (outline_read text body behind end is ends none) ∙ read)

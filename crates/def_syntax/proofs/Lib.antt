@@ -1,3 +1,5 @@
+pub mod AtOnce
+pub mod Cuts
 pub mod Designs
 pub mod ExactDesigns
 pub mod Examples

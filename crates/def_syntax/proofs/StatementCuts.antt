@@ -1,34 +1,10 @@
--- Statements taken one by one, and what is read at each.
-use Rattle.std.proofs.Common.{◌≡◌, ◌<◌, ◌≤◌, ℕ, zero, suc, true, false, List, [], ◌∷◌, length, take, drop, Option, Some, None, Ok, Err, refl, ap, arith, codes}
-use Rattle.base_types.specs.declared.span.Span.{Span}
-use Rattle.token_forms.specs.Tokens.{Token, token_of, tokens_of}
-use Rattle.def_tokens.specs.DefStatements.{statement_len, statements_within, def_statements}
-use Rattle.def_tokens.proofs.DefCuts.{first_law}
+-- What is read, statement by statement.
+use Rattle.std.proofs.Common.{◌≡◌, ℕ, true, false, List, [], ◌∷◌, Option, Some, None, Ok, Err, refl, codes}
+use Rattle.token_forms.specs.Tokens.{Token}
 use Rattle.def_syntax.specs.Frames.{is_end, start_of}
 use Rattle.def_syntax.specs.Reading.{outline_turn, outline_from, read_turn, read_from}
 use Rattle.def_syntax.specs.declared.outline.Outline.{Outline}
 use Rattle.def_syntax.specs.declared.found.Found.{Found}
-
-pub none_left : (ts : List Token) (n : ℕ) → (0 < length ts → 0 < n) → n ≡ 0 → def_statements ts ≡ []
-unfolding statements_within
-none_left [] n some is = refl
-none_left (t ∷ ts) n some is = let k = some (omega arith) in absurd (omega arith)
-
-take_spans : (text : List ℕ) (n : ℕ) (ss : List Span) → tokens_of text (take n ss) ≡ take n (tokens_of text ss)
-take_spans text zero ss = refl
-take_spans text (suc n) [] = refl
-take_spans text (suc n) (s ∷ ss) = ap (λ (l : List Token). token_of text s ∷ l) (take_spans text n ss)
-
-drop_spans : (text : List ℕ) (n : ℕ) (ss : List Span) → tokens_of text (drop n ss) ≡ drop n (tokens_of text ss)
-drop_spans text zero ss = refl
-drop_spans text (suc n) [] = refl
-drop_spans text (suc n) (s ∷ ss) = drop_spans text n ss
-
-pub takes_one : (text : List ℕ) (ss front behind : List Span) (n : ℕ) → n ≡ statement_len (tokens_of text ss) → 0 < n → n ≤ length (tokens_of text ss) → front ≡ take n ss → behind ≡ drop n ss
-    → def_statements (tokens_of text ss) ≡ tokens_of text front ∷ def_statements (tokens_of text behind)
-takes_one text [] front behind n len some within is left = absurd (omega arith)
-takes_one text (s ∷ ss) front behind n len some within is left =
-    rw (is, left, take_spans text n (s ∷ ss), drop_spans text n (s ∷ ss), len) (first_law (token_of text s) (tokens_of text ss))
 
 -- the outline, statement by statement
 pub outline_ends : (o : Outline) (s : List Token) (ss rest : List (List Token)) → ss ≡ s ∷ rest → is_end (codes "DESIGN") s ≡ true → Some o ≡ outline_from o ss

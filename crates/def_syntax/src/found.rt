@@ -5,6 +5,7 @@ ghost use Rattle.token_forms.specs.Parsing.{GivesAll};
 ghost use Rattle.def_syntax.specs.Reading.{Turns, statement_of, located, is_unclosed, read_units, read_head, read_outside, read_inside, closed_by, read_turn, fresh_found, design_of};
 ghost use Rattle.def_syntax.specs.Grammar.{units};
 ghost use Rattle.def_syntax.specs.Frames.{opened_by, is_end};
+ghost use Rattle.def_syntax.specs.AtOnce.{is_component, wanted_turn, closed_design};
 
 use crate::chain::Chain;
 use crate::component::Component;
@@ -98,6 +99,16 @@ impl<'a> Found<'a> {
             chains,
             sections,
         })
+    }
+
+    /// What is read, where UNITS is and no section is open.
+    pub(crate) fn into_closed(self) -> Option<DesignText<'a>>
+        ensures value { result ≡ closed_design self.entry }
+    {
+        if self.section.is_some() {
+            return None;
+        }
+        self.into_design()
     }
 
     /// Reads a statement outside sections: UNITS stands once.
@@ -217,5 +228,35 @@ impl<'a> Found<'a> {
                 None => self.read_units(alloc, lines, tokens),
             },
         }
+    }
+
+    /// Whether a statement is that of a component.
+    fn is_component(&self, tokens: &Tokens<'_, '_>) -> bool
+        ensures value { result ≡ is_component self.now.section tokens.now }
+    {
+        match self.section {
+            Some(opened) => match opened.kind {
+                SectionKind::Components => !is_end(b"COMPONENTS", tokens),
+                SectionKind::Pins | SectionKind::Nets | SectionKind::ScanChains => false,
+            },
+            None => false,
+        }
+    }
+
+    /// Reads the next statement of a text whose sections are closed, that of a component only where these are wanted.
+    pub(crate) fn wanted_turn(
+        &mut self,
+        alloc: Global,
+        lines: &mut Lines<'_>,
+        components: bool,
+        tokens: Tokens<'a, '_>,
+    ) -> Result<(), Stop>
+        ensures value { Turns result self.new (wanted_turn components lines.old self.old tokens.entry) }
+        ensures same { lines.new ≡ lines.old }
+    {
+        if !components && self.is_component(&tokens) {
+            return Ok(());
+        }
+        self.turn(alloc, lines, None, tokens)
     }
 }

@@ -9,6 +9,7 @@
 //! sections and other options pass unread; `NetParts` reads a net once more with the place of each of its options.
 #![tactic(auto)]
 
+mod at_once;
 mod chain;
 mod component;
 mod design;
@@ -28,6 +29,7 @@ mod statements;
 mod units;
 mod words;
 
+pub use at_once::read_without_components;
 pub use chain::{Chain, CommonPins, Partition, Terminal};
 pub use component::Component;
 pub use design::{DesignText, Located, Section};

@@ -1,15 +1,16 @@
 //! What a text's statements say of its sections by their first tokens, before any section is read.
-ghost use Rattle.std.specs.Prelude.{◌≡◌, IfOk, is_some, OnOk};
-ghost use Rattle.def_tokens.specs.DefStatements.{def_statements};
+ghost use Rattle.std.specs.Prelude.{◌≡◌, ◌<◌, ◌^◌, length, IfOk, is_some, OnOk};
+ghost use Rattle.def_syntax.specs.Designs.{statements_of};
 ghost use Rattle.def_syntax.specs.Grammar.{units};
 ghost use Rattle.def_syntax.specs.Reading.{statement_of, outline_turn, outline_from, fresh_outline, unclosed_of};
 
 use crate::frame::{SectionKind, is_end, opened_by, start_of, word_of};
-use crate::statements::{Statements, statement_of};
+use crate::statements::{statement_of, take_statement};
 use crate::units::Units;
 use base_types::{NoMemory, Stop};
+use def_tokens::Def;
 use std::alloc::Global;
-use token_forms::Tokens;
+use token_forms::{Source, Tokens};
 
 /// The section that is open, where the last one was opened, and whether UNITS stands outside sections.
 #[derive(Drop)]
@@ -64,19 +65,20 @@ impl Outline {
     }
 }
 
-/// The outline of the statements up to `END DESIGN`, or nothing where there is none.
-pub(crate) fn find_outline(
-    alloc: Global,
-    mut statements: Statements<'_, '_>,
-) -> Result<Option<Outline>, NoMemory>
-    ensures value { IfOk result (λ found. found ≡ outline_from fresh_outline (def_statements statements.entry)) }
+/// The outline of a text's statements up to `END DESIGN`, or nothing where there is none.
+pub(crate) fn find_outline(alloc: Global, text: &[u8]) -> Result<Option<Outline>, NoMemory>
+    requires size { length text.now < 2 ^ 32 }
+    ensures value { IfOk result (λ found. found ≡ outline_from fresh_outline (statements_of text.now)) }
 {
+    let mut source: Source<'_, Def> = Source::of(text);
+    let mut spans = Vec::new(alloc);
     let mut outline = Outline {
         section: None,
         start: 0,
         units: false,
     };
-    while let Some(tokens) = statements.next() {
+    while take_statement(&mut source, &mut spans)? {
+        let tokens = source.tokens(&spans);
         if is_end(b"DESIGN", &tokens) {
             return Ok(Some(outline));
         }

@@ -5,19 +5,19 @@ ghost use Rattle.base_types.specs.Faults.{at_line};
 ghost use Rattle.base_types.specs.declared.fault.FileKind.TheVariants.{Def as def_file};
 ghost use Rattle.base_types.specs.declared.fault.ReadFault.TheVariants.{Fault as fault};
 ghost use Rattle.base_types.specs.declared.kind.Kind.TheVariants.{DefSyntax as def_syntax};
-ghost use Rattle.token_forms.specs.Tokens.{AreSpansOf, tokens_of};
-ghost use Rattle.def_tokens.specs.DefStatements.{def_statements};
 ghost use Rattle.def_syntax.specs.Designs.{IsExactDesign, statements_of};
 ghost use Rattle.def_syntax.specs.Reading.{Reads, read_from, read_design, fresh_found, with_design};
 
+use crate::at_once::read_at_once;
 use crate::design::DesignText;
 use crate::found::Found;
 use crate::frame::{is_end, start_of};
 use crate::outline::find_outline;
-use crate::statements::Statements;
-use base_types::{Fault, FileKind, Kind, Lines, ReadFault, Span, Stop, line_of};
-use def_tokens::def_tokens;
+use crate::statements::take_statement;
+use base_types::{Fault, FileKind, Kind, Lines, ReadFault, Stop, line_of};
+use def_tokens::Def;
 use std::alloc::Global;
+use token_forms::Source;
 
 /// The fault at a place.
 fn fault_at(lines: &mut Lines<'_>, at: u32) -> ReadFault
@@ -28,25 +28,28 @@ fn fault_at(lines: &mut Lines<'_>, at: u32) -> ReadFault
     ReadFault::Fault(Fault::at_line(Kind::DefSyntax, FileKind::Def, line))
 }
 
-/// The statements up to `END DESIGN`, or the fault of the first that isn't read; the section at one place isn't closed.
+/// The statements of a text up to `END DESIGN`, or the fault of the first that isn't read; the section at one place isn't closed.
 fn read_from<'a>(
     alloc: Global,
-    lines: &mut Lines<'_>,
+    text: &'a [u8],
     unclosed: Option<u32>,
-    mut statements: Statements<'a, '_>,
 ) -> Result<Found<'a>, ReadFault>
-    ensures value { Reads lines.old result (read_from lines.old unclosed fresh_found (def_statements statements.entry)) }
-    ensures same { lines.new ≡ lines.old }
+    requires size { length text.now < 2 ^ 32 }
+    ensures value { Reads text.now result (read_from text.now unclosed fresh_found (statements_of text.now)) }
 {
+    let mut lines = Lines::of(text);
+    let mut source: Source<'_, Def> = Source::of(text);
+    let mut spans = Vec::new(alloc);
     let mut found = Found::new(alloc);
-    while let Some(tokens) = statements.next() {
+    while take_statement(&mut source, &mut spans)? {
+        let tokens = source.tokens(&spans);
         if is_end(b"DESIGN", &tokens) {
             return Ok(found);
         }
         let start = start_of(&tokens);
-        match found.turn(alloc, lines, unclosed, tokens) {
+        match found.turn(alloc, &mut lines, unclosed, tokens) {
             Ok(()) => {}
-            Err(Stop::NoForm) => return Err(fault_at(lines, start)),
+            Err(Stop::NoForm) => return Err(fault_at(&mut lines, start)),
             Err(Stop::NoMemory) => return Err(ReadFault::NoMemory),
         }
     }
@@ -66,26 +69,20 @@ fn with_design<'a>(
     }
 }
 
-/// The statements of a text at whose spans its tokens stand.
+/// The statements of a text by its outline, or its first fault of form.
 #[tactic(auto, unfolding(crate::specs::Reading::read_design))]
-fn read_spans<'a>(
-    alloc: Global,
-    text: &'a [u8],
-    spans: &[Span],
-) -> Result<DesignText<'a>, ReadFault>
-    requires within { AreSpansOf text.now spans.now }
-    requires tokens { def_statements (tokens_of text.now spans.now) ≡ statements_of text.now }
+fn read_outlined<'a>(alloc: Global, text: &'a [u8]) -> Result<DesignText<'a>, ReadFault>
+    requires size { length text.now < 2 ^ 32 }
     ensures value { Reads text.now result (read_design text.now) }
 {
     let mut lines = Lines::of(text);
-    let Some(outline) = find_outline(alloc, Statements::of(text, spans))? else {
+    let Some(outline) = find_outline(alloc, text)? else {
         return Err(fault_at(&mut lines, 0));
     };
     if !outline.units {
         return Err(fault_at(&mut lines, 0));
     }
-    let statements = Statements::of(text, spans);
-    let read = read_from(alloc, &mut lines, outline.unclosed(), statements);
+    let read = read_from(alloc, text, outline.unclosed());
     with_design(&mut lines, read)
 }
 
@@ -99,6 +96,9 @@ pub fn read_design_text<'a>(alloc: Global, text: &'a [u8]) -> Result<DesignText<
     ensures exactly { IsExactDesign text.now result }
     ensures value { Reads text.now result (read_design text.now) }
 {
-    let spans = def_tokens(alloc, text)?;
-    read_spans(alloc, text, &spans)
+    // The outline tells only at which of several faults reading stops, so a text without one is read without it.
+    match read_at_once(alloc, text, true)? {
+        Some(design) => Ok(design),
+        None => read_outlined(alloc, text),
+    }
 }

@@ -1,56 +1,100 @@
 //! The statements of a text, one by one.
-ghost use Rattle.std.specs.Prelude.{◌≡◌, ◌<◌, ◌∷◌, [], length, MatchOption, OnOk};
+ghost use Rattle.std.specs.Prelude.{◌≡◌, ◌<◌, ◌∷◌, [], true, if◌then◌else◌, codes, length, IfOk, OnOk};
 ghost use Rattle.token_forms.specs.Parsing.{GivesAll};
-ghost use Rattle.token_forms.specs.Tokens.{tokens_of, AreSpansOf};
+ghost use Rattle.token_forms.specs.Tokens.{tokens_of, tokens_left, AreSpansOf};
 ghost use Rattle.def_tokens.specs.DefStatements.{def_statements};
+ghost use Rattle.def_syntax.specs.Cuts.{step_to, first_step, cut_step};
 ghost use Rattle.def_syntax.specs.Reading.{statement_of};
 
-use base_types::{Span, Stop};
-use def_tokens::statement_len;
+use base_types::{NoMemory, Span, Stop};
+use def_tokens::Def;
 use std::alloc::Global;
-use std::marker::Model;
-use token_forms::{Parser, Read, Tokens};
+use token_forms::{Cut, Parser, Read, Source, Step, Tokens};
 
-/// The tokens of a text whose statements are still to be taken, which contracts see as their list.
-#[derive(Drop)]
-pub(crate) struct Statements<'a, 's> {
-    text: &'a [u8],
-    spans: &'s [Span],
+/// Where a statement ends, by its first token.
+#[derive(Clone, Copy, Drop)]
+pub(crate) enum StatementCut {
+    /// It isn't met yet.
+    First,
+    /// `END`, behind which one token more stands.
+    End,
+    /// `BEGINEXT`, up to `ENDEXT`.
+    Extension,
+    /// Any other, up to the semicolon.
+    Other,
 }
 
-impl<'a, 's> Model for Statements<'a, 's> {
-    ghost use Rattle.std.specs.Prelude.{List};
-    ghost use Rattle.token_forms.specs.Tokens.{Token, tokens_of, AreSpansOf};
-
-    ghost Value = { List Token };
-
-    ghost view = { λ s. tokens_of s.text.now s.spans.now };
-
-    ghost invariant = { λ s. AreSpansOf s.text.now s.spans.now };
-}
-
-impl<'a, 's> Statements<'a, 's> {
-    /// The statements of the tokens at these spans.
-    pub(crate) fn of(text: &'a [u8], spans: &'s [Span]) -> Statements<'a, 's>
-        requires within { AreSpansOf text.now spans.now }
-        ensures value { result ≡ tokens_of text.now spans.now }
-    {
-        Statements { text, spans }
+/// What a token does where a statement goes up to the semicolon.
+#[inline(always)]
+fn to_semicolon(text: &[u8]) -> Step
+    ensures value { result ≡ step_to (codes ";") text.now }
+{
+    match text {
+        [b';'] => Step::Closes,
+        _ => Step::GoesOn,
     }
+}
 
-    /// Takes the next statement.
-    pub(crate) fn next(&mut self) -> Option<Tokens<'a, 's>>
-        ensures value { MatchOption result (def_statements self.old ≡ []) (λ s. def_statements self.old ≡ s ∷ def_statements self.new) }
-        ensures shorter { MatchOption result (self.old ≡ []) (λ s. length self.new < length self.old) }
+/// What it does where one goes up to `ENDEXT`.
+fn to_end_of_extension(text: &[u8]) -> Step
+    ensures value { result ≡ step_to (codes "ENDEXT") text.now }
+{
+    if text == b"ENDEXT".as_slice() {
+        Step::Closes
+    } else {
+        Step::GoesOn
+    }
+}
+
+impl StatementCut {
+    /// What the first token does.
+    fn first(&mut self, text: &[u8]) -> Step
+        ensures value { (result, self.new) ≡ first_step text.now }
     {
-        let len = statement_len(&Tokens::of(self.text, self.spans));
-        if len == 0 {
-            return None;
+        if text == b"END".as_slice() {
+            *self = StatementCut::End;
+            return Step::GoesOn;
         }
-        let (front, rest) = self.spans.split_at(len);
-        self.spans = rest;
-        Some(Tokens::of(self.text, front))
+        if text == b"PROPERTYDEFINITIONS".as_slice() {
+            *self = StatementCut::Other;
+            return Step::Closes;
+        }
+        if text == b"BEGINEXT".as_slice() {
+            *self = StatementCut::Extension;
+            return Step::GoesOn;
+        }
+        *self = StatementCut::Other;
+        to_semicolon(text)
     }
+}
+
+impl Cut for StatementCut {
+    ghost step = { cut_step };
+
+    #[inline(always)]
+    fn step(&mut self, text: &[u8]) -> Step {
+        match *self {
+            StatementCut::First => self.first(text),
+            StatementCut::End => Step::Closes,
+            StatementCut::Extension => to_end_of_extension(text),
+            StatementCut::Other => to_semicolon(text),
+        }
+    }
+}
+
+/// Takes the tokens of the next statement, where one is left; their spans replace those that stood in the `Vec`.
+pub(crate) fn take_statement(
+    source: &mut Source<'_, Def>,
+    spans: &mut Vec<Span>,
+) -> Result<bool, NoMemory>
+    ensures source { source.new.source ≡ source.old.source }
+    ensures within { IfOk result (λ some. AreSpansOf source.old.source spans.new.items) }
+    ensures value { IfOk result (λ some. def_statements (tokens_left source.old)
+        ≡ (if some then tokens_of source.old.source spans.new.items ∷ def_statements (tokens_left source.new) else [])) }
+    ensures shorter { IfOk result (λ some. some ≡ true → length (tokens_left source.new) < length (tokens_left source.old)) }
+{
+    source.statement(StatementCut::First, spans)?;
+    Ok(!spans.as_slice().is_empty())
 }
 
 /// The value that a statement's tokens spell, all of them.

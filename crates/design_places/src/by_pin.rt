@@ -141,7 +141,8 @@ fn has_pin(net: &Net, component: &[u8], pin: &[u8]) -> bool
     pins.iter().any(|found| is_pin(found, component, pin))
 }
 
-/// The net with a pin of a component, by going over the nets.
+/// The net with a pin of a component, by going over the nets: for pins whose name isn't noted. Those of the paths are, so `check_nets` asks
+/// for none.
 fn searched<'d>(nets: &'d [Net], component: &[u8], pin: &[u8]) -> Option<&'d Net>
     ensures value { option_map (λ net. net.now) result ≡ net_with nets.now (Cell component.now pin.now) }
 {
