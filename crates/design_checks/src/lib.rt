@@ -7,5 +7,5 @@
 pub use design_elements::elements_of;
 pub use design_files::{chains_law, measured_law};
 pub use design_places::{check_nets, check_places, ends_of};
-pub use head_checks::{check_chains, check_heads};
-pub use traced_paths::{check_bits, path_specs, paths_of};
+pub use head_checks::{check_chains, check_heads, paths_of};
+pub use traced_paths::{check_bits, path_specs};

@@ -17,7 +17,7 @@ use Rattle.def_reader.specs.Faults.{HoldsInDesign}
 use Rattle.def_reader.specs.Denoted.{DenotesDesign}
 use Rattle.def_reader.specs.Agreement.{HoldsInAgreement}
 use Rattle.chain_trace.specs.declared.path.Path.{Path}
-use Rattle.traced_paths.specs.Asked.{asked_by, file_of}
+use Rattle.head_checks.specs.Asked.{asked_by, file_of}
 use Rattle.traced_paths.specs.Traced.{ArePathsOf, HoldsInPaths}
 use Rattle.traced_paths.specs.Numbers.{all_bits, HaveTooManyBits}
 use Rattle.design_elements.specs.Faults.{HoldsInElements}

@@ -15,7 +15,7 @@ use Rattle.def_reader.specs.Denoted.{DenotesDesign}
 use Rattle.def_reader.specs.Agreement.{HoldsInAgreement}
 use Rattle.chain_trace.specs.declared.path.Path.{Path}
 use Rattle.chain_rules.specs.ChainFaults.{IsRefusal}
-use Rattle.traced_paths.specs.Asked.{asked_by, file_of}
+use Rattle.head_checks.specs.Asked.{asked_by, file_of}
 use Rattle.traced_paths.specs.Traced.{ArePathsOf, HoldsInPaths}
 use Rattle.traced_paths.specs.Numbers.{path_specs, HaveTooManyBits}
 use Rattle.design_elements.specs.Elements.{chain_specs}

@@ -23,7 +23,7 @@ use Rattle.chain_rules.specs.declared.spec.PathSpec.{PathSpec}
 use Rattle.chain_rules.specs.declared.spec.ChainSpec.{ChainSpec}
 use Rattle.chain_rules.specs.ChainFaults.{IsRefusal}
 use Rattle.chain_rules.specs.Legality.{IsLegal}
-use Rattle.traced_paths.specs.Asked.{asked_by, file_of}
+use Rattle.head_checks.specs.Asked.{asked_by, file_of}
 use Rattle.traced_paths.specs.Traced.{ArePathsOf, NameEntries, HoldsInPaths}
 use Rattle.traced_paths.specs.Numbers.{all_bits, path_specs}
 use Rattle.design_elements.specs.Elements.{chain_specs}

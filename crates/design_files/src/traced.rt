@@ -15,10 +15,10 @@ use chain_rules::ChainSpec;
 use chain_trace::Path;
 use def_reader::agree;
 use design_elements::elements_of;
+use head_checks::paths_of;
 use netlist_core::{Classes, classes_of};
 use std::alloc::Global;
 use stil_types::StilHead;
-use traced_paths::paths_of;
 
 /// The chains as numbers, and the classes of joined nets.
 #[derive(Drop)]

@@ -4,7 +4,7 @@ use Rattle.netlist_core.specs.declared.netlist.Netlist.{Netlist}
 use Rattle.cell_table.specs.Cells.{Cells}
 use Rattle.chain_trace.specs.declared.path.Path.{Path}
 use Rattle.chain_rules.specs.Rules.{AreRulesOf}
-use Rattle.traced_paths.specs.Asked.{asked_by}
+use Rattle.head_checks.specs.Asked.{asked_by}
 use Rattle.traced_paths.specs.Traced.{ArePathsOf}
 use Rattle.traced_paths.specs.Numbers.{path_specs}
 use Rattle.design_elements.specs.Elements.{chain_specs}

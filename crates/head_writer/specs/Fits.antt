@@ -13,7 +13,7 @@ use Rattle.stil_types.specs.declared.head.ScanChainDecl.{ScanChainDecl}
 use Rattle.stil_types.specs.declared.head.StilHead.{StilHead}
 use Rattle.stil_head.specs.Ends.{head_text}
 use Rattle.stil_head.specs.Heads.{IsHead, DenotesHead}
-use Rattle.traced_paths.specs.Asked.{asked_by}
+use Rattle.head_checks.specs.Asked.{asked_by}
 use Rattle.traced_paths.specs.Traced.{ArePathsOf, NameEntries}
 use Rattle.traced_paths.specs.Numbers.{all_bits}
 use Rattle.head_checks.specs.Heads.{HoldsInHeads}

@@ -21,7 +21,7 @@ use Rattle.stil_types.specs.declared.head.ScanChainDecl.{ScanChainDecl}
 use Rattle.stil_types.specs.declared.head.StilHead.{StilHead}
 use Rattle.stil_head.specs.Heads.{DenotesHead}
 use Rattle.stil_head.proofs.Declared.{some_bits}
-use Rattle.traced_paths.specs.Asked.{asked_by}
+use Rattle.head_checks.specs.Asked.{asked_by}
 use Rattle.traced_paths.specs.Traced.{ArePathsOf, NameEntries}
 use Rattle.traced_paths.specs.Numbers.{length_of, step_bits, path_bits}
 use Rattle.head_checks.specs.Heads.{Declared, has_other_length, line_of, HoldsInHeads, OfLength}

@@ -7,7 +7,8 @@ use Rattle.stil_types.specs.declared.head.ScanChainDecl.{ScanChainDecl}
 use Rattle.stil_types.specs.declared.head.StilHead.{StilHead}
 use Rattle.stil_head.specs.Heads.{DenotesHead}
 use Rattle.stil_head.proofs.Declared.{AreNew, new_outs}
-use Rattle.traced_paths.specs.Asked.{Asked, asked_by, asked_by_block, once_behind, outputs_of}
+use Rattle.traced_paths.specs.Asked.{Asked, once_behind, outputs_of}
+use Rattle.head_checks.specs.Asked.{asked_by, asked_by_block}
 
 kept_first : (before names : List (List ℕ)) (name : List ℕ) → list_any (bytes_eq name) before ≡ false → once_behind before (name ∷ names) ≡ name ∷ once_behind (name ∷ before) names
 unfolding once_behind

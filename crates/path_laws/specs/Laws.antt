@@ -8,7 +8,7 @@ use Rattle.chain_trace.specs.declared.path.Path.{Path}
 use Rattle.def_reader.specs.declared.design.Design.{Design}
 use Rattle.stil_types.specs.declared.head.StilHead.{StilHead}
 use Rattle.stil_head.specs.Heads.{DenotesHead}
-use Rattle.traced_paths.specs.Asked.{asked_by}
+use Rattle.head_checks.specs.Asked.{asked_by}
 use Rattle.traced_paths.specs.Traced.{ArePathsOf, NameEntries}
 use Rattle.head_checks.specs.Heads.{HoldsInHeads}
 use Rattle.path_chains.specs.Numbered.{bits_along, HaveBits}

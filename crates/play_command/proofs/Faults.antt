@@ -20,7 +20,7 @@ use Rattle.chain_trace.specs.declared.path.Path.{Path}
 use Rattle.stil_types.specs.declared.head.StilHead.{StilHead}
 use Rattle.stil_head.specs.Heads.{DenotesHead}
 use Rattle.stil_head.specs.Faults.{HoldsInHead}
-use Rattle.traced_paths.specs.Asked.{asked_by}
+use Rattle.head_checks.specs.Asked.{asked_by}
 use Rattle.traced_paths.specs.Traced.{ArePathsOf, HoldsInPaths}
 use Rattle.traced_paths.specs.Numbers.{all_bits, HaveTooManyBits}
 use Rattle.head_checks.specs.Heads.{HoldsInHeads}

@@ -8,7 +8,7 @@ use Rattle.cell_table.specs.Cells.{Cells}
 use Rattle.cell_table.specs.Entries.{HoldsInTable}
 use Rattle.verilog_checks.specs.Faults.{HoldsInVerilog}
 use Rattle.chain_trace.specs.declared.path.Path.{Path}
-use Rattle.traced_paths.specs.Asked.{asked_by}
+use Rattle.head_checks.specs.Asked.{asked_by}
 use Rattle.traced_paths.specs.Traced.{HoldsInPaths}
 use Rattle.traced_paths.specs.Numbers.{HaveTooManyBits}
 use Rattle.head_checks.specs.Heads.{HoldsInHeads}

@@ -5,7 +5,7 @@ use Rattle.cell_table.specs.Cells.{Cells}
 use Rattle.cell_table.specs.Entries.{DenotesCells}
 use Rattle.verilog_reader.specs.Denoted.{DenotesNetlist}
 use Rattle.chain_trace.specs.declared.path.Path.{Path}
-use Rattle.traced_paths.specs.Asked.{asked_by}
+use Rattle.head_checks.specs.Asked.{asked_by}
 use Rattle.traced_paths.specs.Traced.{ArePathsOf}
 -- the scan chains along paths
 pub use Rattle.path_chains.specs.Ranked.{chains_along}

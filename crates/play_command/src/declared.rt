@@ -10,13 +10,13 @@ ghost use Rattle.play_command.specs.Stages.{AreDeclared, HoldsInDeclared};
 use base_types::{NoMemory, ReadFault, Rows};
 use cell_table::{CellTable, read_table};
 use chain_trace::{Path, PathBits, bits_of};
-use head_checks::check_heads;
+use head_checks::{check_heads, paths_of};
 use netlist_core::{Netlist, classes_of};
 use path_chains::chains_for;
 use std::alloc::Global;
 use stil_reader::{StilHead, read_head};
 use stil_tester::Chains;
-use traced_paths::{check_bits, paths_of};
+use traced_paths::check_bits;
 use verilog_reader::read_netlist;
 
 /// What a head denotes, and the chains that it declares on a netlist.

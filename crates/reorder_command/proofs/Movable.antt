@@ -13,7 +13,7 @@ use Rattle.chain_trace.specs.declared.path.PathBits.{PathBits}
 use Rattle.chain_rules.specs.Plans.{PlanLists}
 use Rattle.stil_types.specs.declared.head.StilHead.{StilHead}
 use Rattle.stil_head.specs.Ends.{head_text}
-use Rattle.traced_paths.specs.Asked.{asked_by}
+use Rattle.head_checks.specs.Asked.{asked_by}
 use Rattle.traced_paths.specs.Traced.{ArePathsOf}
 use Rattle.head_checks.specs.Heads.{HoldsInHeads}
 use Rattle.stil_reader.proofs.Heads.{head_within}

@@ -23,7 +23,7 @@ use Rattle.path_links.proofs.PathLists.{Has, has, contains, flat_from, flat_has}
 use Rattle.plan_paths.specs.Laws.{PlanLaw}
 use Rattle.plan_paths.specs.NewPaths.{new_path, new_paths}
 use Rattle.path_chains.specs.Numbered.{bit_count, CountsBits, HaveBits, KeepsBitsLaw}
-use Rattle.traced_paths.specs.Asked.{asked_by}
+use Rattle.head_checks.specs.Asked.{asked_by}
 use Rattle.traced_paths.specs.Traced.{ArePathsOf, NameEntries}
 use Rattle.traced_paths.specs.Numbers.{length_of}
 use Rattle.head_checks.specs.Heads.{HoldsInHeads}

@@ -11,7 +11,7 @@ use Rattle.chain_trace.specs.declared.path.Path.{Path}
 use Rattle.stil_types.specs.declared.head.StilHead.{StilHead}
 use Rattle.stil_head.specs.Ends.{head_text}
 use Rattle.stil_head.proofs.Texts.{only_head}
-use Rattle.traced_paths.specs.Asked.{asked_by}
+use Rattle.head_checks.specs.Asked.{asked_by}
 use Rattle.traced_paths.specs.Traced.{ArePathsOf}
 use Rattle.traced_paths.proofs.PathsFaults.{one_list}
 use Rattle.path_chains.specs.Numbered.{bits_along, bits_of_paths}

@@ -7,7 +7,7 @@ use Rattle.cell_table.specs.Entries.{DenotesCells}
 use Rattle.verilog_reader.specs.Denoted.{DenotesNetlist}
 use Rattle.chain_trace.specs.declared.path.Path.{Path}
 use Rattle.chain_trace.specs.declared.path.PathBits.{PathBits}
-use Rattle.traced_paths.specs.Asked.{asked_by}
+use Rattle.head_checks.specs.Asked.{asked_by}
 use Rattle.traced_paths.specs.Traced.{ArePathsOf}
 use Rattle.head_checks.specs.Heads.{HoldsInHeads}
 use Rattle.path_chains.specs.Numbered.{bits_along}

@@ -8,9 +8,8 @@ use Rattle.def_reader.specs.Steps.{IsLeast, lesser, line_if}
 use Rattle.def_reader.proofs.LeastLines.{same_least, either, alone}
 use Rattle.def_reader.proofs.RowsMore.{map_next}
 use Rattle.traced_paths.specs.declared.asks.Ask.{Ask}
-use Rattle.traced_paths.specs.Asked.{Asked}
+use Rattle.traced_paths.specs.Asked.{Asked, told}
 use Rattle.traced_paths.specs.Traced.{HasNoInput, HasNoOutput, LacksPort}
-use Rattle.traced_paths.specs.Steps.{told}
 
 module _ (n : Netlist) (asked : List Asked) (one : Asked) (bad : Bool) (exact : Decides bad (HasNoInput n one ⊎ HasNoOutput n one)) where
   to_last : (line : ℕ) → LacksPort n asked line ⊎ ((bad ≡ true) × (line ≡ one.line)) → LacksPort n (asked ++ one ∷ []) line

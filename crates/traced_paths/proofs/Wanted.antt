@@ -20,9 +20,9 @@ use Rattle.base_types.specs.Faults.{at_line}
 use Rattle.base_types.proofs.TruthValues.{bytes_turned, or_false}
 use Rattle.def_reader.proofs.RowsMore.{map_next}
 use Rattle.traced_paths.specs.declared.asks.Ask.{Ask}
-use Rattle.traced_paths.specs.Asked.{Asked, once_behind, outputs_of}
+use Rattle.traced_paths.specs.Asked.{Asked, once_behind, outputs_of, told}
 use Rattle.traced_paths.specs.Traced.{LacksPort}
-use Rattle.traced_paths.specs.Steps.{told, AreOutputs, HaveOutputs, AreFull, IsTooMany}
+use Rattle.traced_paths.specs.Steps.{AreOutputs, HaveOutputs, AreFull, IsTooMany}
 
 any_flip : (name : List ℕ) (xs : List (List ℕ)) → list_any (bytes_eq name) xs ≡ list_any (λ x. bytes_eq x name) xs
 any_flip name [] = refl

@@ -1,5 +1,5 @@
 -- What the calls know on their way over paths, ports and what is asked for.
-use Rattle.std.specs.Prelude.{◌≡◌, ◌≤◌, ℕ, Bool, true, ◌==◌, ◌&&◌, ◌||◌, nat_lt, if◌then◌else◌, List, [], ◌∷◌, ◌++◌, length, map, All, codes, IsTrue, Contains, Option, Some, None, option_map}
+use Rattle.std.specs.Prelude.{◌≡◌, ◌≤◌, ℕ, Bool, true, ◌==◌, ◌&&◌, ◌||◌, nat_lt, if◌then◌else◌, List, [], ◌∷◌, ◌++◌, length, map, All, codes, IsTrue, Contains, Option, Some, None}
 use Rattle.std.specs.Borrow.{Bor}
 use Rattle.std.specs.HashSet.{HashSet, contains}
 use Rattle.std.specs.List.{list_any, slice_get}
@@ -22,7 +22,6 @@ use Rattle.chain_trace.specs.Faults.{IsTraceFault, IsAmong, line_of_instance}
 use Rattle.chain_trace.specs.Drivers.{same_place}
 use Rattle.def_reader.specs.declared.design.Design.{Design}
 use Rattle.def_reader.specs.declared.design.DesignPin.{DesignPin}
-use Rattle.traced_paths.specs.declared.asks.Ask.{Ask}
 use Rattle.traced_paths.specs.Asked.{Asked, outputs_of}
 use Rattle.traced_paths.specs.Numbers.{begins_with, has_extra}
 use Rattle.traced_paths.specs.Traced.{AsksTooMany, NameEntries, steps_of}
@@ -31,10 +30,6 @@ use Rattle.traced_paths.specs.Traced.{AsksTooMany, NameEntries, steps_of}
 pub record AreFew (bits total : ℕ) : Type 0 where
   pub is : total ≡ bits
   pub few : total ≤ 262144
-
--- what is asked for by lent names
-abbrev pub told : Ask → Asked
-told a = record { input = option_map (λ name. name.now) a.input; output = option_map (λ name. name.now) a.output; line = a.line }
 
 -- nets of output ports that have the names that are asked for
 pub record AreOutputs (n : Netlist) (asked : List Asked) (nets : List NetId) : Type 0 where

@@ -1,9 +1,9 @@
 //! The outputs that are asked for.
 ghost use Rattle.std.specs.Prelude.{◌≡◌, ◌++◌, ◌∷◌, [], List, ℕ, map, true, false, IfOk};
 ghost use Rattle.base_types.specs.FirstFault.{IfFault};
-ghost use Rattle.traced_paths.specs.Asked.{Asked};
+ghost use Rattle.traced_paths.specs.Asked.{Asked, told};
 ghost use Rattle.traced_paths.specs.Traced.{LacksPort};
-ghost use Rattle.traced_paths.specs.Steps.{told, HaveOutputs, AreOutputs, AreFull, IsTooMany};
+ghost use Rattle.traced_paths.specs.Steps.{HaveOutputs, AreOutputs, AreFull, IsTooMany};
 
 use crate::asks::Ask;
 use crate::ports::output;

@@ -6,7 +6,7 @@ ghost use Rattle.chain_trace.specs.Paths.{drives, is_driven};
 ghost use Rattle.chain_trace.specs.Named.{IsPortNamed};
 ghost use Rattle.def_reader.specs.Steps.{IsLeast};
 ghost use Rattle.traced_paths.specs.Traced.{HasNoInput, HasNoOutput, LacksPort};
-ghost use Rattle.traced_paths.specs.Steps.{told};
+ghost use Rattle.traced_paths.specs.Asked.{told};
 
 use crate::asks::Ask;
 use def_reader::{Ports, lesser, line_if};

@@ -29,7 +29,7 @@ use Rattle.plan_paths.specs.NewPaths.{new_paths}
 use Rattle.plan_paths.proofs.Arranged.{rearranged}
 use Rattle.path_chains.specs.Numbered.{bit_count, CountsBits, HaveBits}
 use Rattle.path_chains.proofs.KeepsBits.{keeps_bits}
-use Rattle.traced_paths.specs.Asked.{asked_by}
+use Rattle.head_checks.specs.Asked.{asked_by}
 use Rattle.traced_paths.specs.Traced.{NameEntries}
 use Rattle.traced_paths.specs.Numbers.{length_of, all_bits}
 use Rattle.head_checks.specs.Heads.{HoldsInHeads}

@@ -15,7 +15,8 @@ use Rattle.chain_trace.specs.declared.path.Sink.TheVariants as sinks
 use Rattle.chain_trace.specs.Paths.{is_driven, has_port, IsOnlySource, Leads, IsScanPath, StandOnce}
 use Rattle.net_edit.specs.Rearranged.{steps_of, AreAligned}
 use Rattle.stil_types.specs.declared.head.ScanChainDecl.{ScanChainDecl}
-use Rattle.traced_paths.specs.Asked.{Asked, asked_by_block, once_behind}
+use Rattle.traced_paths.specs.Asked.{Asked, once_behind}
+use Rattle.head_checks.specs.Asked.{asked_by_block}
 use Rattle.traced_paths.specs.Traced.{ArePathsOf}
 use Rattle.pattern_laws.specs.Laws.{SamePorts}
 use Rattle.reorder_command.specs.Reordered.{AreSamePaths}

@@ -24,7 +24,8 @@ use Rattle.chain_trace.specs.Paths.{drives, is_driven, has_port, StandOnce, IsSc
 use Rattle.chain_trace.specs.Faults.{IsTraceFault}
 use Rattle.chain_trace.proofs.Meeting.{no_path}
 use Rattle.chain_trace.proofs.Unique.{path_unique}
-use Rattle.traced_paths.specs.Asked.{Asked, asked_by_chain, once_behind, outputs_of}
+use Rattle.traced_paths.specs.Asked.{Asked, once_behind, outputs_of}
+use Rattle.head_checks.specs.Asked.{asked_by_chain}
 use Rattle.traced_paths.specs.Traced.{steps_of, ArePathsOf, HasNoInput, HasNoOutput, LacksPort, AsksTooMany, IsMet, IsAskedPath, IsShared, HoldsInPaths, OfPort, OfCount, OfTrace, OfCell}
 use Rattle.traced_paths.specs.Numbers.{step_bits, path_bits, HaveTooManyBits}
 use Rattle.design_maker.specs.Chains.{chain_length, unit_of}

@@ -7,7 +7,7 @@ use Rattle.def_reader.specs.Agreement.{HoldsInAgreement}
 use Rattle.chain_rules.specs.ChainFaults.{IsRefusal}
 use Rattle.design_elements.specs.Elements.{chain_specs}
 use Rattle.design_elements.specs.Faults.{HoldsInElements}
-use Rattle.traced_paths.specs.Asked.{asked_by_chain}
+use Rattle.head_checks.specs.Asked.{asked_by_chain}
 use Rattle.traced_paths.specs.Traced.{ArePathsOf, HoldsInPaths}
 use Rattle.traced_paths.specs.Numbers.{path_specs, HaveTooManyBits}
 use Rattle.design_places.specs.NetPins.{HoldsInNets}

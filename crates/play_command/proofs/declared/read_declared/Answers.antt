@@ -13,7 +13,7 @@ use Rattle.stil_types.specs.declared.head.StilHead.{StilHead}
 use Rattle.stil_head.specs.Faults.{HoldsInHead}
 use Rattle.path_chains.specs.Numbered.{bits_along}
 use Rattle.path_chains.specs.Ranked.{ranked_chains}
-use Rattle.traced_paths.specs.Asked.{asked_by}
+use Rattle.head_checks.specs.Asked.{asked_by}
 use Rattle.traced_paths.specs.Traced.{HoldsInPaths}
 use Rattle.play_command.specs.declared.declared.Declared.{Declared}
 use Rattle.play_command.specs.Files.{AreTraced}

@@ -1,5 +1,6 @@
 use Rattle.std.proofs.Common.{map, take}
-use Rattle.traced_paths.specs.Steps.{told, HaveOutputs}
+use Rattle.traced_paths.specs.Asked.{told}
+use Rattle.traced_paths.specs.Steps.{HaveOutputs}
 use Rattle.traced_paths.proofs.outputs.outputs_of.Given as goal
 
 abbrev pub invariant-loop-ask : goal.invariant-loop-ask

@@ -1,7 +1,7 @@
 use Rattle.std.proofs.Common.{◌≡◌, ◌<◌, length, zero, refl, ap, inr, arith}
 use Rattle.std.specs.Prelude.{option_map}
 use Rattle.base_types.proofs.TruthValues.{was_there, was_new}
-use Rattle.traced_paths.specs.Steps.{told}
+use Rattle.traced_paths.specs.Asked.{told}
 use Rattle.traced_paths.proofs.Wanted.{put_none, put_again, put_new, put_full}
 use Rattle.traced_paths.proofs.outputs.put_output.Goals as goal
 

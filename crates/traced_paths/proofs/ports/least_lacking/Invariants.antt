@@ -1,7 +1,7 @@
 use Rattle.std.proofs.Common.{map, take}
 use Rattle.def_reader.specs.Steps.{IsLeast}
 use Rattle.traced_paths.specs.Traced.{LacksPort}
-use Rattle.traced_paths.specs.Steps.{told}
+use Rattle.traced_paths.specs.Asked.{told}
 use Rattle.traced_paths.proofs.ports.least_lacking.Given as goal
 
 abbrev pub invariant-loop-ask : goal.invariant-loop-ask

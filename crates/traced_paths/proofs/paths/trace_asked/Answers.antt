@@ -4,9 +4,10 @@ use Rattle.base_types.specs.FirstFault.{IsFirstFault}
 use Rattle.netlist_core.specs.declared.netlist.NetId.{NetId}
 use Rattle.chain_trace.specs.declared.path.Path.{Path}
 use Rattle.traced_paths.specs.Traced.{HoldsInPaths}
-use Rattle.traced_paths.specs.Steps.{told, IsTooMany, IsMetFrom}
-use Rattle.traced_paths.proofs.PathsFaults.{port_first, count_first, trace_first, cell_first, none_holds, are_paths, fault_across, lacks_here, outputs_here, traced_here, first_here, again_here}
-use Rattle.traced_paths.proofs.paths.paths_for.Goals as goal
+use Rattle.traced_paths.specs.Asked.{told}
+use Rattle.traced_paths.specs.Steps.{IsTooMany, IsMetFrom}
+use Rattle.traced_paths.proofs.PathsFaults.{port_first, count_first, trace_first, cell_first, none_holds, are_paths, fault_across, lacks_here, outputs_here, traced_here, first_here, again_here, one_list}
+use Rattle.traced_paths.proofs.paths.trace_asked.Goals as goal
 
 pub returns-in-Some-clause-fault : goal.returns-in-Some-clause-fault
 returns-in-Some-clause-fault c =
@@ -68,6 +69,9 @@ returns-clause-paths c =
     let traced = traced_here n cells c.in_ok-tracer.tracer c.as_slice.result.now nets paths c.in_ok-tracer.ensures.value c.as_slice.ensures.value c.in_ok-paths.ensures.value in
     are_paths n cells c.args.file asked c.requires.netlist there nets outputs paths traced
     (again_here n c.as_slice-2.result.now paths c.in_ok-line.field-0 None c.as_slice-2.ensures.value c.in_default-2.is c.in_ok-line.ensures.value)
+
+pub returns-clause-only : goal.returns-clause-only
+returns-clause-only c = λ other o. one_list c.args.netlist.now c.args.table.now (map told c.args.asks.now) c.requires.netlist other c.in_ok-paths.paths.items o (returns-clause-paths c)
 
 pub returns-clause-no_fault : goal.returns-clause-no_fault
 returns-clause-no_fault c =
