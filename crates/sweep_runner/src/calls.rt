@@ -1,135 +1,51 @@
 //! Calls that were worked by hand: judged, retargeted, and played on the tester.
-ghost use Rattle.std.specs.Prelude.{◌≡◌, IfOk, IfSome};
-ghost use Rattle.stil_tester.specs.Shifting.{AreChains};
+//!
+//! A row of `calls.toml` has chains as `read` and as `written`, by the digits of their cells, with a `~` before each at
+//! which a symbol is flipped, and at the end where one is flipped on its way out; the `loads` and `compares` of a call, `-`
+//! where none is given; and as `wanted` the written ones, or why the call is refused.
+ghost use Rattle.std.specs.Prelude.{◌≡◌, length, IfOk, IfSome};
+ghost use Rattle.retarget.specs.Judging.{IsAccepted};
+ghost use Rattle.stil_tester.specs.Shifting.{AreChains, IsCallFor};
 
+use crate::rows::text;
 use base_types::{NoMemory, Rows, Text};
 use retarget::{judge_call, map_of, retarget_call};
-use row_forms::Cases;
+use row_forms::{Cases, Part, put};
 use std::alloc::Global;
-use std::fmt::Write;
 use stil_tester::{ChainBits, Chains, are_chains, is_call_for};
 use stil_types::ScanCall;
+use toml::Value;
 
-/// Chains as read and as written, by the digits of their cells, with a `~` before each at which a symbol is flipped, and at
-/// the end where one is flipped on its way out; the strings of a call, `-` where none is given; and the written ones, or why
-/// the call is refused.
-type Row = (
-    &'static str,
-    [&'static str; 2],
-    [&'static str; 2],
-    &'static str,
-);
-
-const ROWS: [Row; 15] = [
-    ("three_flops", ["012", "021"], ["011", "-"], "101, -"),
-    (
-        "three_flops, compared",
-        ["012", "021"],
-        ["NNN", "LHX"],
-        "NNN, HLX",
-    ),
-    (
-        "three_flops, compared alone",
-        ["012", "021"],
-        ["-", "LHX"],
-        "-, HLX",
-    ),
-    (
-        "three_flops, a shorter load",
-        ["012", "021"],
-        ["01", "LHX"],
-        "0N1, HLX",
-    ),
-    ("three_flops, no string", ["012", "021"], ["-", "-"], "-, -"),
-    (
-        "three_flops, an empty load",
-        ["012", "021"],
-        ["", "-"],
-        ", -",
-    ),
-    (
-        "three_flops, inverted",
-        ["0~12", "120~"],
-        ["011", "-"],
-        "110, -",
-    ),
-    (
-        "three_flops, inverted and compared",
-        ["0~12", "120~"],
-        ["NNN", "LHX"],
-        "NNN, XHL",
-    ),
-    (
-        "two_chains",
-        ["012 34567", "0123 4567"],
-        ["011 10110", "LHX HHLLX"],
-        "0011 1011, XLHX HHLL",
-    ),
-    (
-        "two_chains, some strings",
-        ["012 34567", "0123 4567"],
-        ["- 10110", "LHX -"],
-        "0NNN 1011, XLHX -",
-    ),
-    (
-        "a long compare",
-        ["012", "012"],
-        ["NNN", "LHXH"],
-        "LongCompare",
-    ),
-    ("a short load", ["012", "012"], ["01", "-"], "ShortLoad"),
-    ("a shorter load", ["012", "012"], ["01", "LHX"], "N01, LHX"),
-    (
-        "a longer load",
-        ["012", "012"],
-        ["0111", "LHXX"],
-        "111, LHX",
-    ),
-    ("no shift", ["012", "012"], ["-", "-"], "-, -"),
-];
-
-pub(crate) const WRONG: [Row; 4] = [
-    ("another load", ["012", "021"], ["011", "-"], "110, -"),
-    ("no refusal", ["012", "012"], ["01", "-"], "LongCompare"),
-    ("a cell twice", ["011", "021"], ["011", "-"], "101, -"),
-    (
-        "no character of a load",
-        ["012", "021"],
-        ["01L", "-"],
-        "101, -",
-    ),
-];
-
-/// Well-formed chains, or None where a cell doesn't stand in them exactly once.
-pub(crate) fn chains_of(alloc: Global, text: &str) -> Result<Option<Chains>, NoMemory>
-    ensures { IfOk result (λ chains. IfSome chains AreChains) }
-{
-    let mut chains = Rows::new(alloc);
-    let mut count = 0u32;
-    for word in text.split(' ') {
-        let mut cells = Rows::new(alloc);
-        let mut parity = Rows::new(alloc);
-        let mut flips = false;
-        for letter in word.bytes() {
-            if letter == b'~' {
-                flips = true;
-            } else {
-                cells.push(u32::from(letter & 15))?;
-                parity.push(flips)?;
-                flips = false;
-                count = count.wrapping_add(1);
-            }
-        }
-        chains.push(ChainBits {
-            cells,
-            parity,
-            out_parity: flips,
-        })?;
+/// No chains yet.
+pub(crate) fn no_chains(alloc: Global) -> Chains {
+    Chains {
+        chains: Rows::new(alloc),
+        cells: 0,
     }
-    let chains = Chains {
-        chains,
-        cells: count,
-    };
+}
+
+/// A chain without a bit.
+pub(crate) fn no_bits(alloc: Global) -> ChainBits {
+    ChainBits {
+        cells: Rows::new(alloc),
+        parity: Rows::new(alloc),
+        out_parity: false,
+    }
+}
+
+/// A call without strings.
+pub(crate) fn no_call(alloc: Global) -> ScanCall {
+    ScanCall {
+        shifts: 0,
+        loads: Rows::new(alloc),
+        compares: Rows::new(alloc),
+    }
+}
+
+/// The chains, if each cell stands in them exactly once.
+pub(crate) fn checked(alloc: Global, chains: Chains) -> Result<Option<Chains>, NoMemory>
+    ensures { IfOk result (λ made. IfSome made AreChains) }
+{
     if are_chains(alloc, &chains)? {
         Ok(Some(chains))
     } else {
@@ -137,96 +53,202 @@ pub(crate) fn chains_of(alloc: Global, text: &str) -> Result<Option<Chains>, NoM
     }
 }
 
-/// The strings of a text.
-fn strings_of(alloc: Global, text: &str) -> Result<Rows<Option<Text>>, NoMemory> {
-    let mut strings = Rows::new(alloc);
-    for word in text.split(' ') {
-        strings.push(if word == "-" {
-            None
+/// Puts the bits that the letters of a word are into a chain.
+fn put_bits(chain: &mut ChainBits, word: &str) -> Result<(), NoMemory> {
+    for letter in word.bytes() {
+        if letter == b'~' {
+            chain.out_parity = true;
         } else {
-            Some(Text::copy(alloc, word.as_bytes())?)
-        })?;
-    }
-    Ok(strings)
-}
-
-/// The call of these strings.
-pub(crate) fn call_of(loads: Rows<Option<Text>>, compares: Rows<Option<Text>>) -> ScanCall {
-    let mut shifts = 0;
-    for strings in [&loads, &compares] {
-        for string in strings.as_slice() {
-            if let Some(text) = string {
-                shifts = text.bytes().len().max(shifts);
-            }
+            chain.cells.push(u32::from(letter & 15))?;
+            chain.parity.push(chain.out_parity)?;
+            chain.out_parity = false;
         }
-    }
-    ScanCall {
-        shifts,
-        loads,
-        compares,
-    }
-}
-
-pub(crate) fn call_by(alloc: Global, loads: &str, compares: &str) -> Result<ScanCall, NoMemory> {
-    Ok(call_of(strings_of(alloc, loads)?, strings_of(alloc, compares)?))
-}
-
-/// The strings of a call, as a row has them.
-fn shown(alloc: Global, call: &ScanCall) -> Result<String, NoMemory> {
-    let mut text = String::new(alloc);
-    let mut gap = "";
-    for strings in [&call.loads, &call.compares] {
-        for string in strings.as_slice() {
-            let bytes = match string {
-                None => b"-",
-                Some(text) => text.bytes(),
-            };
-            write!(
-                &mut text,
-                "{gap}{}",
-                str::from_utf8(bytes).unwrap_or("no text")
-            )?;
-            gap = " ";
-        }
-        gap = ", ";
-    }
-    Ok(text)
-}
-
-/// What comes of a row.
-fn answer(alloc: Global, chains: [&str; 2], strings: [&str; 2]) -> Result<String, NoMemory> {
-    let Some(old) = chains_of(alloc, chains[0])? else {
-        return Ok(String::from_str(alloc, "no chains as read")?);
-    };
-    let Some(new) = chains_of(alloc, chains[1])? else {
-        return Ok(String::from_str(alloc, "no chains as written")?);
-    };
-    let call = call_by(alloc, strings[0], strings[1])?;
-    if !is_call_for(&old, &call)
-        || old.cells != new.cells
-        || old.chains.as_slice().len() != new.chains.as_slice().len()
-    {
-        return Ok(String::from_str(alloc, "no call for these chains")?);
-    }
-    match judge_call(&old, &call) {
-        Some(kind) => Ok(String::from_str(alloc, kind.name())?),
-        None => {
-            let map = map_of(alloc, &old, &new)?;
-            shown(alloc, &retarget_call(alloc, &map, &call)?)
-        }
-    }
-}
-
-pub(crate) fn try_rows(cases: &mut Cases, rows: &[Row]) -> Result<(), NoMemory> {
-    for (name, chains, strings, wanted) in rows {
-        let came = answer(cases.alloc, *chains, *strings)?;
-        cases.compare(name, came.as_str(), wanted)?;
     }
     Ok(())
 }
 
-pub(crate) fn calls(alloc: Global) -> Result<Cases, NoMemory> {
-    let mut cases = Cases::new(alloc);
-    try_rows(&mut cases, ROWS.as_slice())?;
-    Ok(cases)
+/// Puts the chain of a word behind others.
+fn put_chain(alloc: Global, chains: &mut Chains, word: &str) -> Result<(), NoMemory> {
+    let mut chain = no_bits(alloc);
+    put_bits(&mut chain, word)?;
+    let count = u32::try_from(chain.cells.as_slice().len()).unwrap_or(0);
+    chains.cells = chains.cells.wrapping_add(count);
+    chains.chains.push(chain)
+}
+
+fn put_chains(alloc: Global, chains: &mut Chains, text: &str) -> Result<(), NoMemory> {
+    for word in text.split(' ') {
+        put_chain(alloc, chains, word)?;
+    }
+    Ok(())
+}
+
+/// Well-formed chains, or None where a cell doesn't stand in them exactly once.
+pub(crate) fn chains_of(alloc: Global, text: &str) -> Result<Option<Chains>, NoMemory>
+    ensures { IfOk result (λ chains. IfSome chains AreChains) }
+{
+    let mut chains = no_chains(alloc);
+    put_chains(alloc, &mut chains, text)?;
+    checked(alloc, chains)
+}
+
+/// Puts the string of a word behind others.
+fn put_string(alloc: Global, strings: &mut Rows<Option<Text>>, word: &str) -> Result<(), NoMemory> {
+    if word == "-" {
+        strings.push(None)
+    } else {
+        strings.push(Some(Text::copy(alloc, word.as_bytes())?))
+    }
+}
+
+/// Puts the strings of a text behind others.
+fn put_strings(
+    alloc: Global,
+    strings: &mut Rows<Option<Text>>,
+    text: &str,
+) -> Result<(), NoMemory> {
+    for word in text.split(' ') {
+        put_string(alloc, strings, word)?;
+    }
+    Ok(())
+}
+
+/// The length of the longest string, or this one where that is more.
+fn longest(strings: &[Option<Text>], least: usize) -> usize {
+    let mut most = least;
+    for string in strings {
+        if let Some(text) = string {
+            most = text.bytes().len().max(most);
+        }
+    }
+    most
+}
+
+/// Lets a call shift as often as its longest string is long.
+pub(crate) fn set_shifts(call: &mut ScanCall) {
+    let loads = longest(call.loads.as_slice(), 0);
+    call.shifts = longest(call.compares.as_slice(), loads);
+}
+
+/// Puts the strings of texts into a call.
+fn fill_call(
+    alloc: Global,
+    call: &mut ScanCall,
+    loads: &str,
+    compares: &str,
+) -> Result<(), NoMemory> {
+    put_strings(alloc, &mut call.loads, loads)?;
+    put_strings(alloc, &mut call.compares, compares)?;
+    set_shifts(call);
+    Ok(())
+}
+
+/// The call of these strings.
+pub(crate) fn call_by(alloc: Global, loads: &str, compares: &str) -> Result<ScanCall, NoMemory> {
+    let mut call = no_call(alloc);
+    fill_call(alloc, &mut call, loads, compares)?;
+    Ok(call)
+}
+
+/// Puts strings behind a text, with a blank between them.
+fn put_texts(came: &mut String, strings: &[Option<Text>]) -> Result<(), NoMemory> {
+    let mut gap = "";
+    for string in strings {
+        let bytes = match string {
+            None => b"-",
+            Some(text) => text.bytes(),
+        };
+        put(came, &[Part::Text(gap), Part::Word(bytes)])?;
+        gap = " ";
+    }
+    Ok(())
+}
+
+/// Puts the strings of a call behind a text, as a row has them.
+fn put_call(came: &mut String, call: &ScanCall) -> Result<(), NoMemory> {
+    put_texts(came, call.loads.as_slice())?;
+    put(came, &[Part::Text(", ")])?;
+    put_texts(came, call.compares.as_slice())
+}
+
+/// Puts the retargeted call behind a text.
+fn put_written(
+    alloc: Global,
+    came: &mut String,
+    old: &Chains,
+    new: &Chains,
+    call: &ScanCall,
+) -> Result<(), NoMemory>
+    requires old { AreChains old.now }
+    requires new { AreChains new.now }
+    requires cells { new.now.cells ≡ old.now.cells }
+    requires chains { length new.now.chains ≡ length old.now.chains }
+    requires call { IsCallFor old.now call.now }
+    requires accepted { IsAccepted old.now call.now }
+{
+    let map = map_of(alloc, old, new)?;
+    let written = retarget_call(alloc, &map, call)?;
+    put_call(came, &written)
+}
+
+/// Puts what comes of a call behind a text.
+fn put_judged(
+    alloc: Global,
+    came: &mut String,
+    old: &Chains,
+    new: &Chains,
+    call: &ScanCall,
+) -> Result<(), NoMemory>
+    requires old { AreChains old.now }
+    requires new { AreChains new.now }
+{
+    if !is_call_for(old, call)
+        || old.cells != new.cells
+        || old.chains.as_slice().len() != new.chains.as_slice().len()
+    {
+        return put(came, &[Part::Text("no call for these chains")]);
+    }
+    match judge_call(old, call) {
+        Some(kind) => put(came, &[Part::Text(kind.name())]),
+        None => put_written(alloc, came, old, new, call),
+    }
+}
+
+/// Puts what comes of the call of a row behind a text.
+fn put_answer(
+    alloc: Global,
+    came: &mut String,
+    old: &Chains,
+    new: &Chains,
+    row: &Value,
+) -> Result<(), NoMemory>
+    requires old { AreChains old.now }
+    requires new { AreChains new.now }
+{
+    let call = call_by(alloc, text(row, "loads"), text(row, "compares"))?;
+    put_judged(alloc, came, old, new, &call)
+}
+
+/// Puts what comes of a row behind a text, from its chains as read on.
+fn put_from(alloc: Global, came: &mut String, old: &Chains, row: &Value) -> Result<(), NoMemory>
+    requires { AreChains old.now }
+{
+    match chains_of(alloc, text(row, "written"))? {
+        None => put(came, &[Part::Text("no chains as written")]),
+        Some(new) => put_answer(alloc, came, old, &new, row),
+    }
+}
+
+/// Puts what comes of a row behind a text.
+fn put_row(alloc: Global, came: &mut String, row: &Value) -> Result<(), NoMemory> {
+    match chains_of(alloc, text(row, "read"))? {
+        None => put(came, &[Part::Text("no chains as read")]),
+        Some(old) => put_from(alloc, came, &old, row),
+    }
+}
+
+pub(crate) fn try_row(cases: &mut Cases, row: &Value) -> Result<(), NoMemory> {
+    let mut came = String::new(cases.alloc);
+    put_row(cases.alloc, &mut came, row)?;
+    cases.compare(text(row, "name"), came.as_str(), text(row, "wanted"))
 }

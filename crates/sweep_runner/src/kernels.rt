@@ -1,40 +1,26 @@
 //! The lanes beside the plain bodies, on worked values and at every length up to 200.
+//!
+//! A row of `kernels.toml` is a search for a gain from the points (0, 0): the rows `ex` and `c`, the `limit`, and as
+//! `wanted` what is found; the other rows hold zeros. Or it has bytes as `text`, which are all flipped, the letters that
+//! are `allowed`, and as `wanted` the flipped bytes, how many 1 are among the read ones, and the first that isn't allowed.
 
+use crate::rows::{list, number, put_numbers, text};
 use base_types::NoMemory;
 use lane_kernels::plain;
-use row_forms::Cases;
+use row_forms::{Cases, Part, put};
 use std::alloc::Global;
+use toml::Value;
 
 /// A length up to which the lanes come several times, with some left over.
 const LENGTHS: usize = 201;
 
-/// A search for a gain from the points (0, 0): the rows ex and c, the limit, and what is found; the other rows hold zeros.
-type Gain = ([i64; 3], [i64; 3], i64, &'static str);
-
-const GAINS: [Gain; 3] = [
-    ([5, 1, 3], [0, 0, -3], 2, "Some(1)"),
-    ([5, 1, 3], [0, 0, -3], 1, "Some(2)"),
-    ([5, 1, 3], [0, 0, -3], 0, "None"),
-];
-
-pub(crate) const WRONG_GAIN: [Gain; 1] = [([5, 1, 3], [0, 0, -3], 2, "Some(2)")];
-
-/// Bytes, of which those at a mask of ones are flipped, the letters that are allowed, and what comes: the flipped bytes, how
-/// many 1 are among the read ones, and the first that isn't allowed.
-type Bytes = (&'static str, &'static str, &'static str);
-
-const BYTES: [Bytes; 4] = [
-    ("01NLHX", "01NLHX", "10NHLX 1 None"),
-    ("01XN", "01N", "10XN 1 Some(2)"),
-    ("0110", "01", "1001 2 None"),
-    (
-        "XXXXXXXXXXXXXXXXXXXXXXXXXXXXXXXXX",
-        "",
-        "XXXXXXXXXXXXXXXXXXXXXXXXXXXXXXXXX 0 Some(0)",
-    ),
-];
-
-pub(crate) const WRONG_BYTES: [Bytes; 1] = [("0110", "01", "1001 3 None")];
+/// What is read, at which of it bytes are flipped, and which letters are allowed.
+#[derive(Clone, Copy)]
+struct Flip<'b> {
+    read: &'b [u8],
+    mask: &'b [u8],
+    allowed: &'b [u8],
+}
 
 /// The next of a row of numbers without a pattern.
 fn next(seed: u64) -> u64 {
@@ -42,148 +28,312 @@ fn next(seed: u64) -> u64 {
         .wrapping_add(1442695040888963407)
 }
 
-/// So many numbers from `low` on, below `low` + `range`.
-fn numbers(
-    alloc: Global,
+/// Puts so many numbers from `low` on, below `low` + `range`, behind others.
+fn put_random(
+    numbers: &mut Vec<i64>,
     length: usize,
     seed: u64,
     low: i64,
     range: u64,
-) -> Result<Vec<i64>, NoMemory> {
-    let mut numbers = Vec::with_capacity(alloc, length)?;
+) -> Result<(), NoMemory> {
     let mut state = seed;
     for _ in 0..length {
         state = next(state);
         numbers.push(low.wrapping_add(((state >> 33) % range.max(1)) as i64))?;
     }
-    Ok(numbers)
+    Ok(())
 }
 
-/// So many bytes of some symbols.
-fn symbols(
-    alloc: Global,
+/// Puts so many bytes of some symbols behind others.
+fn put_symbols(
+    bytes: &mut Vec<u8>,
     length: usize,
     seed: u64,
     symbols: &[u8; 8],
-) -> Result<Vec<u8>, NoMemory> {
-    let mut bytes = Vec::with_capacity(alloc, length)?;
+) -> Result<(), NoMemory> {
     let mut state = seed;
     for _ in 0..length {
         state = next(state);
         bytes.push(symbols[(state >> 61) as usize])?;
     }
-    Ok(bytes)
+    Ok(())
 }
 
-/// What both bodies find from the points (0, 0), the lanes first.
-fn gains(alloc: Global, rows: [&[i64]; 5], limit: i64) -> Result<[String; 2], NoMemory> {
+/// Puts the place that was found behind a text.
+fn put_found(came: &mut String, found: Option<usize>) -> Result<(), NoMemory> {
+    match found {
+        None => put(came, &[Part::Text("None")]),
+        Some(place) => put(
+            came,
+            &[
+                Part::Text("Some("),
+                Part::Number(place as u64),
+                Part::Text(")"),
+            ],
+        ),
+    }
+}
+
+fn compare_found(
+    cases: &mut Cases,
+    name: &str,
+    found: Option<usize>,
+    wanted: &str,
+) -> Result<(), NoMemory> {
+    let mut came = String::new(cases.alloc);
+    put_found(&mut came, found)?;
+    cases.compare(name, came.as_str(), wanted)
+}
+
+/// Both bodies find this from the points (0, 0).
+fn try_gain(
+    cases: &mut Cases,
+    name: &str,
+    rows: [&[i64]; 5],
+    limit: i64,
+    wanted: &str,
+) -> Result<(), NoMemory> {
     let [ex, ey, nx, ny, c] = rows;
     if !plain::are_rows(ex, ey, nx, ny, c) {
-        return Ok([String::from_str(alloc, "no rows")?, String::new(alloc)]);
+        return cases.compare(name, "no rows", wanted);
     }
     let lanes = lane_kernels::first_gain(0, 0, 0, 0, ex, ey, nx, ny, c, limit);
+    compare_found(cases, name, lanes, wanted)?;
     let one_by_one = plain::first_gain(0, 0, 0, 0, ex, ey, nx, ny, c, limit);
-    Ok([
-        format!(in alloc; "{lanes:?}")?,
-        format!(in alloc; "{one_by_one:?}")?,
-    ])
+    compare_found(cases, name, one_by_one, wanted)
 }
 
-/// What both bodies make of bytes and a mask, the lanes first.
-fn flips(alloc: Global, read: &[u8], mask: &[u8], allowed: &[u8]) -> Result<[String; 2], NoMemory> {
-    let mut lanes = Vec::from_slice(alloc, read)?;
-    let mut one_by_one = Vec::from_slice(alloc, read)?;
-    if lanes.len() != mask.len() || one_by_one.len() != mask.len() {
-        return Ok([String::from_str(alloc, "no mask")?, String::new(alloc)]);
+/// Both bodies find the same from the points (0, 0).
+fn try_same_gain(cases: &mut Cases, rows: [&[i64]; 5], limit: i64) -> Result<(), NoMemory> {
+    let [ex, ey, nx, ny, c] = rows;
+    if !plain::are_rows(ex, ey, nx, ny, c) {
+        return cases.compare("gains", "no rows", "rows");
     }
-    lane_kernels::flip_where(&mut lanes, mask);
-    plain::flip_where(&mut one_by_one, mask);
-    Ok([
-        format!(in alloc;
-            "{} {} {:?}",
-            str::from_utf8(&lanes).unwrap_or("no text"),
-            lane_kernels::count_byte(read, b'1'),
-            lane_kernels::any_byte_outside(read, allowed)
-        )?,
-        format!(in alloc;
-            "{} {} {:?}",
-            str::from_utf8(&one_by_one).unwrap_or("no text"),
-            plain::count_byte(read, b'1'),
-            plain::any_byte_outside(read, allowed)
-        )?,
-    ])
+    let mut wanted = String::new(cases.alloc);
+    let one_by_one = plain::first_gain(0, 0, 0, 0, ex, ey, nx, ny, c, limit);
+    put_found(&mut wanted, one_by_one)?;
+    let lanes = lane_kernels::first_gain(0, 0, 0, 0, ex, ey, nx, ny, c, limit);
+    compare_found(cases, "gains", lanes, wanted.as_str())
 }
 
-/// Tries worked values.
-pub(crate) fn try_worked(
-    cases: &mut Cases,
-    rows: &[Gain],
-    texts: &[Bytes],
+/// Puts flipped bytes behind a text, how many 1 were read, and the first byte that isn't allowed.
+fn put_flipped(
+    came: &mut String,
+    flipped: &[u8],
+    ones: usize,
+    outside: Option<usize>,
 ) -> Result<(), NoMemory> {
+    let blank = Part::Text(" ");
+    put(
+        came,
+        &[Part::Word(flipped), blank, Part::Number(ones as u64), blank],
+    )?;
+    put_found(came, outside)
+}
+
+/// Puts what the lanes make of bytes behind a text.
+fn put_lanes(alloc: Global, came: &mut String, flip: Flip<'_>) -> Result<(), NoMemory> {
+    let mut bytes = Vec::from_slice(alloc, flip.read)?;
+    if bytes.len() != flip.mask.len() {
+        return put(came, &[Part::Text("no mask")]);
+    }
+    lane_kernels::flip_where(&mut bytes, flip.mask);
+    let ones = lane_kernels::count_byte(flip.read, b'1');
+    let outside = lane_kernels::any_byte_outside(flip.read, flip.allowed);
+    put_flipped(came, bytes.as_slice(), ones, outside)
+}
+
+/// Puts what the plain bodies make of bytes behind a text.
+fn put_plain(alloc: Global, came: &mut String, flip: Flip<'_>) -> Result<(), NoMemory> {
+    let mut bytes = Vec::from_slice(alloc, flip.read)?;
+    if bytes.len() != flip.mask.len() {
+        return put(came, &[Part::Text("no mask for it")]);
+    }
+    plain::flip_where(&mut bytes, flip.mask);
+    let ones = plain::count_byte(flip.read, b'1');
+    let outside = plain::any_byte_outside(flip.read, flip.allowed);
+    put_flipped(came, bytes.as_slice(), ones, outside)
+}
+
+/// The lanes make this of bytes.
+fn try_lanes(cases: &mut Cases, name: &str, flip: Flip<'_>, wanted: &str) -> Result<(), NoMemory> {
+    let mut came = String::new(cases.alloc);
+    put_lanes(cases.alloc, &mut came, flip)?;
+    cases.compare(name, came.as_str(), wanted)
+}
+
+/// Both bodies make this of bytes.
+fn try_flip(cases: &mut Cases, name: &str, flip: Flip<'_>, wanted: &str) -> Result<(), NoMemory> {
+    try_lanes(cases, name, flip, wanted)?;
+    let mut came = String::new(cases.alloc);
+    put_plain(cases.alloc, &mut came, flip)?;
+    cases.compare(name, came.as_str(), wanted)
+}
+
+/// Both bodies make the same of bytes.
+fn try_same_flip(cases: &mut Cases, flip: Flip<'_>) -> Result<(), NoMemory> {
+    let mut wanted = String::new(cases.alloc);
+    put_plain(cases.alloc, &mut wanted, flip)?;
+    try_lanes(cases, "flips", flip, wanted.as_str())
+}
+
+fn try_bytes(cases: &mut Cases, row: &Value) -> Result<(), NoMemory> {
+    let read = text(row, "text").as_bytes();
+    let mask = vec![in cases.alloc; 1u8; read.len()]?;
+    let flip = Flip {
+        read,
+        mask: mask.as_slice(),
+        allowed: text(row, "allowed").as_bytes(),
+    };
+    try_flip(cases, "bytes", flip, text(row, "wanted"))
+}
+
+/// Tries the rows of a search, which are filled here.
+fn try_search(
+    cases: &mut Cases,
+    row: &Value,
+    ex: &mut Vec<i64>,
+    c: &mut Vec<i64>,
+) -> Result<(), NoMemory> {
+    put_numbers(ex, list(row, "ex"))?;
+    put_numbers(c, list(row, "c"))?;
     let none = [0; 3];
-    for (ex, c, limit, wanted) in rows {
-        for came in gains(cases.alloc, [ex, &none, &none, &none, c], *limit)? {
-            cases.compare("first gain", came.as_str(), wanted)?;
-        }
+    let rows: [&[i64]; 5] = [ex, &none, &none, &none, c];
+    let (limit, wanted) = (number(row, "limit"), text(row, "wanted"));
+    try_gain(cases, "first gain", rows, limit, wanted)
+}
+
+pub(crate) fn try_row(cases: &mut Cases, row: &Value) -> Result<(), NoMemory> {
+    if row.get("text").is_some() {
+        return try_bytes(cases, row);
     }
-    for (read, allowed, wanted) in texts {
-        let mask = vec![in cases.alloc; 1u8; read.len()]?;
-        for came in flips(cases.alloc, read.as_bytes(), &mask, allowed.as_bytes())? {
-            cases.compare("bytes", came.as_str(), wanted)?;
-        }
+    let mut ex = Vec::new(cases.alloc);
+    let mut c = Vec::new(cases.alloc);
+    try_search(cases, row, &mut ex, &mut c)
+}
+
+/// Tries a gain at a place, among rows of zeros and a row of ones that is filled here.
+fn try_place(
+    cases: &mut Cases,
+    zeros: &[i64],
+    place: usize,
+    c: &mut Vec<i64>,
+    wanted: &mut String,
+) -> Result<(), NoMemory> {
+    put_random(c, zeros.len(), 0, 1, 1)?;
+    if let Some(gain) = c.get_mut(place) {
+        *gain = 0;
+    }
+    put_found(wanted, Some(place))?;
+    let rows = [zeros, zeros, zeros, zeros, c.as_slice()];
+    try_gain(cases, "a gain at a place", rows, 1, wanted.as_str())
+}
+
+/// Tries a gain at each place of rows of this length.
+fn try_places(cases: &mut Cases, length: usize) -> Result<(), NoMemory> {
+    let mut zeros = Vec::new(cases.alloc);
+    put_random(&mut zeros, length, 0, 0, 1)?;
+    for place in 0..length {
+        let mut c = Vec::new(cases.alloc);
+        let mut wanted = String::new(cases.alloc);
+        try_place(cases, zeros.as_slice(), place, &mut c, &mut wanted)?;
     }
     Ok(())
 }
 
-/// Tries both bodies side by side: a gain at each place, and rows and bytes without a pattern.
-fn try_lengths(cases: &mut Cases) -> Result<(), NoMemory> {
-    let alloc = cases.alloc;
-    for length in 1..41 {
-        let zeros = numbers(alloc, length, 0, 0, 1)?;
-        for place in 0..length {
-            let mut c = numbers(alloc, length, 0, 1, 1)?;
-            if let Some(gain) = c.get_mut(place) {
-                *gain = 0;
-            }
-            let wanted = format!(in alloc; "Some({place})")?;
-            for came in gains(alloc, [&zeros, &zeros, &zeros, &zeros, &c], 1)? {
-                cases.compare("a gain at a place", came.as_str(), wanted.as_str())?;
-            }
-        }
-    }
-    for length in 0..LENGTHS {
-        let seed = length as u64;
-        let xs = numbers(alloc, length, seed, -500, 1000)?;
-        let ys = numbers(alloc, length, seed + 1000, -500, 1000)?;
-        let c = numbers(alloc, length, seed + 2000, -1000, 1000)?;
-        for limit in [-800, -300, 0, 200] {
-            let [lanes, one_by_one] = gains(alloc, [&xs, &ys, &ys, &xs, &c], limit)?;
-            cases.compare("gains", lanes.as_str(), one_by_one.as_str())?;
-        }
-        let read = symbols(alloc, length, seed, b"01NLHX01")?;
-        let mask = symbols(alloc, length, seed + 1, &[0, 0, 1, 0, 255, 0, 2, 0])?;
-        for allowed in [b"01NLHX".as_slice(), b"01NLH", b"01", b""] {
-            let [lanes, one_by_one] = flips(alloc, &read, &mask, allowed)?;
-            cases.compare("flips", lanes.as_str(), one_by_one.as_str())?;
-        }
+/// Tries rows of this length without a pattern, which are filled here.
+fn try_random_rows(
+    cases: &mut Cases,
+    length: usize,
+    xs: &mut Vec<i64>,
+    ys: &mut Vec<i64>,
+    c: &mut Vec<i64>,
+) -> Result<(), NoMemory> {
+    let seed = length as u64;
+    put_random(xs, length, seed, -500, 1000)?;
+    put_random(ys, length, seed.wrapping_add(1000), -500, 1000)?;
+    put_random(c, length, seed.wrapping_add(2000), -1000, 1000)?;
+    let rows = [
+        xs.as_slice(),
+        ys.as_slice(),
+        ys.as_slice(),
+        xs.as_slice(),
+        c.as_slice(),
+    ];
+    for limit in [-800, -300, 0, 200] {
+        try_same_gain(cases, rows, limit)?;
     }
     Ok(())
 }
 
-pub(crate) fn kernels(alloc: Global) -> Result<Cases, NoMemory> {
-    let mut cases = Cases::new(alloc);
-    try_worked(&mut cases, GAINS.as_slice(), BYTES.as_slice())?;
+/// Tries bytes of this length without a pattern, which are filled here.
+fn try_random_bytes(
+    cases: &mut Cases,
+    length: usize,
+    read: &mut Vec<u8>,
+    mask: &mut Vec<u8>,
+) -> Result<(), NoMemory> {
+    let seed = length as u64;
+    put_symbols(read, length, seed, b"01NLHX01")?;
+    put_symbols(
+        mask,
+        length,
+        seed.wrapping_add(1),
+        &[0, 0, 1, 0, 255, 0, 2, 0],
+    )?;
+    for allowed in [b"01NLHX".as_slice(), b"01NLH", b"01", b""] {
+        let flip = Flip {
+            read: read.as_slice(),
+            mask: mask.as_slice(),
+            allowed,
+        };
+        try_same_flip(cases, flip)?;
+    }
+    Ok(())
+}
+
+/// Tries both bodies side by side at a length.
+fn try_length(cases: &mut Cases, length: usize) -> Result<(), NoMemory> {
+    let mut xs = Vec::new(cases.alloc);
+    let mut ys = Vec::new(cases.alloc);
+    let mut c = Vec::new(cases.alloc);
+    try_random_rows(cases, length, &mut xs, &mut ys, &mut c)?;
+    let mut read = Vec::new(cases.alloc);
+    let mut mask = Vec::new(cases.alloc);
+    try_random_bytes(cases, length, &mut read, &mut mask)
+}
+
+/// Tries bytes among which every byte is allowed, and bytes among which a few are that don't stand there.
+fn try_every_byte(cases: &mut Cases) -> Result<(), NoMemory> {
     let mut every = [0; 256];
     for (k, byte) in every.iter_mut().enumerate() {
         *byte = k as u8;
     }
-    for (allowed, wanted) in [(every.as_slice(), " 0 None"), (&every[..32], " 0 Some(0)")] {
-        let read = [b'X'; 33];
-        let wanted = format!(in alloc; "{}{wanted}", str::from_utf8(&read).unwrap_or(""))?;
-        for came in flips(alloc, &read, &[0; 33], allowed)? {
-            cases.compare("every byte", came.as_str(), wanted.as_str())?;
-        }
+    let (read, mask) = ([b'X'; 33], [0; 33]);
+    let all = Flip {
+        read: &read,
+        mask: &mask,
+        allowed: &every,
+    };
+    let few = Flip {
+        read: &read,
+        mask: &mask,
+        allowed: &every[..32],
+    };
+    let wanted = "XXXXXXXXXXXXXXXXXXXXXXXXXXXXXXXXX 0 None";
+    try_flip(cases, "every byte", all, wanted)?;
+    let wanted = "XXXXXXXXXXXXXXXXXXXXXXXXXXXXXXXXX 0 Some(0)";
+    try_flip(cases, "every byte", few, wanted)
+}
+
+/// Tries both bodies side by side: a gain at each place, and rows and bytes without a pattern.
+pub(crate) fn try_made(cases: &mut Cases) -> Result<(), NoMemory> {
+    try_every_byte(cases)?;
+    for length in 1..41 {
+        try_places(cases, length)?;
     }
-    try_lengths(&mut cases)?;
-    Ok(cases)
+    for length in 0..LENGTHS {
+        try_length(cases, length)?;
+    }
+    Ok(())
 }

@@ -1,8 +1,15 @@
 //! Plans that are searched: chains on lines by hand, and small rules from a row of numbers without a pattern.
+//!
+//! A row of `orders.toml` has chains of one-bit units, each from x = 0 on a line to its stop there: `rules` with the y of
+//! each, the x of its stop, and how many bits it may hold; `places` with x and y where each unit is entered and where it is
+//! left, and 1 where it is pinned. Its `plan` is the one as read. Its `searches` are each a search, the plan that it starts
+//! with, and what comes: the plan, its length, and whether it is settled for orders and for all steps.
 ghost use Rattle.std.specs.Prelude.{◌<◌};
 ghost use Rattle.chain_rules.specs.Legality.{IsLegal};
 ghost use Rattle.order_search.specs.Searches.{AreSearchable};
 
+use crate::rows::{list, number_of, text, text_of};
+use crate::rules::put_plan;
 use crate::steps::plan_of;
 use base_types::{NoMemory, Point, Rows};
 use chain_rules::plain::is_legal;
@@ -10,39 +17,20 @@ use chain_rules::{ChainRule, Plan, Rules, Unit};
 use order_search::plain::{is_settled, length_of};
 use order_search::{Effort, are_searchable, nearest_plan, settle_order};
 use partition_moves::settle_all;
-use plan_search::{Quiet, search_plan};
-use row_forms::Cases;
+use plan_search::{MeasuredPlan, Quiet, search_plan};
+use row_forms::{Cases, Part, items_of, put};
 use std::alloc::Global;
+use toml::Value;
 use wire_cost::Ends;
 
 /// How many rules are made for the searches that settle, and for whole searches, which take longer.
-const SETTLED: usize = 400;
+const SETTLED: u64 = 400;
 
-const SEARCHED: usize = 30;
-
-/// A chain of one-bit units from x = 0 on the line y to its stop there: where they are entered and left, how many bits it may
-/// hold, and whether its last unit is pinned.
-type Line = (
-    i64,
-    &'static [(i64, i64)],
-    &'static [(i64, i64)],
-    i64,
-    u32,
-    bool,
-);
-
-/// Lines, the plan as read, and plans that are searched from a plan, or the plan itself: its length and whether it is settled
-/// for orders and for all steps.
-type Row = (
-    &'static str,
-    &'static [Line],
-    &'static [&'static [u32]],
-    &'static [(Search, &'static [&'static [u32]], &'static str)],
-);
+const SEARCHED: u64 = 30;
 
 /// What is looked at.
-#[derive(Clone, Copy, Debug)]
-pub(crate) enum Search {
+#[derive(Clone, Copy)]
+enum Search {
     /// The plan itself.
     Still,
     /// The plan of nearest neighbours.
@@ -53,235 +41,210 @@ pub(crate) enum Search {
     All,
 }
 
-const PLACES: &[(i64, i64)] = &[(22000, 2000), (62000, 2000), (42000, 2000)];
+/// The search of a name, if there is one.
+fn search_of(name: &str) -> Option<Search> {
+    match name {
+        "Still" => Some(Search::Still),
+        "Nearest" => Some(Search::Nearest),
+        "Order" => Some(Search::Order),
+        "All" => Some(Search::All),
+        _ => None,
+    }
+}
 
-const FIRST: Line = (
-    2000,
-    &[(22000, 2000), (42000, 2000), (62000, 2000)],
-    &[(22000, 2000), (42000, 2000), (62000, 2000)],
-    100000,
-    4,
-    false,
-);
-
-const SECOND: Line = (
-    202000,
-    &[
-        (82000, 2000),
-        (22000, 202000),
-        (42000, 202000),
-        (62000, 202000),
-        (82000, 202000),
-    ],
-    &[
-        (82000, 2000),
-        (22000, 202000),
-        (42000, 202000),
-        (62000, 202000),
-        (82000, 202000),
-    ],
-    120000,
-    5,
-    false,
-);
-
-const BOTH: &[&[u32]] = &[&[0, 1, 2], &[3, 4, 5, 6, 7]];
-
-const NEAREST: &[&[u32]] = &[&[0, 1, 2], &[4, 5, 6, 7, 3]];
-
-const ROWS: [Row; 4] = [
-    (
-        "three flops",
-        &[(2000, PLACES, PLACES, 80000, 3, false)],
-        &[&[0, 1, 2]],
-        &[
-            (
-                Search::Still,
-                &[&[0, 1, 2]],
-                "[[0, 1, 2]] 120000 false false",
-            ),
-            (
-                Search::Nearest,
-                &[&[0, 1, 2]],
-                "[[0, 2, 1]] 80000 true true",
-            ),
-            (Search::Order, &[&[0, 1, 2]], "[[0, 2, 1]] 80000 true true"),
-            (Search::All, &[&[0, 1, 2]], "[[0, 2, 1]] 80000 true true"),
-        ],
-    ),
-    (
-        "three flops, the last one pinned",
-        &[(2000, PLACES, PLACES, 80000, 3, true)],
-        &[&[0, 1, 2]],
-        &[
-            (Search::Still, &[&[0, 1, 2]], "[[0, 1, 2]] 120000 true true"),
-            (
-                Search::Nearest,
-                &[&[0, 1, 2]],
-                "[[0, 1, 2]] 120000 true true",
-            ),
-            (Search::Order, &[&[0, 1, 2]], "[[0, 1, 2]] 120000 true true"),
-            (Search::All, &[&[0, 1, 2]], "[[0, 1, 2]] 120000 true true"),
-        ],
-    ),
-    (
-        "an ordered list that is left far from where it is entered, and a flop between both places",
-        &[(
-            2000,
-            &[(22000, 2000), (62000, 2000)],
-            &[(82000, 2000), (62000, 2000)],
-            100000,
-            2,
-            false,
-        )],
-        &[&[0, 1]],
-        &[
-            (Search::Still, &[&[0, 1]], "[[0, 1]] 80000 true true"),
-            (Search::Nearest, &[&[0, 1]], "[[0, 1]] 80000 true true"),
-            (Search::Order, &[&[0, 1]], "[[0, 1]] 80000 true true"),
-            (Search::All, &[&[0, 1]], "[[0, 1]] 80000 true true"),
-        ],
-    ),
-    (
-        "a flop that stands among those of the other chain moves to its end",
-        &[FIRST, SECOND],
-        BOTH,
-        &[
-            (
-                Search::Still,
-                BOTH,
-                "[[0, 1, 2], [3, 4, 5, 6, 7]] 740000 false false",
-            ),
-            (
-                Search::Nearest,
-                BOTH,
-                "[[0, 1, 2], [4, 5, 6, 7, 3]] 620000 true false",
-            ),
-            (
-                Search::Order,
-                NEAREST,
-                "[[0, 1, 2], [4, 5, 6, 7, 3]] 620000 true false",
-            ),
-            (
-                Search::All,
-                BOTH,
-                "[[0, 1, 2, 3], [4, 5, 6, 7]] 220000 true true",
-            ),
-            (
-                Search::Still,
-                &[&[0, 1, 2, 3], &[4, 5, 6, 7]],
-                "[[0, 1, 2, 3], [4, 5, 6, 7]] 220000 true true",
-            ),
-        ],
-    ),
-];
-
-pub(crate) const WRONG: [Row; 1] = [(
-    "wrong plans",
-    &[(2000, PLACES, PLACES, 80000, 3, false)],
-    &[&[0, 1, 2]],
-    &[
-        (
-            Search::Still,
-            &[&[0, 1, 2]],
-            "[[0, 1, 2]] 120000 true false",
-        ),
-        (Search::Still, &[&[0, 1]], "[[0, 1]] 42000 true true"),
-        (
-            Search::Nearest,
-            &[&[0, 1, 2]],
-            "[[0, 2, 1]] 90000 true true",
-        ),
-        (Search::Order, &[&[0, 1, 2]], "[[0, 1, 2]] 80000 true true"),
-        (Search::All, &[&[0, 1, 2]], "[[0, 2, 1]] 80000 true false"),
-    ],
-)];
-
-pub(crate) fn empty(alloc: Global) -> (Rules, Ends) {
-    let rules = Rules {
+/// No rules yet.
+fn no_rules(alloc: Global) -> Rules {
+    Rules {
         units: Rows::new(alloc),
         chains: Rows::new(alloc),
         read: Plan::of(Vec::new(alloc)),
-    };
-    let ends = Ends {
+    }
+}
+
+/// No ends yet.
+pub(crate) fn no_ends(alloc: Global) -> Ends {
+    Ends {
         entry: Rows::new(alloc),
         exit: Rows::new(alloc),
         start: Rows::new(alloc),
         stop: Rows::new(alloc),
-    };
-    (rules, ends)
+    }
 }
 
-fn add_line(rules: &mut Rules, ends: &mut Ends, line: Line) -> Result<(), NoMemory> {
-    let (y, entries, exits, stop, bound, pinned) = line;
-    for (k, ((x, y), (to_x, to_y))) in entries.iter().zip(exits).enumerate() {
-        rules.units.push(Unit {
-            path: 0,
-            first: 0,
-            last: 0,
-            bits: 1,
-            pinned: pinned && k.wrapping_add(1) == entries.len(),
-        })?;
-        ends.entry.push(Point { x: *x, y: *y })?;
-        ends.exit.push(Point { x: *to_x, y: *to_y })?;
+/// The number at a place of a list.
+fn number_at(list: &[Value], at: usize) -> i64 {
+    match list.get(at) {
+        Some(value) => number_of(value),
+        None => 0,
     }
+}
+
+/// The text at a place of a list.
+fn text_at(list: &[Value], at: usize) -> &str {
+    match list.get(at) {
+        Some(value) => text_of(value),
+        None => "",
+    }
+}
+
+/// Puts a unit behind others.
+fn put_unit(rules: &mut Rules, ends: &mut Ends, place: &[Value]) -> Result<(), NoMemory> {
+    rules.units.push(Unit {
+        path: 0,
+        first: 0,
+        last: 0,
+        bits: 1,
+        pinned: number_at(place, 4) == 1,
+    })?;
+    ends.entry.push(Point {
+        x: number_at(place, 0),
+        y: number_at(place, 1),
+    })?;
+    ends.exit.push(Point {
+        x: number_at(place, 2),
+        y: number_at(place, 3),
+    })
+}
+
+/// Puts a chain behind others.
+fn put_chain(rules: &mut Rules, ends: &mut Ends, rule: &[Value]) -> Result<(), NoMemory> {
     rules.chains.push(ChainRule {
         path: 0,
         first: 0,
         last: 0,
         partition: 0,
-        bound,
+        bound: u32::try_from(number_at(rule, 2)).unwrap_or(0),
         keeps_bit: true,
     })?;
+    let y = number_at(rule, 0);
     ends.start.push(Some(Point { x: 0, y }))?;
-    ends.stop.push(Some(Point { x: stop, y }))
+    ends.stop.push(Some(Point {
+        x: number_at(rule, 1),
+        y,
+    }))
 }
 
-/// The plan that a search makes of a plan.
-fn found(
+/// Puts the units and chains of a row behind others.
+fn put_lines(rules: &mut Rules, ends: &mut Ends, row: &Value) -> Result<(), NoMemory> {
+    for place in list(row, "places") {
+        put_unit(rules, ends, items_of(place))?;
+    }
+    for rule in list(row, "rules") {
+        put_chain(rules, ends, items_of(rule))?;
+    }
+    Ok(())
+}
+
+/// Lets a plan be the one that a search makes of it.
+fn search_from(
     alloc: Global,
     rules: &Rules,
     ends: &Ends,
     search: Search,
-    mut plan: Plan,
-) -> Result<Plan, NoMemory>
+    plan: &mut Plan,
+) -> Result<(), NoMemory>
     requires searchable { AreSearchable rules.now ends.now }
-    requires legal { IsLegal rules.now plan }
+    requires legal { IsLegal rules.now plan.old }
 {
     match search {
-        Search::Still => {}
-        Search::Nearest => return nearest_plan(alloc, rules, ends),
-        Search::Order => settle_order(alloc, rules, ends, &mut plan)?,
-        Search::All => settle_all(alloc, rules, ends, &mut plan)?,
+        Search::Still => Ok(()),
+        Search::Nearest => {
+            *plan = nearest_plan(alloc, rules, ends)?;
+            Ok(())
+        }
+        Search::Order => settle_order(alloc, rules, ends, plan),
+        Search::All => settle_all(alloc, rules, ends, plan),
     }
-    Ok(plan)
 }
 
-pub(crate) fn try_rows(cases: &mut Cases, rows: &[Row]) -> Result<(), NoMemory> {
-    let alloc = cases.alloc;
-    for (name, lines, read, searches) in rows {
-        let (mut rules, mut ends) = empty(alloc);
-        rules.read = plan_of(alloc, read)?;
-        for line in *lines {
-            add_line(&mut rules, &mut ends, *line)?;
-        }
-        for (search, plan, wanted) in *searches {
-            let plan = plan_of(alloc, plan)?;
-            let mut came = String::from_str(alloc, "not legal")?;
-            if are_searchable(&rules, &ends) && is_legal(&rules, &plan) {
-                let plan = found(alloc, &rules, &ends, *search, plan)?;
-                if is_legal(&rules, &plan) {
-                    let length = length_of(&rules, &ends, &plan);
-                    let order = is_settled(alloc, Effort::Order, &rules, &ends, &plan)?;
-                    let all = is_settled(alloc, Effort::Full, &rules, &ends, &plan)?;
-                    came = format!(in alloc; "{:?} {length} {order} {all}", plan.lists())?;
-                }
-            }
-            let name = format!(in alloc; "{name}, {search:?}")?;
-            cases.compare(name.as_str(), came.as_str(), wanted)?;
-        }
+/// Puts a plan behind a text, its length, and whether it is settled for orders and for all steps.
+fn put_measured(
+    alloc: Global,
+    came: &mut String,
+    rules: &Rules,
+    ends: &Ends,
+    plan: &Plan,
+) -> Result<(), NoMemory>
+    requires searchable { AreSearchable rules.now ends.now }
+    requires legal { IsLegal rules.now plan.now }
+{
+    put_plan(came, plan)?;
+    let order = is_settled(alloc, Effort::Order, rules, ends, plan)?;
+    let all = is_settled(alloc, Effort::Full, rules, ends, plan)?;
+    put(
+        came,
+        &[
+            Part::Text(" "),
+            Part::Signed(length_of(rules, ends, plan)),
+            Part::Text(if order { " true" } else { " false" }),
+            Part::Text(if all { " true" } else { " false" }),
+        ],
+    )
+}
+
+/// Puts what comes of a search behind a text.
+fn put_found(
+    alloc: Global,
+    came: &mut String,
+    rules: &Rules,
+    ends: &Ends,
+    name: &str,
+    plan: &mut Plan,
+) -> Result<(), NoMemory> {
+    let Some(search) = search_of(name) else {
+        return put(came, &[Part::Text("no such search")]);
+    };
+    if !are_searchable(rules, ends) || !is_legal(rules, plan) {
+        return put(came, &[Part::Text("not legal")]);
+    }
+    search_from(alloc, rules, ends, search, plan)?;
+    if !is_legal(rules, plan) {
+        return put(came, &[Part::Text("not legal")]);
+    }
+    put_measured(alloc, came, rules, ends, plan)
+}
+
+/// Tries a search of a row, whose texts are put together here.
+fn try_search(
+    cases: &mut Cases,
+    row: &Value,
+    rules: &Rules,
+    ends: &Ends,
+    search: &[Value],
+    name: &mut String,
+    came: &mut String,
+) -> Result<(), NoMemory> {
+    let kind = text_at(search, 0);
+    name.push_str(text(row, "name"))?;
+    name.push_str(", ")?;
+    name.push_str(kind)?;
+    let mut plan = plan_of(cases.alloc, text_at(search, 1))?;
+    put_found(cases.alloc, came, rules, ends, kind, &mut plan)?;
+    cases.compare(name.as_str(), came.as_str(), text_at(search, 2))
+}
+
+/// Tries the searches of a row, whose rules and ends are filled here.
+fn try_lines(
+    cases: &mut Cases,
+    row: &Value,
+    rules: &mut Rules,
+    ends: &mut Ends,
+) -> Result<(), NoMemory> {
+    rules.read = plan_of(cases.alloc, text(row, "plan"))?;
+    put_lines(rules, ends, row)?;
+    for search in list(row, "searches") {
+        let mut name = String::new(cases.alloc);
+        let mut came = String::new(cases.alloc);
+        let search = items_of(search);
+        try_search(cases, row, rules, ends, search, &mut name, &mut came)?;
     }
     Ok(())
+}
+
+pub(crate) fn try_row(cases: &mut Cases, row: &Value) -> Result<(), NoMemory> {
+    let mut rules = no_rules(cases.alloc);
+    let mut ends = no_ends(cases.alloc);
+    try_lines(cases, row, &mut rules, &mut ends)
 }
 
 /// A number below `sides`, from a row of numbers without a pattern.
@@ -309,30 +272,33 @@ fn point_or_nowhere(seed: &mut u64) -> Option<Point> {
     }
 }
 
-/// A chain of up to four units, of up to two bits each, whose bound leaves up to three bits; its last unit may be pinned.
-fn add_chain(
-    alloc: Global,
+/// Puts a unit of up to two bits behind others, which may be pinned where it is the last of its chain. How many bits it has.
+fn put_made_unit(
     seed: &mut u64,
     rules: &mut Rules,
     ends: &mut Ends,
-) -> Result<Vec<u32>, NoMemory> {
-    let count = roll(seed, 4) + 1;
-    let mut units = Vec::new(alloc);
-    let mut bits = 0u32;
-    for k in 0..count {
-        units.push(u32::try_from(rules.units.as_slice().len()).unwrap_or(0))?;
-        let more = roll(seed, 3) as u32;
-        bits = bits.wrapping_add(more);
-        rules.units.push(Unit {
-            path: 0,
-            first: 0,
-            last: 0,
-            bits: more,
-            pinned: k + 1 == count && roll(seed, 3) == 0,
-        })?;
-        ends.entry.push(point(seed))?;
-        ends.exit.push(point(seed))?;
-    }
+    is_last: bool,
+) -> Result<u32, NoMemory> {
+    let bits = roll(seed, 3) as u32;
+    rules.units.push(Unit {
+        path: 0,
+        first: 0,
+        last: 0,
+        bits,
+        pinned: is_last && roll(seed, 3) == 0,
+    })?;
+    ends.entry.push(point(seed))?;
+    ends.exit.push(point(seed))?;
+    Ok(bits)
+}
+
+/// Puts a chain of so many bits behind others, whose bound leaves up to three bits.
+fn put_made_rule(
+    seed: &mut u64,
+    rules: &mut Rules,
+    ends: &mut Ends,
+    bits: u32,
+) -> Result<(), NoMemory> {
     rules.chains.push(ChainRule {
         path: 0,
         first: 0,
@@ -342,23 +308,52 @@ fn add_chain(
         keeps_bit: bits > 0,
     })?;
     ends.start.push(point_or_nowhere(seed))?;
-    ends.stop.push(point_or_nowhere(seed))?;
-    Ok(units)
+    ends.stop.push(point_or_nowhere(seed))
 }
 
-/// Rules of one to three chains.
-fn made(alloc: Global, seed: &mut u64) -> Result<(Rules, Ends), NoMemory> {
-    let (mut rules, mut ends) = empty(alloc);
-    let mut chains = Vec::new(alloc);
-    for _ in 0..roll(seed, 3) + 1 {
-        chains.push(add_chain(alloc, seed, &mut rules, &mut ends)?)?;
+/// Puts a chain of up to four units behind others, and its units behind none.
+fn put_made_chain(
+    seed: &mut u64,
+    rules: &mut Rules,
+    ends: &mut Ends,
+    units: &mut Vec<u32>,
+) -> Result<(), NoMemory> {
+    let count = roll(seed, 4) + 1;
+    let mut bits = 0u32;
+    for k in 0..count {
+        units.push(u32::try_from(rules.units.as_slice().len()).unwrap_or(0))?;
+        let more = put_made_unit(seed, rules, ends, k + 1 == count)?;
+        bits = bits.wrapping_add(more);
     }
-    rules.read = Plan::of(chains);
-    Ok((rules, ends))
+    put_made_rule(seed, rules, ends, bits)
+}
+
+/// Puts one to three chains behind none.
+fn put_made(
+    alloc: Global,
+    seed: &mut u64,
+    rules: &mut Rules,
+    ends: &mut Ends,
+    lists: &mut Vec<Vec<u32>>,
+) -> Result<(), NoMemory> {
+    for _ in 0..roll(seed, 3) + 1 {
+        let mut units = Vec::new(alloc);
+        put_made_chain(seed, rules, ends, &mut units)?;
+        lists.push(units)?;
+    }
+    Ok(())
+}
+
+/// Lets rules be made ones of one to three chains.
+fn make(alloc: Global, seed: &mut u64, rules: &mut Rules, ends: &mut Ends) -> Result<(), NoMemory> {
+    let mut lists = Vec::new(alloc);
+    put_made(alloc, seed, rules, ends, &mut lists)?;
+    rules.read = Plan::of(lists);
+    Ok(())
 }
 
 /// What is wrong with a plan of a search of this effort, which is to be no longer than this.
-pub(crate) fn flaw(
+fn flaw(
     alloc: Global,
     rules: &Rules,
     ends: &Ends,
@@ -380,74 +375,142 @@ pub(crate) fn flaw(
 }
 
 /// The settled plan of made rules is legal, no longer, and settled by the plain test.
-fn settles(cases: &mut Cases, rules: &Rules, ends: &Ends, name: &str) -> Result<(), NoMemory>
+fn settles(
+    cases: &mut Cases,
+    rules: &Rules,
+    ends: &Ends,
+    name: &str,
+    effort: Effort,
+) -> Result<(), NoMemory>
     requires searchable { AreSearchable rules.now ends.now }
 {
-    let alloc = cases.alloc;
+    let search = match effort {
+        Effort::Order => Search::Order,
+        Effort::Full => Search::All,
+    };
     let read = length_of(rules, ends, &rules.read);
-    for (search, effort) in [(Search::Order, Effort::Order), (Search::All, Effort::Full)] {
-        let plan = found(alloc, rules, ends, search, rules.read.copy(alloc)?)?;
-        cases.compare(name, flaw(alloc, rules, ends, effort, &plan, read)?, "none")?;
-    }
-    Ok(())
+    let mut plan = rules.read.copy(cases.alloc)?;
+    search_from(cases.alloc, rules, ends, search, &mut plan)?;
+    let flaw = flaw(cases.alloc, rules, ends, effort, &plan, read)?;
+    cases.compare(name, flaw, "none")
+}
+
+/// Puts a plan behind a text, and three lengths.
+fn put_lengths(came: &mut String, plan: &Plan, lengths: [i64; 3]) -> Result<(), NoMemory> {
+    let [read, nearest, own] = lengths;
+    put_plan(came, plan)?;
+    put(
+        came,
+        &[
+            Part::Text(" ["),
+            Part::Signed(read),
+            Part::Text(", "),
+            Part::Signed(nearest),
+            Part::Text(", "),
+            Part::Signed(own),
+            Part::Text("]"),
+        ],
+    )
+}
+
+/// Compares a searched plan and the lengths that it says with the plan that is searched again and these lengths.
+fn compare_plans(
+    cases: &mut Cases,
+    name: &str,
+    made: &MeasuredPlan,
+    again: &MeasuredPlan,
+    lengths: [i64; 3],
+) -> Result<(), NoMemory> {
+    let mut came = String::new(cases.alloc);
+    let said = [made.read_length, made.nearest_length, made.length];
+    put_lengths(&mut came, &made.plan, said)?;
+    let mut wanted = String::new(cases.alloc);
+    put_lengths(&mut wanted, &again.plan, lengths)?;
+    cases.compare(name, came.as_str(), wanted.as_str())
+}
+
+/// The searched plan of made rules is measured, and is the same when it is searched again.
+fn repeats(
+    cases: &mut Cases,
+    rules: &Rules,
+    ends: &Ends,
+    name: &str,
+    effort: Effort,
+    made: &MeasuredPlan,
+    lengths: [i64; 2],
+) -> Result<(), NoMemory>
+    requires searchable { AreSearchable rules.now ends.now }
+    requires legal { IsLegal rules.now made.now.plan }
+{
+    let length = length_of(rules, ends, &made.plan);
+    let again = search_plan(cases.alloc, rules, ends, effort, &Quiet)?;
+    let lengths = [lengths[0], lengths[1], length];
+    compare_plans(cases, name, made, &again, lengths)
 }
 
 /// The searched plan of made rules is as good as the settled one and no longer than the nearest one, is measured, and is the
 /// same when it is searched again.
-fn searches(cases: &mut Cases, rules: &Rules, ends: &Ends, name: &str) -> Result<(), NoMemory>
+fn searches(
+    cases: &mut Cases,
+    rules: &Rules,
+    ends: &Ends,
+    name: &str,
+    effort: Effort,
+) -> Result<(), NoMemory>
     requires searchable { AreSearchable rules.now ends.now }
 {
-    let alloc = cases.alloc;
-    let nearest = nearest_plan(alloc, rules, ends)?;
+    let nearest = nearest_plan(cases.alloc, rules, ends)?;
     let lengths = [
         length_of(rules, ends, &rules.read),
         length_of(rules, ends, &nearest),
     ];
+    let made = search_plan(cases.alloc, rules, ends, effort, &Quiet)?;
+    let most = lengths[0].min(lengths[1]);
+    let flaw = flaw(cases.alloc, rules, ends, effort, &made.plan, most)?;
+    cases.compare(name, flaw, "none")?;
+    repeats(cases, rules, ends, name, effort, &made, lengths)
+}
+
+/// Tries made rules, which are filled here, and whose name is put together here.
+fn try_rules(
+    cases: &mut Cases,
+    seed: &mut u64,
+    number: u64,
+    whole: bool,
+    rules: &mut Rules,
+    ends: &mut Ends,
+    name: &mut String,
+) -> Result<(), NoMemory> {
+    make(cases.alloc, seed, rules, ends)?;
+    put(name, &[Part::Text("made rules "), Part::Number(number)])?;
+    if !are_searchable(rules, ends) {
+        return cases.compare(name.as_str(), "not searchable", "searchable");
+    }
     for effort in [Effort::Order, Effort::Full] {
-        let made = search_plan(alloc, rules, ends, effort, &Quiet)?;
-        let most = lengths[0].min(lengths[1]);
-        cases.compare(
-            name,
-            flaw(alloc, rules, ends, effort, &made.plan, most)?,
-            "none",
-        )?;
-        if is_legal(rules, &made.plan) {
-            let length = length_of(rules, ends, &made.plan);
-            let again = search_plan(alloc, rules, ends, effort, &Quiet)?;
-            let said = [made.read_length, made.nearest_length, made.length];
-            let came = format!(in alloc; "{:?} {said:?}", made.plan.lists())?;
-            let wanted = format!(in alloc;
-                "{:?} {:?}",
-                again.plan.lists(),
-                [lengths[0], lengths[1], length]
-            )?;
-            cases.compare(name, came.as_str(), wanted.as_str())?;
+        if whole {
+            searches(cases, rules, ends, name.as_str(), effort)?;
+        } else {
+            settles(cases, rules, ends, name.as_str(), effort)?;
         }
     }
     Ok(())
 }
 
 /// Tries so many made rules.
-fn try_made(cases: &mut Cases, count: usize, whole: bool) -> Result<(), NoMemory> {
+fn try_many(cases: &mut Cases, count: u64, whole: bool) -> Result<(), NoMemory> {
     let mut seed = 2024;
     for number in 0..count {
-        let (rules, ends) = made(cases.alloc, &mut seed)?;
-        let name = format!(in cases.alloc; "made rules {number}")?;
-        if !are_searchable(&rules, &ends) {
-            cases.compare(name.as_str(), "not searchable", "searchable")?;
-        } else if whole {
-            searches(cases, &rules, &ends, name.as_str())?;
-        } else {
-            settles(cases, &rules, &ends, name.as_str())?;
-        }
+        let mut rules = no_rules(cases.alloc);
+        let mut ends = no_ends(cases.alloc);
+        let mut name = String::new(cases.alloc);
+        let (all, ways) = (&mut rules, &mut ends);
+        try_rules(cases, &mut seed, number, whole, all, ways, &mut name)?;
     }
     Ok(())
 }
 
-pub(crate) fn orders(alloc: Global) -> Result<Cases, NoMemory> {
-    let mut cases = Cases::new(alloc);
-    try_rows(&mut cases, ROWS.as_slice())?;
-    try_made(&mut cases, SETTLED, false)?;
-    try_made(&mut cases, SEARCHED, true)?;
-    Ok(cases)
+/// Tries made rules.
+pub(crate) fn try_made(cases: &mut Cases) -> Result<(), NoMemory> {
+    try_many(cases, SETTLED, false)?;
+    try_many(cases, SEARCHED, true)
 }

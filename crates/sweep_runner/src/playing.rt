@@ -1,129 +1,40 @@
 //! Patterns played by hand on three flops, as read and as written for a new order.
+//!
+//! A row of `playing.toml` has chains as `read`, as in `calls`, `loads`, `compares`, and whether the device `mixes`. A call
+//! loads, the device captures, and another call compares. Where the row has `verdicts`, one call loads and compares in a
+//! Loop that runs twice. As `wanted` come the cells and the verdict of each scan call, the verdicts of the device, and the
+//! cells at the end; as `verdicts` those of the scan calls alone, and the cells at the end.
 ghost use Rattle.std.specs.Prelude.{◌≡◌, [], ◌∷◌, IfOk, IfSome};
 ghost use Rattle.stil_tester.specs.Runs.{AreStatementsFor};
-ghost use Rattle.stil_tester.specs.Shifting.{AreChains};
+ghost use Rattle.stil_tester.specs.Shifting.{AreChains, IsCallFor};
 
 use crate::calls::{call_by, chains_of};
+use crate::rows::{text, truth};
 use base_types::{NoMemory, Rows, Text};
-use row_forms::Cases;
+use row_forms::{Cases, Part, put};
 use std::alloc::Global;
 use std::fmt::Write;
-use stil_tester::{Chains, Device, Hold, Mix, Player, Symbol, is_call_for, play, scan_call};
-use stil_types::{BodyStatement, PatternStatement};
+use stil_tester::{
+    Chains, Device, Hold, Mix, PlayLog, Player, Symbol, is_call_for, play, scan_call,
+};
+use stil_types::{BodyStatement, PatternStatement, ScanCall};
+use toml::Value;
 
-/// Chains as in `calls`, a load, a compare, whether the device mixes, and whether both are in a Loop that runs twice; what comes:
-/// the cells and the verdict of each scan call, the verdicts of the device, and the cells at the end. Without a Loop a call
-/// loads, the device captures, and another call compares.
-type Row = (
-    &'static str,
-    &'static str,
-    [&'static str; 2],
-    bool,
-    bool,
-    &'static str,
-);
+/// What is answered where strings are no calls for the chains.
+const NO_CALL: &str = "no call for these chains";
 
-const ROWS: [Row; 8] = [
-    (
-        "three_flops, held",
-        "012",
-        ["011", "LHX"],
-        false,
-        false,
-        "[One, One, Zero] true, [Unknown, Unknown, Unknown] true, 5 true, [Unknown, Unknown, Unknown]",
-    ),
-    (
-        "the same written",
-        "021",
-        ["101", "HLX"],
-        false,
-        false,
-        "[One, One, Zero] true, [Unknown, Unknown, Unknown] true, 5 true, [Unknown, Unknown, Unknown]",
-    ),
-    (
-        "three_flops, mixed",
-        "012",
-        ["011", "LHX"],
-        true,
-        false,
-        "[One, One, Zero] true, [Unknown, Unknown, Unknown] false, 5 true, [Unknown, Unknown, Unknown]",
-    ),
-    (
-        "the same written, mixed",
-        "021",
-        ["101", "HLX"],
-        true,
-        false,
-        "[One, One, Zero] true, [Unknown, Unknown, Unknown] false, 5 true, [Unknown, Unknown, Unknown]",
-    ),
-    (
-        "inverted behind a, which stands first",
-        "0~12",
-        ["011", "LHX"],
-        false,
-        false,
-        "[One, Zero, One] true, [Unknown, Unknown, Unknown] false, 5 true, [Unknown, Unknown, Unknown]",
-    ),
-    (
-        "inverted behind a, which stands last",
-        "120~",
-        ["110", "XHL"],
-        false,
-        false,
-        "[One, Zero, One] true, [Unknown, Unknown, Unknown] false, 5 true, [Unknown, Unknown, Unknown]",
-    ),
-    (
-        "each round goes on from the cells that the one before it left, held",
-        "012",
-        ["011", "LHX"],
-        false,
-        true,
-        "[One, One, Zero] false, [One, One, Zero] true, 6 true, [One, One, Zero]",
-    ),
-    (
-        "each round goes on from the cells that the one before it left, mixed",
-        "012",
-        ["011", "HLX"],
-        true,
-        true,
-        "[One, One, Zero] false, [One, One, Zero] true, 6 true, [Zero, One, One]",
-    ),
-];
-
-pub(crate) const WRONG: [Row; 3] = [
-    (
-        "another verdict",
-        "012",
-        ["011", "LHX"],
-        false,
-        false,
-        "[One, One, Zero] true, [Unknown, Unknown, Unknown] false, 5 true, [Unknown, Unknown, Unknown]",
-    ),
-    (
-        "other cells",
-        "012",
-        ["011", "HLX"],
-        true,
-        true,
-        "[One, One, Zero] false, [One, One, Zero] true, 6 true, [One, One, Zero]",
-    ),
-    ("no call", "012", ["011", "LHX LHX"], false, false, ""),
-];
-
-/// A load, a capture, and a call that compares, or None where they are no calls for the chains.
-fn patterns(
+/// A call that loads, a capture, and a call that compares.
+fn three_statements(
     alloc: Global,
     chains: &Chains,
-    strings: [&str; 2],
-) -> Result<Option<Vec<PatternStatement>>, NoMemory>
-    ensures { IfOk result (λ made. IfSome made (λ statements. AreStatementsFor chains.now statements.items)) }
+    loads: ScanCall,
+    compares: ScanCall,
+) -> Result<Vec<PatternStatement>, NoMemory>
+    requires loads { IsCallFor chains.now loads }
+    requires compares { IsCallFor chains.now compares }
+    ensures { IfOk result (λ statements. AreStatementsFor chains.now statements.items) }
 {
-    let loads = call_by(alloc, strings[0], "XXX")?;
-    let compares = call_by(alloc, "NNN", strings[1])?;
-    if !is_call_for(chains, &loads) || !is_call_for(chains, &compares) {
-        return Ok(None);
-    }
-    let statements = vec![in alloc;
+    Ok(vec![in alloc;
         PatternStatement::Scan {
             pattern: 0,
             text: Text::copy(alloc, b"Call load_unload {}")?,
@@ -140,22 +51,30 @@ fn patterns(
             call: compares,
             line: 16,
         },
-    ]?;
-    Ok(Some(statements))
+    ]?)
 }
 
-/// Two rounds of a call that loads and compares, and a capture, or None where that is no call for the chains.
-fn two_rounds(
+/// A load, a capture, and a call that compares, or None where they are no calls for the chains.
+fn patterns(
     alloc: Global,
     chains: &Chains,
-    strings: [&str; 2],
-) -> Result<Option<PatternStatement>, NoMemory>
-    ensures { IfOk result (λ made. IfSome made (λ statement. AreStatementsFor chains.now (statement ∷ []))) }
+    row: &Value,
+) -> Result<Option<Vec<PatternStatement>>, NoMemory>
+    ensures { IfOk result (λ made. IfSome made (λ statements. AreStatementsFor chains.now statements.items)) }
 {
-    let call = call_by(alloc, strings[0], strings[1])?;
-    if !is_call_for(chains, &call) {
+    let loads = call_by(alloc, text(row, "loads"), "XXX")?;
+    let compares = call_by(alloc, "NNN", text(row, "compares"))?;
+    if !is_call_for(chains, &loads) || !is_call_for(chains, &compares) {
         return Ok(None);
     }
+    Ok(Some(three_statements(alloc, chains, loads, compares)?))
+}
+
+/// Two rounds of a call that loads and compares, and a capture.
+fn rounds_of(alloc: Global, chains: &Chains, call: ScanCall) -> Result<PatternStatement, NoMemory>
+    requires { IsCallFor chains.now call }
+    ensures { IfOk result (λ statement. AreStatementsFor chains.now (statement ∷ [])) }
+{
     let loads = BodyStatement {
         start: 9,
         end: 26,
@@ -168,125 +87,230 @@ fn two_rounds(
         line: 16,
         call: None,
     };
-    Ok(Some(PatternStatement::Loop {
+    Ok(PatternStatement::Loop {
         pattern: 0,
         text: Text::copy(alloc, b"Loop 2 { Call load_unload; Call capture; }")?,
         times: 2,
         body: Rows::of(vec![in alloc; loads, captures]?),
         line: 14,
-    }))
+    })
 }
 
-/// Plays statements, and says what is shown as a row has it.
-fn played<D: Device>(
+/// Two rounds of a row's call, or None where that is no call for the chains.
+fn two_rounds(
     alloc: Global,
+    chains: &Chains,
+    row: &Value,
+) -> Result<Option<PatternStatement>, NoMemory>
+    ensures { IfOk result (λ made. IfSome made (λ statement. AreStatementsFor chains.now (statement ∷ []))) }
+{
+    let call = call_by(alloc, text(row, "loads"), text(row, "compares"))?;
+    if !is_call_for(chains, &call) {
+        return Ok(None);
+    }
+    Ok(Some(rounds_of(alloc, chains, call)?))
+}
+
+/// Puts what cells hold behind a text.
+fn put_cells(came: &mut String, cells: &[Symbol]) -> Result<(), NoMemory> {
+    write!(came, "{cells:?}")?;
+    Ok(())
+}
+
+fn shown(passed: bool) -> &'static str {
+    if passed { "true" } else { "false" }
+}
+
+/// Whether all verdicts are good.
+fn all_passed(verdicts: &[bool]) -> bool {
+    for passed in verdicts {
+        if !*passed {
+            return false;
+        }
+    }
+    true
+}
+
+/// Puts what was played behind a text, as a row has it.
+fn put_log(came: &mut String, log: &PlayLog, cells: &[Symbol]) -> Result<(), NoMemory> {
+    for scan in log.scans.as_slice() {
+        put_cells(came, scan.loaded.as_slice())?;
+        let passed = Part::Text(shown(scan.passed));
+        put(came, &[Part::Text(" "), passed, Part::Text(", ")])?;
+    }
+    let others = log.others.as_slice();
+    let passed = Part::Text(shown(all_passed(others)));
+    let count = Part::Number(others.len() as u64);
+    put(came, &[count, Part::Text(" "), passed, Part::Text(", ")])?;
+    put_cells(came, cells)
+}
+
+/// Plays statements, and puts what is shown behind a text.
+fn put_played<D: Device>(
+    alloc: Global,
+    came: &mut String,
     chains: &Chains,
     statements: &[PatternStatement],
     device: &mut D,
-) -> Result<String, NoMemory>
+) -> Result<(), NoMemory>
     requires chains { AreChains chains.now }
     requires statements { AreStatementsFor chains.now statements.now }
 {
     let mut cells = vec![in alloc; Symbol::Zero; chains.cells as usize]?;
     let log = play(alloc, chains, statements, device, &mut cells)?;
-    let mut text = String::new(alloc);
-    for scan in log.scans.as_slice() {
-        write!(&mut text, "{:?} {}, ", scan.loaded.as_slice(), scan.passed)?;
+    put_log(came, &log, cells.as_slice())
+}
+
+/// Plays statements on a device that mixes, or on one that holds.
+fn put_on(
+    alloc: Global,
+    came: &mut String,
+    chains: &Chains,
+    statements: &[PatternStatement],
+    mixes: bool,
+) -> Result<(), NoMemory>
+    requires chains { AreChains chains.now }
+    requires statements { AreStatementsFor chains.now statements.now }
+{
+    if mixes {
+        put_played(alloc, came, chains, statements, &mut Mix)
+    } else {
+        put_played(alloc, came, chains, statements, &mut Hold)
     }
-    let passed = log.others.as_slice();
-    write!(
-        &mut text,
-        "{} {}, {:?}",
-        passed.len(),
-        passed.iter().all(|answer| *answer),
-        cells
-    )?;
-    Ok(text)
+}
+
+/// Puts verdicts behind a text.
+fn put_verdicts(came: &mut String, passed: &[bool]) -> Result<(), NoMemory> {
+    write!(came, "{passed:?} ")?;
+    Ok(())
 }
 
 /// Plays a statement and keeps the verdicts of its scan calls alone: these, and the cells at the end.
-fn kept<D: Device>(
+fn put_kept<D: Device>(
     alloc: Global,
+    came: &mut String,
     chains: &Chains,
     statement: &PatternStatement,
     device: &mut D,
-) -> Result<String, NoMemory>
+) -> Result<(), NoMemory>
     requires chains { AreChains chains.now }
     requires statement { AreStatementsFor chains.now (statement.now ∷ []) }
 {
     let mut cells = vec![in alloc; Symbol::Zero; chains.cells as usize]?;
-    let mut passed = Vec::new(alloc);
     let mut player = Player::new(alloc, chains)?;
+    let mut passed = Vec::new(alloc);
     player.run(chains, statement, device, &mut cells, &mut passed)?;
-    Ok(format!(in alloc; "{passed:?} {cells:?}")?)
+    put_verdicts(came, passed.as_slice())?;
+    put_cells(came, cells.as_slice())
 }
 
-/// What comes of a row, and of a Loop what the verdicts alone are.
-fn answer(alloc: Global, row: Row) -> Result<[String; 2], NoMemory> {
-    let (_, chains, strings, mixes, is_loop, _) = row;
-    let none = [
-        String::from_str(alloc, "no call for these chains")?,
-        String::new(alloc),
-    ];
-    let Some(chains) = chains_of(alloc, chains)? else {
-        return Ok(none);
-    };
-    if !is_loop {
-        let Some(statements) = patterns(alloc, &chains, strings)? else {
-            return Ok(none);
-        };
-        let shown = if mixes {
-            played(alloc, &chains, &statements, &mut Mix)?
-        } else {
-            played(alloc, &chains, &statements, &mut Hold)?
-        };
-        return Ok([shown, String::new(alloc)]);
+/// Plays a statement of a row and compares the verdicts of its scan calls.
+fn try_kept(
+    cases: &mut Cases,
+    row: &Value,
+    chains: &Chains,
+    statement: &PatternStatement,
+) -> Result<(), NoMemory>
+    requires chains { AreChains chains.now }
+    requires statement { AreStatementsFor chains.now (statement.now ∷ []) }
+{
+    let mut came = String::new(cases.alloc);
+    if truth(row, "mixes") {
+        put_kept(cases.alloc, &mut came, chains, statement, &mut Mix)?;
+    } else {
+        put_kept(cases.alloc, &mut came, chains, statement, &mut Hold)?;
     }
-    let Some(rounds) = two_rounds(alloc, &chains, strings)? else {
-        return Ok(none);
-    };
-    let verdicts = if mixes {
-        kept(alloc, &chains, &rounds, &mut Mix)?
-    } else {
-        kept(alloc, &chains, &rounds, &mut Hold)?
-    };
-    let statements = vec![in alloc; rounds]?;
-    let shown = if mixes {
-        played(alloc, &chains, &statements, &mut Mix)?
-    } else {
-        played(alloc, &chains, &statements, &mut Hold)?
-    };
-    Ok([shown, verdicts])
+    cases.compare(text(row, "name"), came.as_str(), text(row, "verdicts"))
 }
 
-pub(crate) fn try_rows(cases: &mut Cases, rows: &[Row]) -> Result<(), NoMemory> {
-    for row in rows {
-        let [shown, verdicts] = answer(cases.alloc, *row)?;
-        cases.compare(row.0, shown.as_str(), row.5)?;
-        if row.4 {
-            let wanted = if row.3 {
-                "[false, true] [Zero, One, One]"
-            } else {
-                "[false, true] [One, One, Zero]"
-            };
-            cases.compare(row.0, verdicts.as_str(), wanted)?;
+/// Plays the statements of a row.
+fn try_played(
+    cases: &mut Cases,
+    row: &Value,
+    chains: &Chains,
+    statements: &[PatternStatement],
+) -> Result<(), NoMemory>
+    requires chains { AreChains chains.now }
+    requires statements { AreStatementsFor chains.now statements.now }
+{
+    let mut came = String::new(cases.alloc);
+    put_on(
+        cases.alloc,
+        &mut came,
+        chains,
+        statements,
+        truth(row, "mixes"),
+    )?;
+    cases.compare(text(row, "name"), came.as_str(), text(row, "wanted"))
+}
+
+/// Tries a row with a Loop.
+fn try_rounds(cases: &mut Cases, row: &Value, chains: &Chains) -> Result<(), NoMemory>
+    requires { AreChains chains.now }
+{
+    match two_rounds(cases.alloc, chains, row)? {
+        None => cases.compare(text(row, "name"), NO_CALL, text(row, "wanted")),
+        Some(rounds) => {
+            try_kept(cases, row, chains, &rounds)?;
+            let statements = vec![in cases.alloc; rounds]?;
+            try_played(cases, row, chains, statements.as_slice())
         }
     }
-    Ok(())
 }
 
-pub(crate) fn playing(alloc: Global) -> Result<Cases, NoMemory> {
-    let mut cases = Cases::new(alloc);
-    try_rows(&mut cases, ROWS.as_slice())?;
+/// Tries a row without a Loop.
+fn try_patterns(cases: &mut Cases, row: &Value, chains: &Chains) -> Result<(), NoMemory>
+    requires { AreChains chains.now }
+{
+    match patterns(cases.alloc, chains, row)? {
+        None => cases.compare(text(row, "name"), NO_CALL, text(row, "wanted")),
+        Some(statements) => try_played(cases, row, chains, statements.as_slice()),
+    }
+}
+
+pub(crate) fn try_row(cases: &mut Cases, row: &Value) -> Result<(), NoMemory> {
+    let Some(chains) = chains_of(cases.alloc, text(row, "read"))? else {
+        return cases.compare(text(row, "name"), NO_CALL, text(row, "wanted"));
+    };
+    if row.get("verdicts").is_some() {
+        try_rounds(cases, row, &chains)
+    } else {
+        try_patterns(cases, row, &chains)
+    }
+}
+
+/// Puts the three cells behind a text in which a call leaves them, and its verdict.
+fn put_scanned(
+    alloc: Global,
+    came: &mut String,
+    chains: &Chains,
+    call: &ScanCall,
+) -> Result<(), NoMemory>
+    requires { AreChains chains.now }
+{
+    if !is_call_for(chains, call) || chains.cells != 3 {
+        return put(came, &[Part::Text(NO_CALL)]);
+    }
     let mut cells = [Symbol::One, Symbol::One, Symbol::Zero];
-    let mut came = String::from_str(alloc, "no call for these chains")?;
-    if let Some(chains) = chains_of(alloc, "012")? {
-        let call = call_by(alloc, "01", "LHX")?;
-        if is_call_for(&chains, &call) && chains.cells == 3 {
-            let passed = scan_call(alloc, &chains, &mut cells, &call)?;
-            came = format!(in alloc; "{cells:?} {passed}")?;
-        }
+    let passed = scan_call(alloc, chains, &mut cells, call)?;
+    put_cells(came, &cells)?;
+    put(came, &[Part::Text(" "), Part::Text(shown(passed))])
+}
+
+/// Plays a load that is shorter than its compare.
+fn try_scanned(cases: &mut Cases, chains: &Chains) -> Result<(), NoMemory>
+    requires { AreChains chains.now }
+{
+    let call = call_by(cases.alloc, "01", "LHX")?;
+    let mut came = String::new(cases.alloc);
+    put_scanned(cases.alloc, &mut came, chains, &call)?;
+    cases.compare("a shorter load", came.as_str(), "[One, Zero, Unknown] true")
+}
+
+/// Plays a call alone.
+pub(crate) fn try_shorter(cases: &mut Cases) -> Result<(), NoMemory> {
+    match chains_of(cases.alloc, "012")? {
+        None => cases.compare("a shorter load", NO_CALL, "a call"),
+        Some(chains) => try_scanned(cases, &chains),
     }
-    cases.compare("a shorter load", came.as_str(), "[One, Zero, Unknown] true")?;
-    Ok(cases)
 }

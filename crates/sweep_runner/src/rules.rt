@@ -1,294 +1,127 @@
 //! The rules that are read off paths and chains, by hand.
+//!
+//! A row of `rules.toml` has `paths` by the letters of their cells, whether their outputs are `free`, and the statements of
+//! `chains`. A small letter has one bit, and a capital none, as a buffer. A statement is pairs of words as `MAXBITS=7`:
+//! PORTS with the path between whose ports it stands (0 without it), before START and STOP with a cell and the digit of its
+//! out pin; OUT with the out pin of the elements behind it (0 without it) or `-`; FLOATING and ORDERED with elements;
+//! MAXBITS, PARTITION, and LINE (32 without it).
+//!
+//! As `wanted` comes what is read off them: of each unit the path, the first and last step and the bits, with a mark where
+//! it is pinned; of each chain the path, the first and last step, the partition and the bound, with a mark where it keeps a
+//! bit; the read plan. Or the first fault.
 
-use base_types::{NoMemory, ReadFault, Rows};
+use crate::rows::{list, text, text_of, truth};
+use base_types::{Fault, NoMemory, ReadFault, Rows};
 use chain_rules::{
-    ChainSpec, ElementSpec, EndSpec, ListSpec, PathSpec, Rules, StepSpec, are_chains, units_of,
+    ChainRule, ChainSpec, ElementSpec, EndSpec, ListSpec, PathSpec, Plan, Rules, StepSpec, Unit,
+    are_chains, units_of,
 };
-use row_forms::Cases;
+use row_forms::{Cases, Part, put};
 use std::alloc::Global;
 use std::fmt::Write;
+use toml::Value;
 
-/// Paths by the letters of their cells, whether their outputs are free, and the statements of chains.
-///
-/// A small letter has one bit, and a capital none, as a buffer. A statement is pairs of words as `MAXBITS=7`: PORTS with the
-/// path between whose ports it stands (0 without it), before START and STOP with a cell and the digit of its out pin; OUT with
-/// the out pin of the elements behind it (0 without it) or `-`; FLOATING and ORDERED with elements; MAXBITS, PARTITION, and LINE
-/// (32 without it).
-pub(crate) type Given = (&'static [&'static str], bool, &'static [&'static str]);
-
-/// What is read off them: of each unit the path, the first and last step and the bits, with a mark where it is pinned; of each
-/// chain the path, the first and last step, the partition and the bound, with a mark where it keeps a bit; the read plan. Or
-/// the first fault.
-type Row = (&'static str, Given, &'static str);
-
-const ROWS: [Row; 31] = [
-    (
-        "three_flops",
-        (&["abc"], true, &["FLOATING=abc"]),
-        "0:0-0=1 0:1-1=1 0:2-2=1 0:0-2@0<=3+ [[0, 1, 2]]",
-    ),
-    (
-        "listed in another order",
-        (&["abc"], true, &["FLOATING=c FLOATING=ab"]),
-        "0:0-0=1 0:1-1=1 0:2-2=1 0:0-2@0<=3+ [[0, 1, 2]]",
-    ),
-    (
-        "without an out pin",
-        (&["abc"], true, &["OUT=- FLOATING=abc"]),
-        "0:0-0=1 0:1-1=1 0:2-2=1 0:0-2@0<=3+ [[0, 1, 2]]",
-    ),
-    (
-        "the port isn't free",
-        (&["abc"], false, &["FLOATING=abc"]),
-        "0:0-0=1 0:1-1=1 0:2-2=1! 0:0-2@0<=3+ [[0, 1, 2]]",
-    ),
-    (
-        "a buffer between the last flop and a port that isn't free",
-        (&["abcK"], false, &["FLOATING=abc"]),
-        "0:0-0=1 0:1-1=1 0:2-2=1 0:0-2@0<=3+ [[0, 1, 2]]",
-    ),
-    (
-        "STOP is a cell",
-        (&["abcd"], false, &["STOP=d FLOATING=abc"]),
-        "0:0-0=1 0:1-1=1 0:2-2=1 0:0-2@0<=3+ [[0, 1, 2]]",
-    ),
-    (
-        "START is a cell, left by the pin that is named",
-        (&["xabc"], true, &["START=x0 MAXBITS=7 FLOATING=abc"]),
-        "0:1-1=1 0:2-2=1 0:3-3=1 0:1-3@0<=7+ [[0, 1, 2]]",
-    ),
-    (
-        "an ORDERED=list",
-        (&["pLqr"], true, &["ORDERED=pLq FLOATING=r"]),
-        "0:0-2=2 0:3-3=1 0:0-3@0<=3+ [[0, 1]]",
-    ),
-    (
-        "an ORDERED=list with a step between that it doesn't name",
-        (&["pLqr"], true, &["FLOATING=r ORDERED=pq"]),
-        "0:0-2=2 0:3-3=1 0:0-3@0<=3+ [[0, 1]]",
-    ),
-    (
-        "unlisted steps before the first unit, behind the others and behind the last one",
-        (&["HaKLbMT"], true, &["FLOATING=Mab"]),
-        "0:1-3=1 0:4-4=1 0:5-5=0 0:1-5@0<=2+ [[0, 1, 2]]",
-    ),
-    (
-        "a chain without a bit",
-        (&["LM"], true, &["FLOATING=LM"]),
-        "0:0-0=0 0:1-1=0 0:0-1@0<=0 [[0, 1]]",
-    ),
-    (
-        "two chains of one path, the later one first",
-        (
-            &["abxcd"],
-            false,
-            &["START=x FLOATING=cd", "STOP=x ORDERED=ab"],
-        ),
-        "0:3-3=1 0:4-4=1! 0:0-1=2 0:3-4@0<=2+ 0:0-1@0<=2+ [[0, 1], [2]]",
-    ),
-    (
-        "two_chains",
-        FREE,
-        "0:0-0=1 0:1-1=1 0:2-2=1 1:0-0=1 1:1-1=1 1:2-2=1 1:3-3=1 1:4-4=1 0:0-2@7<=4+ 1:0-4@7<=5+ [[0, 1, 2], [3, 4, 5, 6, 7]]",
-    ),
-    (
-        "the element stands before START",
-        (&["abc"], true, &["START=c0 FLOATING=a"]),
-        "Def Line(32) NotAStretch",
-    ),
-    (
-        "START is left by another pin",
-        (&["abc"], true, &["START=a1 FLOATING=c LINE=33"]),
-        "Def Line(33) NotAStretch",
-    ),
-    (
-        "the elements are left by another pin",
-        (&["abc"], true, &["OUT=1 FLOATING=abc"]),
-        "Def Line(32) NotAStretch",
-    ),
-    (
-        "an element stands behind STOP",
-        (&["abc"], true, &["STOP=b FLOATING=abc"]),
-        "Def Line(32) NotAStretch",
-    ),
-    (
-        "no step is the element's",
-        (&["abc"], true, &["FLOATING=abcz"]),
-        "Def Line(32) NotAStretch",
-    ),
-    (
-        "no path has the ports",
-        (&["abc"], true, &["PORTS=1 FLOATING=abc"]),
-        "Def Line(32) NotAStretch",
-    ),
-    (
-        "STOP stands before START",
-        (&["abc"], true, &["START=a STOP=a FLOATING=c LINE=33"]),
-        "Def Line(33) NotAStretch",
-    ),
-    (
-        "two stretches share b",
-        (
-            &["abc"],
-            true,
-            &["FLOATING=ab", "START=a FLOATING=c LINE=33"],
-        ),
-        "Def Line(32) NotAStretch",
-    ),
-    (
-        "STOP of the first lies in the second",
-        (
-            &["abc"],
-            true,
-            &["STOP=b FLOATING=a", "START=a FLOATING=c LINE=33"],
-        ),
-        "Def Line(32) NotAStretch",
-    ),
-    (
-        "b is unlisted",
-        (&["abc"], true, &["FLOATING=ac"]),
-        "Def Line(32) UnlistedBits",
-    ),
-    (
-        "c stands behind b",
-        (&["abc"], true, &["FLOATING=a ORDERED=cb"]),
-        "Def Line(32) OrderBroken",
-    ),
-    (
-        "a listed step between",
-        (&["abc"], true, &["ORDERED=ac FLOATING=b"]),
-        "Def Line(32) OrderBroken",
-    ),
-    (
-        "three bits of two",
-        (&["abc"], true, &["MAXBITS=2 FLOATING=abc"]),
-        "Def Line(32) OverMaxBits",
-    ),
-    (
-        "d is unlisted too",
-        (&["abcd"], true, &["FLOATING=a ORDERED=cb"]),
-        "Def Line(32) UnlistedBits",
-    ),
-    (
-        "bits and order",
-        (
-            &["abcxde"],
-            true,
-            &[
-                "STOP=x MAXBITS=2 FLOATING=abc",
-                "START=x MAXBITS=1 ORDERED=ed LINE=33",
-            ],
-        ),
-        "Def Line(33) OrderBroken",
-    ),
-    (
-        "order and a gap",
-        (
-            &["abcxde"],
-            true,
-            &[
-                "STOP=x FLOATING=a ORDERED=cb",
-                "START=x MAXBITS=1 ORDERED=e LINE=33",
-            ],
-        ),
-        "Def Line(33) UnlistedBits",
-    ),
-    (
-        "a gap and no stretch",
-        (
-            &["abcxde"],
-            true,
-            &[
-                "STOP=x FLOATING=ac",
-                "START=x MAXBITS=1 FLOATING=deb LINE=33",
-            ],
-        ),
-        "Def Line(33) NotAStretch",
-    ),
-    (
-        "the earlier of two",
-        (
-            &["abcxde"],
-            true,
-            &[
-                "STOP=x MAXBITS=2 FLOATING=abc",
-                "START=x MAXBITS=1 FLOATING=de LINE=33",
-            ],
-        ),
-        "Def Line(32) OverMaxBits",
-    ),
-];
-
-pub(crate) const WRONG: [Row; 2] = [
-    (
-        "another bound",
-        (&["abc"], true, &["FLOATING=abc"]),
-        "0:0-0=1 0:1-1=1 0:2-2=1 0:0-2@0<=4+ [[0, 1, 2]]",
-    ),
-    (
-        "another fault",
-        (&["abc"], true, &["FLOATING=ac"]),
-        "Def Line(32) OrderBroken",
-    ),
-];
-
-/// The chains of three and of five flops, where the outputs are free.
-pub(crate) const FREE: Given = (
-    &["abc", "defgh"],
-    true,
-    &[
-        "PARTITION=7 MAXBITS=4 FLOATING=abc",
-        "PORTS=1 PARTITION=7 MAXBITS=5 FLOATING=defgh LINE=33",
-    ],
-);
-
-/// Paths by the letters of their cells, which are the cells' numbers; the nets of their ports are numbered from 0 and from 100
-/// on.
-fn paths_of(alloc: Global, texts: &[&str], free_out: bool) -> Result<Vec<PathSpec>, NoMemory> {
-    let mut paths = Vec::new(alloc);
-    for (input, text) in (0u32..).zip(texts) {
-        let mut steps = Rows::new(alloc);
-        for letter in text.as_bytes() {
-            steps.push(StepSpec {
-                instance: u32::from(*letter),
-                path: 0,
-                out: 0,
-                bits: u32::from(letter.is_ascii_lowercase()),
-            })?;
-        }
-        paths.push(PathSpec {
-            input,
-            output: input.wrapping_add(100),
-            free_out,
-            steps,
+/// Puts the steps that the letters of a text are behind others.
+fn put_steps(steps: &mut Rows<StepSpec>, letters: &str) -> Result<(), NoMemory> {
+    for letter in letters.bytes() {
+        steps.push(StepSpec {
+            instance: u32::from(letter),
+            path: 0,
+            out: 0,
+            bits: u32::from(letter.is_ascii_lowercase()),
         })?;
     }
-    Ok(paths)
+    Ok(())
 }
 
-fn elements_of(
+/// Puts the path of a text behind others. The nets of its ports have its number, and 100 more.
+fn put_path(
     alloc: Global,
+    paths: &mut Vec<PathSpec>,
+    letters: &str,
+    free_out: bool,
+) -> Result<(), NoMemory> {
+    let input = u32::try_from(paths.len()).unwrap_or(0);
+    let mut path = PathSpec {
+        input,
+        output: input.wrapping_add(100),
+        free_out,
+        steps: Rows::new(alloc),
+    };
+    put_steps(&mut path.steps, letters)?;
+    paths.push(path)?;
+    Ok(())
+}
+
+fn put_paths(alloc: Global, paths: &mut Vec<PathSpec>, given: &Value) -> Result<(), NoMemory> {
+    for letters in list(given, "paths") {
+        put_path(alloc, paths, text_of(letters), truth(given, "free"))?;
+    }
+    Ok(())
+}
+
+/// Puts the elements that the letters of a word are behind others.
+fn put_elements(
+    elements: &mut Rows<ElementSpec>,
     letters: &str,
     out: Option<u32>,
-) -> Result<Rows<ElementSpec>, NoMemory> {
-    let mut elements = Rows::new(alloc);
-    for letter in letters.as_bytes() {
+) -> Result<(), NoMemory> {
+    for letter in letters.bytes() {
         elements.push(ElementSpec {
-            instance: u32::from(*letter),
+            instance: u32::from(letter),
             path: 0,
             out,
         })?;
     }
-    Ok(elements)
+    Ok(())
+}
+
+/// Puts the list of a word into a statement.
+fn put_list(
+    alloc: Global,
+    chain: &mut ChainSpec,
+    ordered: bool,
+    letters: &str,
+    out: Option<u32>,
+) -> Result<(), NoMemory> {
+    let mut elements = Rows::new(alloc);
+    put_elements(&mut elements, letters, out)?;
+    chain.lists.push(if ordered {
+        ListSpec::Ordered(elements)
+    } else {
+        ListSpec::Floating(elements)
+    })
 }
 
 /// A cell with the out pin that a digit behind its letter names.
 fn cell_of(word: &str) -> EndSpec {
-    let bytes = word.as_bytes();
+    let mut bytes = word.bytes();
+    let instance = u32::from(bytes.next().unwrap_or(0));
+    let out = match bytes.next() {
+        Some(digit) => Some(u32::from(digit & 15)),
+        None => None,
+    };
     EndSpec::Cell {
-        instance: u32::from(bytes.first().copied().unwrap_or(0)),
+        instance,
         path: 0,
-        out: bytes.get(1).map(|digit| u32::from(*digit & 15)),
+        out,
+    }
+}
+
+/// Sets what a number says of a statement, whose elements behind it are left by `out`.
+fn set_number(chain: &mut ChainSpec, out: &mut Option<u32>, key: &str, word: &str) {
+    let number = word.parse().ok();
+    let some = number.unwrap_or(0);
+    match key {
+        "PORTS" => {
+            chain.start = EndSpec::Port(some);
+            chain.stop = EndSpec::Port(some.wrapping_add(100));
+        }
+        "OUT" => *out = number,
+        "MAXBITS" => chain.max_bits = some,
+        "PARTITION" => chain.partition = some,
+        "LINE" => chain.line = u64::from(some),
+        _ => {}
     }
 }
 
@@ -300,151 +133,236 @@ fn put_pair(
     key: &str,
     word: &str,
 ) -> Result<(), NoMemory> {
-    let number = word.parse().ok();
     match key {
         "START" => chain.start = cell_of(word),
         "STOP" => chain.stop = cell_of(word),
-        "PORTS" => {
-            let port = number.unwrap_or(0);
-            chain.start = EndSpec::Port(port);
-            chain.stop = EndSpec::Port(port.wrapping_add(100));
-        }
-        "OUT" => *out = number,
-        "MAXBITS" => chain.max_bits = number.unwrap_or(0),
-        "PARTITION" => chain.partition = number.unwrap_or(0),
-        "LINE" => chain.line = u64::from(number.unwrap_or(0)),
-        "ORDERED" => chain
-            .lists
-            .push(ListSpec::Ordered(elements_of(alloc, word, *out)?))?,
-        "FLOATING" => chain
-            .lists
-            .push(ListSpec::Floating(elements_of(alloc, word, *out)?))?,
-        _ => {}
+        "ORDERED" => return put_list(alloc, chain, true, word, *out),
+        "FLOATING" => return put_list(alloc, chain, false, word, *out),
+        _ => set_number(chain, out, key, word),
     }
     Ok(())
 }
 
-fn chain_of(alloc: Global, statement: &str) -> Result<ChainSpec, NoMemory> {
-    let mut chain = ChainSpec {
+/// Puts the pairs of a statement into a chain without any.
+fn put_pairs(alloc: Global, chain: &mut ChainSpec, statement: &str) -> Result<(), NoMemory> {
+    let mut out = Some(0);
+    for pair in statement.split(' ') {
+        if let Some((key, word)) = pair.split_once('=') {
+            put_pair(alloc, chain, &mut out, key, word)?;
+        }
+    }
+    Ok(())
+}
+
+/// A statement without lists, between the ports of the first path.
+fn no_lists(alloc: Global) -> ChainSpec {
+    ChainSpec {
         start: EndSpec::Port(0),
         stop: EndSpec::Port(100),
         lists: Rows::new(alloc),
         partition: 0,
         max_bits: 0,
         line: 32,
-    };
-    let mut out = Some(0);
-    for pair in statement.split(' ') {
-        if let Some((key, word)) = pair.split_once('=') {
-            put_pair(alloc, &mut chain, &mut out, key, word)?;
-        }
     }
-    Ok(chain)
+}
+
+/// Puts the chain of a statement behind others.
+fn put_chain(alloc: Global, chains: &mut Vec<ChainSpec>, statement: &str) -> Result<(), NoMemory> {
+    let mut chain = no_lists(alloc);
+    put_pairs(alloc, &mut chain, statement)?;
+    chains.push(chain)?;
+    Ok(())
+}
+
+/// Puts the paths and the chains that are given behind others.
+fn put_given(
+    alloc: Global,
+    paths: &mut Vec<PathSpec>,
+    chains: &mut Vec<ChainSpec>,
+    given: &Value,
+) -> Result<(), NoMemory> {
+    put_paths(alloc, paths, given)?;
+    for statement in list(given, "chains") {
+        put_chain(alloc, chains, text_of(statement))?;
+    }
+    Ok(())
 }
 
 /// The rules of chains, or None where they don't belong to the paths.
-pub(crate) fn rules_of(alloc: Global, given: Given) -> Result<Option<Rules>, ReadFault> {
-    let (texts, free_out, statements) = given;
-    let paths = paths_of(alloc, texts, free_out)?;
-    let mut chains = Vec::new(alloc);
-    for statement in statements {
-        chains
-            .push(chain_of(alloc, statement)?)
-            .map_err(|_| NoMemory)?;
-    }
-    if !are_chains(alloc, &paths, &chains)? {
+fn rules_between(
+    alloc: Global,
+    paths: &[PathSpec],
+    chains: &[ChainSpec],
+) -> Result<Option<Rules>, ReadFault> {
+    if !are_chains(alloc, paths, chains)? {
         return Ok(None);
     }
-    Ok(Some(units_of(alloc, &paths, &chains)?))
+    Ok(Some(units_of(alloc, paths, chains)?))
 }
 
-/// What is read off paths and chains, as a row has it.
-fn shown(alloc: Global, rules: Result<Option<Rules>, ReadFault>) -> Result<String, NoMemory> {
-    let rules = match rules {
-        Ok(Some(rules)) => rules,
-        Ok(None) => return Ok(String::from_str(alloc, "no chains of the paths")?),
-        Err(ReadFault::Fault(fault)) => {
-            return Ok(format!(in alloc; "{:?} {:?} {:?}", fault.file, fault.spot, fault.kind)?);
-        }
-        Err(ReadFault::NoMemory) => return Err(NoMemory),
-    };
-    let mut text = String::new(alloc);
+/// The rules of what a row has or names as given, or None where the chains don't belong to the paths.
+pub(crate) fn rules_of(alloc: Global, given: &Value) -> Result<Option<Rules>, ReadFault> {
+    let mut paths = Vec::new(alloc);
+    let mut chains = Vec::new(alloc);
+    put_given(alloc, &mut paths, &mut chains, given)?;
+    rules_between(alloc, paths.as_slice(), chains.as_slice())
+}
+
+fn put_unit(came: &mut String, unit: &Unit) -> Result<(), NoMemory> {
+    let mark = if unit.pinned { "! " } else { " " };
+    put(
+        came,
+        &[
+            Part::Number(u64::from(unit.path)),
+            Part::Text(":"),
+            Part::Number(u64::from(unit.first)),
+            Part::Text("-"),
+            Part::Number(u64::from(unit.last)),
+            Part::Text("="),
+            Part::Number(u64::from(unit.bits)),
+            Part::Text(mark),
+        ],
+    )
+}
+
+fn put_rule(came: &mut String, chain: &ChainRule) -> Result<(), NoMemory> {
+    let mark = if chain.keeps_bit { "+ " } else { " " };
+    put(
+        came,
+        &[
+            Part::Number(u64::from(chain.path)),
+            Part::Text(":"),
+            Part::Number(u64::from(chain.first)),
+            Part::Text("-"),
+            Part::Number(u64::from(chain.last)),
+            Part::Text("@"),
+            Part::Number(u64::from(chain.partition)),
+            Part::Text("<="),
+            Part::Number(u64::from(chain.bound)),
+            Part::Text(mark),
+        ],
+    )
+}
+
+/// Puts a plan behind a text.
+pub(crate) fn put_plan(came: &mut String, plan: &Plan) -> Result<(), NoMemory> {
+    write!(came, "{:?}", plan.lists())?;
+    Ok(())
+}
+
+fn put_rules(came: &mut String, rules: &Rules) -> Result<(), NoMemory> {
     for unit in rules.units.as_slice() {
-        let mark = if unit.pinned { "!" } else { "" };
-        write!(
-            &mut text,
-            "{}:{}-{}={}{mark} ",
-            unit.path, unit.first, unit.last, unit.bits
-        )?;
+        put_unit(came, unit)?;
     }
     for chain in rules.chains.as_slice() {
-        let mark = if chain.keeps_bit { "+" } else { "" };
-        write!(
-            &mut text,
-            "{}:{}-{}@{}<={}{mark} ",
-            chain.path, chain.first, chain.last, chain.partition, chain.bound
-        )?;
+        put_rule(came, chain)?;
     }
-    write!(&mut text, "{:?}", rules.read.lists())?;
-    Ok(text)
+    put_plan(came, &rules.read)
 }
 
-pub(crate) fn try_rows(cases: &mut Cases, rows: &[Row]) -> Result<(), NoMemory> {
-    for (name, given, wanted) in rows {
-        let came = shown(cases.alloc, rules_of(cases.alloc, *given))?;
-        cases.compare(name, came.as_str(), wanted)?;
-    }
+fn put_fault(came: &mut String, fault: &Fault) -> Result<(), NoMemory> {
+    write!(came, "{:?} {:?} {:?}", fault.file, fault.spot, fault.kind)?;
     Ok(())
 }
 
-/// So many flops in one chain beside a chain of one flop, of this partition: how many units a partition may have.
-fn try_most_units(cases: &mut Cases) -> Result<(), NoMemory> {
-    let alloc = cases.alloc;
-    for (flops, partition, wanted) in [
-        (16384u32, 1, "16385 units"),
-        (16385, 1, "Def Line(32) TooManyUnits"),
-        (16384, 0, "Def Line(33) TooManyUnits"),
-    ] {
-        let mut paths = paths_of(alloc, &["", "a"], true)?;
-        let mut chains = Vec::new(alloc);
-        let mut elements = Rows::new(alloc);
-        if let Some(long) = paths.first_mut() {
-            for instance in 1000..flops.saturating_add(1000) {
-                long.steps.push(StepSpec {
-                    instance,
-                    path: 0,
-                    out: 0,
-                    bits: 1,
-                })?;
-                elements.push(ElementSpec {
-                    instance,
-                    path: 0,
-                    out: Some(0),
-                })?;
-            }
+/// Puts what is read off paths and chains behind a text, as a row has it, or how many units there are.
+fn put_read(
+    came: &mut String,
+    rules: &Result<Option<Rules>, ReadFault>,
+    whole: bool,
+) -> Result<(), NoMemory> {
+    match rules {
+        Ok(Some(rules)) if whole => put_rules(came, rules),
+        Ok(Some(rules)) => {
+            let units = rules.units.as_slice().len();
+            put(came, &[Part::Number(units as u64), Part::Text(" units")])
         }
-        let mut long = chain_of(alloc, "")?;
-        long.lists.push(ListSpec::Floating(elements))?;
-        chains.push(long)?;
-        let mut other = chain_of(alloc, "PORTS=1 LINE=33 FLOATING=a")?;
-        other.partition = partition;
-        chains.push(other)?;
-        let came = if are_chains(alloc, &paths, &chains)? {
-            match units_of(alloc, &paths, &chains) {
-                Ok(rules) => format!(in alloc; "{} units", rules.units.as_slice().len())?,
-                refused => shown(alloc, refused.map(Some))?,
-            }
-        } else {
-            String::from_str(alloc, "no chains of the paths")?
-        };
-        cases.compare("units of a partition", came.as_str(), wanted)?;
+        Ok(None) => put(came, &[Part::Text("no chains of the paths")]),
+        Err(ReadFault::Fault(fault)) => put_fault(came, fault),
+        Err(ReadFault::NoMemory) => Err(NoMemory),
+    }
+}
+
+pub(crate) fn try_row(cases: &mut Cases, row: &Value) -> Result<(), NoMemory> {
+    let rules = rules_of(cases.alloc, row);
+    let mut came = String::new(cases.alloc);
+    put_read(&mut came, &rules, true)?;
+    cases.compare(text(row, "name"), came.as_str(), text(row, "wanted"))
+}
+
+/// Puts so many flops behind the steps of a path.
+fn put_flops(steps: &mut Rows<StepSpec>, flops: u32) -> Result<(), NoMemory> {
+    for instance in 1000..flops.saturating_add(1000) {
+        steps.push(StepSpec {
+            instance,
+            path: 0,
+            out: 0,
+            bits: 1,
+        })?;
     }
     Ok(())
 }
 
-pub(crate) fn rules(alloc: Global) -> Result<Cases, NoMemory> {
-    let mut cases = Cases::new(alloc);
-    try_rows(&mut cases, ROWS.as_slice())?;
-    try_most_units(&mut cases)?;
-    Ok(cases)
+/// Puts so many flops behind the elements of a list.
+fn put_flop_elements(elements: &mut Rows<ElementSpec>, flops: u32) -> Result<(), NoMemory> {
+    for instance in 1000..flops.saturating_add(1000) {
+        elements.push(ElementSpec {
+            instance,
+            path: 0,
+            out: Some(0),
+        })?;
+    }
+    Ok(())
+}
+
+/// Puts a chain of so many flops behind others.
+fn put_long(alloc: Global, chains: &mut Vec<ChainSpec>, flops: u32) -> Result<(), NoMemory> {
+    let mut elements = Rows::new(alloc);
+    put_flop_elements(&mut elements, flops)?;
+    let mut long = no_lists(alloc);
+    long.lists.push(ListSpec::Floating(elements))?;
+    chains.push(long)?;
+    Ok(())
+}
+
+/// Puts a path and a chain of so many flops behind others, and those of one flop.
+fn put_most(
+    alloc: Global,
+    paths: &mut Vec<PathSpec>,
+    chains: &mut Vec<ChainSpec>,
+    flops: u32,
+    statement: &str,
+) -> Result<(), NoMemory> {
+    put_path(alloc, paths, "", true)?;
+    put_path(alloc, paths, "a", true)?;
+    if let Some(long) = paths.first_mut() {
+        put_flops(&mut long.steps, flops)?;
+    }
+    put_long(alloc, chains, flops)?;
+    put_chain(alloc, chains, statement)
+}
+
+/// The rules of so many flops in one chain beside a chain of one flop, of this statement.
+fn most_rules(alloc: Global, flops: u32, statement: &str) -> Result<Option<Rules>, ReadFault> {
+    let mut paths = Vec::new(alloc);
+    let mut chains = Vec::new(alloc);
+    put_most(alloc, &mut paths, &mut chains, flops, statement)?;
+    rules_between(alloc, paths.as_slice(), chains.as_slice())
+}
+
+/// So many flops in one chain beside a chain of one flop, of this statement: how many units a partition may have.
+fn try_units(cases: &mut Cases, flops: u32, statement: &str, wanted: &str) -> Result<(), NoMemory> {
+    let rules = most_rules(cases.alloc, flops, statement);
+    let mut came = String::new(cases.alloc);
+    put_read(&mut came, &rules, false)?;
+    cases.compare("units of a partition", came.as_str(), wanted)
+}
+
+/// How many units a partition may have.
+pub(crate) fn try_most_units(cases: &mut Cases) -> Result<(), NoMemory> {
+    let apart = "PORTS=1 LINE=33 FLOATING=a PARTITION=1";
+    try_units(cases, 16384, apart, "16385 units")?;
+    try_units(cases, 16385, apart, "Def Line(32) TooManyUnits")?;
+    let beside = "PORTS=1 LINE=33 FLOATING=a PARTITION=0";
+    try_units(cases, 16384, beside, "Def Line(33) TooManyUnits")
 }

@@ -11,22 +11,26 @@
 //! Where all that there is would take too long, steps go through it, so that each string, each parity, each cut and each order
 //! comes up, but not with everything else. How many of the calls pass was counted by another program, which looks up the cell
 //! of each expectation and shifts nothing.
-ghost use Rattle.std.specs.Prelude.{◌≡◌, ◌<◌, ◌≤◌, IfOk, IfSome};
+//!
+//! A row of `sweep.toml` has the `sizes` of the old chains, and how many calls are retargeted and how many pass: as `loads`
+//! all compares beside some loads, as `old_parities` each two strings at each parity of the old chains, and as
+//! `all_parities` each two parities; and as `judged` how many calls are accepted, and refused for a short load or for a
+//! long compare, where each two strings come together at one parity.
+ghost use Rattle.std.specs.Prelude.{◌≡◌, ◌≤◌, length, IfSome};
+ghost use Rattle.retarget.specs.Judging.{IsAccepted};
 ghost use Rattle.stil_tester.specs.Shifting.{AreChains, IsCallFor};
 
-use crate::calls::call_of;
-use base_types::{Kind, NoMemory, Rows, Text};
-use retarget::{judge_call, map_of, retarget_call};
-use row_forms::Cases;
+use crate::pairs::{Made, Sizes, cut_of, parities_of, two_chains};
+use crate::rows::{list, number_of, text};
+use crate::strings::{PRIME, STRINGS, Strings, call, fill_strings, no_strings, paired};
+use base_types::{Kind, NoMemory};
+use retarget::{Map, judge_call, map_of, retarget_call};
+use row_forms::{Cases, Part, put};
 use std::alloc::Global;
-use stil_tester::{ChainBits, Chains, Symbol, are_chains, call_by_shifts, is_call_for, scan_call};
+use std::fmt::Write;
+use stil_tester::{Chains, Symbol, call_by_shifts, is_call_for, scan_call};
 use stil_types::ScanCall;
-
-/// None given, and the strings of at most four of three characters.
-const STRINGS: usize = 122;
-
-/// The first prime number that isn't below the count of strings.
-const PRIME: usize = 127;
+use toml::Value;
 
 /// The cells of two chains of at most three bits.
 const CELLS: usize = 6;
@@ -46,238 +50,12 @@ const APART: usize = 1009;
 /// Of the parities of the old chains this one and each so many-th behind it is judged with all calls; 1 would be all of them.
 const JUDGED: usize = 15;
 
-/// How many bits two chains have.
-type Sizes = [usize; 2];
-
-/// For sizes of the old chains, how many calls are retargeted and how many pass: all compares beside some loads, each two
-/// strings at each parity of the old chains, and each two parities; and how many calls are accepted, and refused for a short
-/// load or for a long compare, where each two strings come together at one parity.
-type Row = (Sizes, [&'static str; 4]);
-
-const ROWS: [Row; 9] = [
-    (
-        [1, 1],
-        ["24304 9300", "1040 1210", "256 310", "[361, 0, 15768]"],
-    ),
-    (
-        [1, 2],
-        ["55531 12817", "2074 1460", "2044 1368", "[657, 46, 15426]"],
-    ),
-    (
-        [2, 1],
-        ["55531 13058", "2075 1416", "2044 1376", "[657, 46, 15426]"],
-    ),
-    (
-        [1, 3],
-        [
-            "117940 16864",
-            "4123 1732",
-            "12219 5125",
-            "[1251, 161, 14717]",
-        ],
-    ),
-    (
-        [2, 2],
-        [
-            "126955 17820",
-            "4151 1668",
-            "12276 5001",
-            "[1323, 46, 14760]",
-        ],
-    ),
-    (
-        [3, 1],
-        [
-            "117940 16768",
-            "4125 1716",
-            "12213 4972",
-            "[1283, 161, 14685]",
-        ],
-    ),
-    (
-        [2, 3],
-        [
-            "269632 23327",
-            "8216 1990",
-            "32588 8083",
-            "[2540, 161, 13428]",
-        ],
-    ),
-    (
-        [3, 2],
-        [
-            "269632 23457",
-            "8216 2068",
-            "32588 8132",
-            "[2540, 161, 13428]",
-        ],
-    ),
-    (
-        [3, 3],
-        [
-            "573184 30296",
-            "16359 2496",
-            "65174 9819",
-            "[5168, 161, 10800]",
-        ],
-    ),
-];
-
-pub(crate) const WRONG: [Row; 1] = [([1, 1], ["0 0", "0 0", "0 0", "[0, 0, 0]"])];
-
-/// The strings that calls take, by their numbers: loads, and the compares of both chains.
-#[derive(Drop)]
-struct Strings {
-    loads: Vec<Option<Text>>,
-    compares: [Vec<Option<Text>>; 2],
-}
-
 /// What was run: how many calls weren't refused, and how often these passed.
 #[derive(Clone, Copy)]
 struct Run {
     calls: usize,
     retargeted: usize,
     passed: usize,
-}
-
-/// How many parities two chains can have: one for each bit and one for each output.
-fn parities_of(sizes: Sizes) -> usize
-    ensures some { 0 < result }
-    ensures most { result ≤ 256 }
-{
-    match sizes[0].saturating_add(sizes[1]) {
-        2 => 16,
-        3 => 32,
-        4 => 64,
-        5 => 128,
-        _ => 256,
-    }
-}
-
-/// The strings of at most four of three characters that have only the last of these behind so many: none first, then the empty
-/// one, and the longest ones last.
-fn strings_within(
-    alloc: Global,
-    characters: &[u8; 3],
-    bits: usize,
-) -> Result<Vec<Option<Text>>, NoMemory> {
-    let mut strings = Vec::new(alloc);
-    strings.push(None)?;
-    for (length, count) in [(0, 1usize), (1, 3), (2, 9), (3, 27), (4, 81)] {
-        for number in 0..count {
-            let mut rest = number;
-            let mut text = Vec::new(alloc);
-            let mut is_within = true;
-            for place in 0..length {
-                text.push(characters[rest % 3])?;
-                is_within = is_within && (place < bits || rest % 3 == 2);
-                rest /= 3;
-            }
-            if is_within {
-                strings.push(Some(Text::of(text)))?;
-            }
-        }
-    }
-    Ok(strings)
-}
-
-/// A copy of the string of a number, which goes round.
-fn copy_of(
-    alloc: Global,
-    strings: &[Option<Text>],
-    number: usize,
-) -> Result<Option<Text>, NoMemory> {
-    match strings.get(number % strings.len().max(1)) {
-        Some(Some(text)) => Ok(Some(Text::copy(alloc, text.bytes())?)),
-        _ => Ok(None),
-    }
-}
-
-/// The call of two loads and two compares by their numbers.
-fn call(alloc: Global, strings: &Strings, numbers: [usize; 4]) -> Result<ScanCall, NoMemory> {
-    let mut loads = Rows::new(alloc);
-    loads.push(copy_of(alloc, &strings.loads, numbers[0])?)?;
-    loads.push(copy_of(alloc, &strings.loads, numbers[1])?)?;
-    let mut compares = Rows::new(alloc);
-    compares.push(copy_of(alloc, &strings.compares[0], numbers[2])?)?;
-    compares.push(copy_of(alloc, &strings.compares[1], numbers[3])?)?;
-    Ok(call_of(loads, compares))
-}
-
-/// The numbers of the strings of a call, by its own number: the loads, then the compares. Four numbers modulo a prime, of which
-/// each two give the other two, go through all pairs of them; from the count of strings on they go round.
-fn paired(number: usize) -> [usize; 4] {
-    let row = number / PRIME % PRIME;
-    let column = number % PRIME;
-    [
-        row,
-        (row + column) % PRIME,
-        column,
-        (row + 2 * column) % PRIME,
-    ]
-}
-
-/// The cells in the order of a number, which goes round: below the factorial of their count all numbers give other orders.
-fn order_of(alloc: Global, cells: usize, number: usize) -> Result<Vec<u32>, NoMemory> {
-    let mut order = Vec::new(alloc);
-    for cell in 0..cells {
-        order.push(u32::try_from(cell).unwrap_or(0))?;
-    }
-    let mut rest = number;
-    for place in 0..order.len() {
-        let left = order.len() - place;
-        order.swap(place, place + rest % left);
-        rest /= left;
-    }
-    Ok(order)
-}
-
-/// Two chains with their cells in the order of a number, which goes round, and parities by the digits of another.
-fn two_chains(
-    alloc: Global,
-    sizes: Sizes,
-    order: usize,
-    parities: usize,
-) -> Result<Option<Chains>, NoMemory>
-    ensures { IfOk result (λ chains. IfSome chains AreChains) }
-{
-    let cells = order_of(alloc, sizes[0].saturating_add(sizes[1]), order)?;
-    let mut digits = parities;
-    let mut rest = cells.as_slice();
-    let mut chains = Rows::new(alloc);
-    for size in sizes {
-        let (bits, more) = rest.split_at(size.min(rest.len()));
-        rest = more;
-        let mut parity = Rows::new(alloc);
-        for _ in bits {
-            parity.push(digits % 2 == 1)?;
-            digits /= 2;
-        }
-        chains.push(ChainBits {
-            cells: Rows::of(Vec::from_slice(alloc, bits)?),
-            parity,
-            out_parity: digits % 2 == 1,
-        })?;
-        digits /= 2;
-    }
-    let chains = Chains {
-        chains,
-        cells: u32::try_from(cells.len()).unwrap_or(0),
-    };
-    if are_chains(alloc, &chains)? {
-        Ok(Some(chains))
-    } else {
-        Ok(None)
-    }
-}
-
-/// The sizes of new chains by a number, which goes round.
-fn cut_of(sizes: Sizes, number: usize) -> Sizes {
-    let cells = sizes[0].saturating_add(sizes[1]);
-    let least = cells.saturating_sub(3).max(1);
-    let most = cells.saturating_sub(1).min(3);
-    let first = number % most.saturating_sub(least).saturating_add(1) + least;
-    [first, cells.saturating_sub(first)]
 }
 
 /// What the cells hold by the digits of a number in base three; in three turns each cell holds each symbol once.
@@ -295,6 +73,124 @@ fn filling(number: usize, turn: usize) -> [Symbol; CELLS] {
     cells
 }
 
+/// Compares a call that did otherwise on chains as read, or on those as written.
+fn compare_call(
+    cases: &mut Cases,
+    name: &str,
+    call: &ScanCall,
+    old: &Chains,
+    new: &Chains,
+    wanted: &str,
+) -> Result<(), NoMemory> {
+    let mut came = String::new(cases.alloc);
+    write!(&mut came, "{call:?} on {old:?} and {new:?}")?;
+    cases.compare(name, came.as_str(), wanted)
+}
+
+/// Shifts a call and what is written for it plainly, from cells that hold this; whether the call passes.
+fn shift_both(
+    cases: &mut Cases,
+    old: &Chains,
+    new: &Chains,
+    call: &ScanCall,
+    written: &ScanCall,
+    filling: [Symbol; CELLS],
+) -> Result<bool, NoMemory>
+    requires old { AreChains old.now }
+    requires new { AreChains new.now }
+    requires few { old.now.cells ≤ 6 }
+    requires cells { new.now.cells ≡ old.now.cells }
+    requires call { IsCallFor old.now call.now }
+    requires written { IsCallFor new.now written.now }
+{
+    let mut cells = filling;
+    let mut others = filling;
+    let room = old.cells as usize;
+    let verdict = call_by_shifts(cases.alloc, old, &mut cells[..room], call)?;
+    let passed = call_by_shifts(cases.alloc, new, &mut others[..room], written)?;
+    if verdict != passed || cells != others {
+        compare_call(cases, "shifted", call, old, new, "alike")?;
+    }
+    Ok(verdict)
+}
+
+/// Retargets a call that isn't refused; it does as what is written for it, in so many turns.
+fn run_accepted(
+    cases: &mut Cases,
+    old: &Chains,
+    new: &Chains,
+    map: &Map,
+    call: &ScanCall,
+    turns: usize,
+    run: &mut Run,
+) -> Result<(), NoMemory>
+    requires old { AreChains old.now }
+    requires new { AreChains new.now }
+    requires few { old.now.cells ≤ 6 }
+    requires cells { new.now.cells ≡ old.now.cells }
+    requires map { map.now ≡ (old.now, new.now) }
+    requires call { IsCallFor old.now call.now }
+    requires accepted { IsAccepted old.now call.now }
+{
+    let written = retarget_call(cases.alloc, map, call)?;
+    run.retargeted = run.retargeted.wrapping_add(1);
+    for turn in 0..turns {
+        let filling = filling(run.calls, turn);
+        let passed = shift_both(cases, old, new, call, &written, filling)?;
+        run.passed = run.passed.wrapping_add(usize::from(passed));
+    }
+    Ok(())
+}
+
+/// Retargets a call if it isn't refused.
+fn run_call(
+    cases: &mut Cases,
+    old: &Chains,
+    new: &Chains,
+    map: &Map,
+    call: &ScanCall,
+    turns: usize,
+    run: &mut Run,
+) -> Result<(), NoMemory>
+    requires old { AreChains old.now }
+    requires new { AreChains new.now }
+    requires few { old.now.cells ≤ 6 }
+    requires cells { new.now.cells ≡ old.now.cells }
+    requires map { map.now ≡ (old.now, new.now) }
+{
+    if !is_call_for(old, call) {
+        cases.compare("a call", "not well-formed", "well-formed")?;
+    } else if judge_call(old, call).is_none() {
+        run_accepted(cases, old, new, map, call, turns, run)?;
+    }
+    run.calls = run.calls.wrapping_add(1);
+    Ok(())
+}
+
+/// Retargets calls that aren't refused, from chains to others of the same cells.
+fn run_between(
+    cases: &mut Cases,
+    old: &Chains,
+    new: &Chains,
+    strings: &Strings,
+    numbers: &[[usize; 4]],
+    turns: usize,
+    run: &mut Run,
+) -> Result<(), NoMemory>
+    requires old { AreChains old.now }
+    requires new { AreChains new.now }
+    requires few { old.now.cells ≤ 6 }
+    requires cells { new.now.cells ≡ old.now.cells }
+    requires chains { length new.now.chains ≡ length old.now.chains }
+{
+    let map = map_of(cases.alloc, old, new)?;
+    for four in numbers {
+        let call = call(cases.alloc, strings, *four)?;
+        run_call(cases, old, new, &map, &call, turns, run)?;
+    }
+    Ok(())
+}
+
 /// Retargets calls that aren't refused; each does as what is written for it, by plain shifting.
 fn run_calls(
     cases: &mut Cases,
@@ -308,7 +204,6 @@ fn run_calls(
     requires old { IfSome old.now AreChains }
     requires new { IfSome new.now AreChains }
 {
-    let alloc = cases.alloc;
     let (Some(old), Some(new)) = (old, new) else {
         return cases.compare("chains", "not well-formed", "well-formed");
     };
@@ -318,28 +213,33 @@ fn run_calls(
     {
         return cases.compare("chains", "of other cells", "of the same cells");
     }
-    let map = map_of(alloc, old, new)?;
-    for four in numbers {
-        let call = call(alloc, strings, *four)?;
-        let number = run.calls;
-        run.calls = run.calls.wrapping_add(1);
-        if !is_call_for(old, &call) {
-            cases.compare("a call", "not well-formed", "well-formed")?;
-        } else if judge_call(old, &call).is_none() {
-            let written = retarget_call(alloc, &map, &call)?;
-            run.retargeted = run.retargeted.wrapping_add(1);
-            for turn in 0..turns {
-                let mut cells = filling(number, turn);
-                let mut others = cells;
-                let room = old.cells as usize;
-                let verdict = call_by_shifts(alloc, old, &mut cells[..room], &call)?;
-                let passed = call_by_shifts(alloc, new, &mut others[..room], &written)?;
-                if verdict != passed || cells != others {
-                    let came = format!(in alloc; "{call:?} on {old:?} and {new:?}")?;
-                    cases.compare("shifted", came.as_str(), "alike")?;
-                }
-                run.passed = run.passed.wrapping_add(usize::from(verdict));
-            }
+    run_between(cases, old, new, strings, numbers, turns, run)
+}
+
+/// Retargets calls from made chains to others.
+fn run_made(
+    cases: &mut Cases,
+    old: Made,
+    new: Made,
+    strings: &Strings,
+    numbers: &[[usize; 4]],
+    turns: usize,
+    run: &mut Run,
+) -> Result<(), NoMemory> {
+    let old = two_chains(cases.alloc, old)?;
+    let new = two_chains(cases.alloc, new)?;
+    run_calls(cases, &old, &new, strings, numbers, turns, run)
+}
+
+/// Puts the numbers of a pair of loads behind none, with all compares.
+fn put_compares(
+    numbers: &mut Vec<[usize; 4]>,
+    strings: &Strings,
+    number: usize,
+) -> Result<(), NoMemory> {
+    for first in 0..strings.first.as_slice().len() {
+        for second in 0..strings.second.as_slice().len() {
+            numbers.push([number / STRINGS, number % STRINGS, first, second])?;
         }
     }
     Ok(())
@@ -352,19 +252,29 @@ fn run_loads(
     strings: &Strings,
     run: &mut Run,
 ) -> Result<(), NoMemory> {
-    let alloc = cases.alloc;
     let all = parities_of(sizes);
     for number in (0..STRINGS * STRINGS).step_by(LOADS) {
-        let mut numbers = Vec::new(alloc);
-        for first in 0..strings.compares[0].len() {
-            for second in 0..strings.compares[1].len() {
-                numbers.push([number / STRINGS, number % STRINGS, first, second])?;
-            }
-        }
-        let others = number.wrapping_mul(7).wrapping_add(number / all) % all;
-        let old = two_chains(alloc, sizes, number / 11, number % all)?;
-        let new = two_chains(alloc, cut_of(sizes, number / 7), number / 3, others)?;
-        run_calls(cases, &old, &new, strings, &numbers, 1, run)?;
+        let old = Made {
+            sizes,
+            order: number / 11,
+            parities: number % all,
+        };
+        let new = Made {
+            sizes: cut_of(sizes, number / 7),
+            order: number / 3,
+            parities: number.wrapping_mul(7).wrapping_add(number / all) % all,
+        };
+        let mut numbers = Vec::new(cases.alloc);
+        put_compares(&mut numbers, strings, number)?;
+        run_made(cases, old, new, strings, numbers.as_slice(), 1, run)?;
+    }
+    Ok(())
+}
+
+/// Puts the numbers of some calls behind none, for a parity.
+fn put_paired(numbers: &mut Vec<[usize; 4]>, parities: usize) -> Result<(), NoMemory> {
+    for number in (parities % PAIRS..PRIME * PRIME).step_by(PAIRS) {
+        numbers.push(paired(number))?;
     }
     Ok(())
 }
@@ -376,43 +286,71 @@ fn run_old_parities(
     strings: &Strings,
     run: &mut Run,
 ) -> Result<(), NoMemory> {
-    let alloc = cases.alloc;
     let all = parities_of(sizes);
     for parities in 0..all {
-        let mut numbers = Vec::new(alloc);
-        for number in (parities % PAIRS..PRIME * PRIME).step_by(PAIRS) {
-            numbers.push(paired(number))?;
-        }
-        let others = (parities * 5 + 3) % all;
-        let old = two_chains(alloc, sizes, parities * 7, parities)?;
-        let new = two_chains(alloc, cut_of(sizes, parities / 3), parities * 11, others)?;
-        run_calls(cases, &old, &new, strings, &numbers, 3, run)?;
+        let old = Made {
+            sizes,
+            order: parities * 7,
+            parities,
+        };
+        let new = Made {
+            sizes: cut_of(sizes, parities / 3),
+            order: parities * 11,
+            parities: (parities * 5 + 3) % all,
+        };
+        let mut numbers = Vec::new(cases.alloc);
+        put_paired(&mut numbers, parities)?;
+        run_made(cases, old, new, strings, numbers.as_slice(), 3, run)?;
     }
     Ok(())
+}
+
+/// The numbers of the calls that come with the two parities of this number.
+fn numbers_at(number: usize) -> [[usize; 4]; CALLS] {
+    let mut numbers = [[0; 4]; CALLS];
+    for (k, four) in numbers.iter_mut().enumerate() {
+        let which = number.wrapping_mul(CALLS).wrapping_add(k);
+        *four = paired(which.wrapping_mul(APART));
+    }
+    numbers
 }
 
 /// Every parity of the new chains beside old ones of this parity.
 fn run_new_parities(
     cases: &mut Cases,
-    old: &Option<Chains>,
+    old: Made,
     cut: Sizes,
-    parities: usize,
     strings: &Strings,
     run: &mut Run,
-) -> Result<(), NoMemory>
-    requires { IfSome old.now AreChains }
-{
-    let alloc = cases.alloc;
+) -> Result<(), NoMemory> {
     let all = parities_of(cut);
     for others in 0..all {
-        let number = parities.wrapping_mul(all).wrapping_add(others);
-        let mut numbers = Vec::new(alloc);
-        for k in 0..CALLS {
-            let which = number.wrapping_mul(CALLS).wrapping_add(k);
-            numbers.push(paired(which.wrapping_mul(APART)))?;
-        }
-        let new = two_chains(alloc, cut, number / 3, others)?;
-        run_calls(cases, old, &new, strings, &numbers, 3, run)?;
+        let number = old.parities.wrapping_mul(all).wrapping_add(others);
+        let new = Made {
+            sizes: cut,
+            order: number / 3,
+            parities: others,
+        };
+        run_made(cases, old, new, strings, &numbers_at(number), 3, run)?;
+    }
+    Ok(())
+}
+
+/// Every parity of the old chains with every parity of the new ones, for a cut.
+fn run_cut(
+    cases: &mut Cases,
+    sizes: Sizes,
+    cut: Sizes,
+    strings: &Strings,
+    run: &mut Run,
+) -> Result<(), NoMemory> {
+    for parities in 0..parities_of(sizes) {
+        let old = Made {
+            sizes,
+            order: parities * 7,
+            parities,
+        };
+        run_new_parities(cases, old, cut, strings, run)?;
     }
     Ok(())
 }
@@ -424,15 +362,12 @@ fn run_all_parities(
     strings: &Strings,
     run: &mut Run,
 ) -> Result<(), NoMemory> {
-    let alloc = cases.alloc;
-    let all = parities_of(sizes);
-    for (cut, _) in ROWS {
-        if cut[0].saturating_add(cut[1]) != sizes[0].saturating_add(sizes[1]) {
-            continue;
-        }
-        for parities in 0..all {
-            let old = two_chains(alloc, sizes, parities * 7, parities)?;
-            run_new_parities(cases, &old, cut, parities, strings, run)?;
+    let cells = sizes[0].saturating_add(sizes[1]);
+    for first in 1..4 {
+        for second in 1..4 {
+            if first + second == cells {
+                run_cut(cases, sizes, [first, second], strings, run)?;
+            }
         }
     }
     Ok(())
@@ -458,101 +393,189 @@ fn hold(
     let verdict = scan_call(alloc, chains, &mut cells[..room], call)?;
     let passed = call_by_shifts(alloc, chains, &mut shifted[..room], call)?;
     if verdict != passed || cells != shifted {
-        let came = format!(in alloc; "{call:?} on {chains:?}")?;
-        cases.compare("played", came.as_str(), "as by single shifts")?;
+        compare_call(cases, "played", call, chains, chains, "as by single shifts")?;
     }
     Ok(())
+}
+
+/// Judges a call and plays it, where it is one for the chains.
+fn judge(
+    cases: &mut Cases,
+    chains: &Chains,
+    call: &ScanCall,
+    number: usize,
+    judged: &mut [u64; 3],
+) -> Result<(), NoMemory>
+    requires { AreChains chains.now }
+{
+    if !is_call_for(chains, call) {
+        return Ok(());
+    }
+    let place = match judge_call(chains, call) {
+        None => 0,
+        Some(Kind::ShortLoad) => 1,
+        Some(_) => 2,
+    };
+    judged[place] = judged[place].wrapping_add(1);
+    hold(cases, chains, call, filling(number, 0))
 }
 
 /// How many calls are accepted, and how many are refused for a short load or a long compare, where all strings come. Each is
 /// played, too.
-fn judged(
+fn judge_all(
     cases: &mut Cases,
-    chains: &Option<Chains>,
+    chains: &Chains,
     strings: &Strings,
-) -> Result<[u64; 3], NoMemory>
-    requires { IfSome chains.now AreChains }
+    judged: &mut [u64; 3],
+) -> Result<(), NoMemory>
+    requires { AreChains chains.now }
 {
-    let mut judged = [0u64; 3];
-    let Some(chains) = chains else {
-        return Ok(judged);
-    };
     for number in 0..PRIME * PRIME {
         let call = call(cases.alloc, strings, paired(number))?;
-        if is_call_for(chains, &call) {
-            hold(cases, chains, &call, filling(number, 0))?;
-            let place = match judge_call(chains, &call) {
-                None => 0,
-                Some(Kind::ShortLoad) => 1,
-                Some(_) => 2,
-            };
-            judged[place] = judged[place].wrapping_add(1);
-        }
+        judge(cases, chains, &call, number, judged)?;
     }
     cases.tried = cases.tried.saturating_add((PRIME * PRIME) as u64);
-    Ok(judged)
+    Ok(())
 }
 
-fn try_row(cases: &mut Cases, row: Row) -> Result<(), NoMemory> {
-    let alloc = cases.alloc;
-    let (sizes, [loads, old, all, accepted]) = row;
-    let within = Strings {
-        loads: strings_within(alloc, b"01N", 4)?,
-        compares: [
-            strings_within(alloc, b"LHX", sizes[0])?,
-            strings_within(alloc, b"LHX", sizes[1])?,
+/// Compares how many calls were accepted, and how many refused for each of two reasons.
+fn compare_judged(cases: &mut Cases, judged: [u64; 3], wanted: &str) -> Result<(), NoMemory> {
+    let [accepted, short, long] = judged;
+    let mut came = String::new(cases.alloc);
+    put(
+        &mut came,
+        &[
+            Part::Text("["),
+            Part::Number(accepted),
+            Part::Text(", "),
+            Part::Number(short),
+            Part::Text(", "),
+            Part::Number(long),
+            Part::Text("]"),
         ],
-    };
-    for (sweep, wanted) in (0..3).zip([loads, old, all]) {
-        let mut run = Run {
-            calls: 0,
-            retargeted: 0,
-            passed: 0,
-        };
-        let name = match sweep {
-            0 => {
-                run_loads(cases, sizes, &within, &mut run)?;
-                "loads"
-            }
-            1 => {
-                run_old_parities(cases, sizes, &within, &mut run)?;
-                "old parities"
-            }
-            _ => {
-                run_all_parities(cases, sizes, &within, &mut run)?;
-                "all parities"
-            }
-        };
-        let name = format!(in alloc; "{name} on {sizes:?}")?;
-        let came = format!(in alloc; "{} {}", run.retargeted, run.passed)?;
-        cases.tried = cases.tried.saturating_add(run.calls as u64);
-        cases.compare(name.as_str(), came.as_str(), wanted)?;
-    }
-    let beyond = Strings {
-        loads: strings_within(alloc, b"01N", 4)?,
-        compares: [
-            strings_within(alloc, b"LHX", 4)?,
-            strings_within(alloc, b"LHX", 4)?,
-        ],
-    };
+    )?;
+    cases.compare("judged", came.as_str(), wanted)
+}
+
+/// Judges all calls on the chains of a row at some parities, with strings that are filled here.
+fn try_judged(
+    cases: &mut Cases,
+    row: &Value,
+    sizes: Sizes,
+    strings: &mut Strings,
+) -> Result<(), NoMemory> {
+    fill_strings(cases.alloc, strings, [4, 4])?;
     for parities in (0..parities_of(sizes)).step_by(JUDGED) {
-        let chains = two_chains(alloc, sizes, parities * 7, parities)?;
-        let came = judged(cases, &chains, &beyond)?;
-        let came = format!(in alloc; "{came:?}")?;
-        cases.compare("judged", came.as_str(), accepted)?;
+        let made = Made {
+            sizes,
+            order: parities * 7,
+            parities,
+        };
+        let mut judged = [0u64; 3];
+        if let Some(chains) = &two_chains(cases.alloc, made)? {
+            judge_all(cases, chains, strings, &mut judged)?;
+        }
+        compare_judged(cases, judged, text(row, "judged"))?;
     }
     Ok(())
 }
 
-pub(crate) fn try_rows(cases: &mut Cases, rows: &[Row]) -> Result<(), NoMemory> {
-    for row in rows {
-        try_row(cases, *row)?;
-    }
-    Ok(())
+/// Compares how many calls of a sweep were retargeted, and how many passed, and counts all.
+fn compare_run(
+    cases: &mut Cases,
+    sizes: Sizes,
+    sweep: &str,
+    run: &Run,
+    wanted: &str,
+) -> Result<(), NoMemory> {
+    let mut came = String::new(cases.alloc);
+    put(
+        &mut came,
+        &[
+            Part::Number(run.retargeted as u64),
+            Part::Text(" "),
+            Part::Number(run.passed as u64),
+        ],
+    )?;
+    let mut name = String::new(cases.alloc);
+    put(
+        &mut name,
+        &[
+            Part::Text(sweep),
+            Part::Text(" on ["),
+            Part::Number(sizes[0] as u64),
+            Part::Text(", "),
+            Part::Number(sizes[1] as u64),
+            Part::Text("]"),
+        ],
+    )?;
+    cases.tried = cases.tried.saturating_add(run.calls as u64);
+    cases.compare(name.as_str(), came.as_str(), wanted)
 }
 
-pub(crate) fn sweep(alloc: Global) -> Result<Cases, NoMemory> {
-    let mut cases = Cases::new(alloc);
-    try_rows(&mut cases, ROWS.as_slice())?;
-    Ok(cases)
+/// A sweep through calls.
+#[derive(Clone, Copy)]
+enum Sweep {
+    Loads,
+    OldParities,
+    AllParities,
+}
+
+/// Runs a sweep over the chains of a row.
+fn try_sweep(
+    cases: &mut Cases,
+    row: &Value,
+    sizes: Sizes,
+    strings: &Strings,
+    sweep: Sweep,
+) -> Result<(), NoMemory> {
+    let mut run = Run {
+        calls: 0,
+        retargeted: 0,
+        passed: 0,
+    };
+    let (name, wanted) = match sweep {
+        Sweep::Loads => {
+            run_loads(cases, sizes, strings, &mut run)?;
+            ("loads", text(row, "loads"))
+        }
+        Sweep::OldParities => {
+            run_old_parities(cases, sizes, strings, &mut run)?;
+            ("old parities", text(row, "old_parities"))
+        }
+        Sweep::AllParities => {
+            run_all_parities(cases, sizes, strings, &mut run)?;
+            ("all parities", text(row, "all_parities"))
+        }
+    };
+    compare_run(cases, sizes, name, &run, wanted)
+}
+
+/// Runs the sweeps over the chains of a row, with strings that are filled here.
+fn try_sweeps(
+    cases: &mut Cases,
+    row: &Value,
+    sizes: Sizes,
+    strings: &mut Strings,
+) -> Result<(), NoMemory> {
+    fill_strings(cases.alloc, strings, sizes)?;
+    try_sweep(cases, row, sizes, strings, Sweep::Loads)?;
+    try_sweep(cases, row, sizes, strings, Sweep::OldParities)?;
+    try_sweep(cases, row, sizes, strings, Sweep::AllParities)
+}
+
+/// How many bits a chain of a row has; none where it says nothing of the chain.
+fn size_at(row: &Value, chain: usize) -> usize {
+    match list(row, "sizes").get(chain) {
+        Some(size) => usize::try_from(number_of(size)).unwrap_or(0),
+        None => 0,
+    }
+}
+
+pub(crate) fn try_row(cases: &mut Cases, row: &Value) -> Result<(), NoMemory> {
+    let sizes = [size_at(row, 0), size_at(row, 1)];
+    let mut within = no_strings(cases.alloc);
+    try_sweeps(cases, row, sizes, &mut within)?;
+    let mut beyond = no_strings(cases.alloc);
+    try_judged(cases, row, sizes, &mut beyond)
 }
