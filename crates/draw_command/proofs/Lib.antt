@@ -1,3 +1,0 @@
-pub mod Grouped
-pub mod Says
-pub mod Written

@@ -13,8 +13,8 @@ use Rattle.chain_rules.specs.Legality.{bits_of, chain_at, unit_at}
 use Rattle.wire_cost.specs.declared.ends.Ends.{Ends}
 use Rattle.wire_cost.specs.Lengths.{ChainEnds, chain_ends, chain_length_of}
 use Rattle.design_places.specs.Ends.{Placed, placed_named}
-use Rattle.draw_command.specs.declared.chain.Segment.{Segment}
-use Rattle.draw_command.specs.declared.chain.DrawnChain.{DrawnChain}
+use Rattle.chain_picture.specs.declared.chain.Segment.{Segment}
+use Rattle.chain_picture.specs.declared.chain.DrawnChain.{DrawnChain}
 
 -- the way between two points, where both of them stand somewhere
 abbrev pub segment_between : Option Point → Option Point → List Segment

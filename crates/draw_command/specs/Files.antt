@@ -14,9 +14,9 @@ use Rattle.chain_rules.specs.declared.unit.Rules.{Rules}
 use Rattle.wire_cost.specs.declared.ends.Ends.{Ends}
 use Rattle.design_places.specs.Ends.{ends_of}
 use Rattle.design_files.specs.Files.{Texts, AreRead}
+use Rattle.chain_picture.specs.Pictures.{link_count, svg_of}
 use Rattle.draw_command.specs.declared.draw.Picture.{Picture}
 use Rattle.draw_command.specs.Drawn.{drawn_from}
-use Rattle.draw_command.specs.Pictures.{link_count, svg_of}
 
 -- the picture is that of a design's chains
 pub record IsPictureOf (macros : NamedMacros) (d : Design) (rules : Rules) (ends : Ends) (picture : Picture) : Type 0 where

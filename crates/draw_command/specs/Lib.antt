@@ -1,5 +1,2 @@
 pub mod Drawn
 pub mod Files
-pub mod Pictures
-pub mod Sizes
-pub mod Xml

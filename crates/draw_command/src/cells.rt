@@ -5,8 +5,8 @@ ghost use Rattle.def_reader.specs.Sound.{IsIn32Bits, IsSound, elements_in};
 ghost use Rattle.design_places.specs.Ends.{Placed, placed_named, placed_of};
 ghost use Rattle.draw_command.specs.Drawn.{corner_at, corners, element_cells, list_cells};
 
-use crate::chain::Segment;
 use base_types::{NoMemory, Point};
+use chain_picture::Segment;
 use def_reader::{Component, Design, Element, ElementList};
 use lef_pins::{Macro, Macros, Orient, turn};
 use std::alloc::Global;

@@ -7,12 +7,12 @@ ghost use Rattle.design_files.specs.Faults.{HoldsInFiles, IsFilesFault};
 ghost use Rattle.lef_pins.specs.Denoted.{AreMeasured};
 ghost use Rattle.def_reader.specs.Sound.{IsSound};
 ghost use Rattle.wire_cost.specs.Lengths.{ArePlaced, IsPlanAt};
+ghost use Rattle.chain_picture.specs.Xml.{IsPlainByte, count_of};
 ghost use Rattle.draw_command.specs.Files.{IsPicture, IsPictureOf};
-ghost use Rattle.draw_command.specs.Xml.{IsPlainByte, count_of};
 
 use crate::drawn::drawn_of;
-use crate::svg::{link_count, svg_of};
 use base_types::{NoMemory, ReadFault, Text};
+use chain_picture::{link_count, svg_of};
 use design_files::{DesignFiles, read_design_files};
 use std::alloc::Global;
 

@@ -7,8 +7,8 @@ ghost use Rattle.wire_cost.specs.Lengths.{ArePlaced, IsChainAt, IsPlanAt, chain_
 ghost use Rattle.draw_command.specs.Drawn.{drawn_chain, drawn_from, segment_between, segments_from, spans_of};
 
 use crate::cells::Cells;
-use crate::chain::{DrawnChain, Segment};
 use base_types::{Name, NoMemory, Point, Rows};
+use chain_picture::{DrawnChain, Segment};
 use chain_rules::Rules;
 use def_reader::{Design, ScanChainText};
 use lef_pins::Macros;

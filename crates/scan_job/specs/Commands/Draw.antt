@@ -6,9 +6,9 @@ use Rattle.desk_io.specs.declared.outputs.Outputs.{Outputs}
 use Rattle.scan_words.specs.declared.verb.Verb.TheVariants as verbs
 use Rattle.design_files.specs.Files.{Texts}
 use Rattle.design_files.specs.Faults.{HoldsInFiles}
+use Rattle.chain_picture.specs.Xml.{IsPlainByte, count_of}
 use Rattle.draw_command.specs.declared.draw.Picture.{Picture}
 use Rattle.draw_command.specs.Files.{IsPicture}
-use Rattle.draw_command.specs.Xml.{IsPlainByte, count_of}
 use Rattle.scan_job.specs.declared.commands.draw.DrawRequest.{DrawRequest}
 use Rattle.scan_job.specs.Commands.Check.{design_in}
 use Rattle.scan_job.specs.Commands.{Command}

@@ -1,7 +1,0 @@
-use Rattle.std.proofs.Common.{◌≡◌, drop}
-use Rattle.std.specs.Prelude.{None}
-use Rattle.draw_command.specs.Sizes.{with_chains}
-use Rattle.draw_command.proofs.bounds.bounds_of.Given as goal
-
-abbrev pub invariant-loop-chain : goal.invariant-loop-chain
-invariant-loop-chain l = with_chains l.bounds (drop l.chain-index l.chains) ≡ with_chains None l.chains

@@ -1,8 +1,0 @@
-use Rattle.draw_command.specs.Pictures.{drawing}
-use Rattle.draw_command.specs.Xml.{attribute}
-use Rattle.draw_command.proofs.Grouped.{drawing_is}
-use Rattle.draw_command.proofs.layers.push_drawing.Goals as goal
-
-pub returns : goal.returns
-unfolding drawing attribute
-returns c = record { value = rw (c.in_ok-extend_from_slice-7.ensures.items, c.in_ok-push_mark_layer.ensures.value, c.in_ok-extend_from_slice-6.ensures.items, c.in_ok-push_size_of-2.ensures.value, c.in_ok-extend_from_slice-5.ensures.items, c.in_ok-push_link_layer.ensures.value, c.in_ok-extend_from_slice-4.ensures.items, c.in_ok-push_size_of.ensures.value, c.in_ok-extend_from_slice-3.ensures.items, c.in_ok-push_cell_layer.ensures.value, c.in_ok-extend_from_slice-2.ensures.items, c.in_ok-push_transform.ensures.value, c.in_ok-extend_from_slice.ensures.items) (drawing_is _ _ _ _ _ _ _) }

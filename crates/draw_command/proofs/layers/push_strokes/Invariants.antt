@@ -1,6 +1,0 @@
-use Rattle.std.proofs.Common.{◌≡◌, ◌++◌, drop}
-use Rattle.draw_command.specs.Pictures.{strokes}
-use Rattle.draw_command.proofs.layers.push_strokes.Given as goal
-
-abbrev pub invariant-loop-segment : goal.invariant-loop-segment
-invariant-loop-segment l = l.text.items ++ strokes (drop l.segment-index l.segments) ≡ l.fn.text.items ++ strokes l.segments

@@ -1,7 +1,0 @@
-use Rattle.std.proofs.Common.{◌≡◌, drop}
-use Rattle.std.specs.Prelude.{max}
-use Rattle.draw_command.specs.Pictures.{longest}
-use Rattle.draw_command.proofs.legend.longest.Given as goal
-
-abbrev pub invariant-loop-chain : goal.invariant-loop-chain
-invariant-loop-chain l = max l.most (longest (drop l.chain-index l.chains)) ≡ longest l.chains

@@ -1,8 +1,0 @@
-use Rattle.std.proofs.Common.{append_assoc}
-use Rattle.std.proofs.lemmas.List.{append-nil}
-use Rattle.draw_command.specs.Pictures.{foot}
-use Rattle.draw_command.proofs.legend.push_foot.Goals as goal
-
-pub returns : goal.returns
-unfolding foot
-returns c = record { value = rw (c.in_ok-push_keys.ensures.value, c.in_ok-push_word.ensures.value, c.in_ok-push_numbers.ensures.value) (simp (append_assoc, append-nil)) }

@@ -1,8 +1,0 @@
-use Rattle.std.proofs.Common.{append_assoc}
-use Rattle.std.proofs.lemmas.List.{append-nil}
-use Rattle.draw_command.specs.Pictures.{word_at}
-use Rattle.draw_command.proofs.legend.push_word.Goals as goal
-
-pub returns : goal.returns
-unfolding word_at
-returns c = record { value = rw (c.in_ok-extend_from_slice-3.ensures.items, c.in_ok-extend_from_slice-2.ensures.items, c.in_ok-extend_from_slice.ensures.items, c.in_ok-push_at.ensures.value) (simp (append_assoc, append-nil)) }

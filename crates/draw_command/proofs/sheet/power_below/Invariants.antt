@@ -1,9 +1,0 @@
-use Rattle.std.proofs.Common.{◌≡◌, ◌≤◌, ◌+◌}
-use Rattle.draw_command.specs.Sizes.{power_below}
-use Rattle.draw_command.proofs.sheet.power_below.Given as goal
-
-abbrev pub invariant-loop-zeros : goal.invariant-loop-zeros
-invariant-loop-zeros l = record {
-  value : l.power ≡ power_below l.n l._zeros;
-  small : l.power ≤ l.n + 1;
-}

@@ -1,6 +1,0 @@
-use Rattle.std.proofs.Common.{◌≡◌, ◌++◌, drop}
-use Rattle.draw_command.specs.Xml.{escaped}
-use Rattle.draw_command.proofs.xml.push_escaped.Given as goal
-
-abbrev pub invariant-loop-byte : goal.invariant-loop-byte
-invariant-loop-byte l = l.text.items ++ escaped (drop l.byte-index l.name) ≡ l.fn.text.items ++ escaped l.name
