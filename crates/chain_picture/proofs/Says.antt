@@ -1,12 +1,12 @@
 -- Pieces of a picture's text: their bytes are plain, and how many links begin in them, whatever follows.
-use Rattle.std.proofs.Common.{◌≡◌, ◌≢◌, ℕ, zero, suc, ◌+◌, ◌*◌, ◌/◌, ◌%◌, ◌<◌, ◌≤◌, ◌⊎◌, inl, inr, Bool, true, false, cond, ◌&&◌, ◌||◌, not, List, [], ◌∷◌, ◌++◌, length, take, drop, get_or, refl, ap, sym, ◌∙◌, subst, arith, append_assoc}
-use Rattle.std.specs.Prelude.{ℤ, pos, negsuc, nat_eq, nat_lt, ◌==◌, codes, decimal, All, Option, Some, None, sum_by}
+use Rattle.std.proofs.Common.{◌≡◌, ℕ, zero, suc, ◌+◌, ◌/◌, ◌%◌, ◌<◌, Bool, true, false, ◌&&◌, ◌||◌, not, List, [], ◌∷◌, ◌++◌, take, drop, get_or, refl, ap, ◌∙◌, subst, arith, append_assoc}
+use Rattle.std.specs.Prelude.{ℤ, pos, negsuc, nat_eq, nat_lt, codes, decimal, All}
 use Rattle.std.specs.Fmt.{signed_decimal, digit_glyph, digits, digits_onto}
 use Rattle.std.proofs.lemmas.Bool.{cond_both, and_from, not-true}
 use Rattle.std.proofs.lemmas.Bool.Decides.{nat_tests}
 use Rattle.std.proofs.lemmas.List.Elements.{All-nil, All-cons}
 use Rattle.base_types.proofs.TruthValues.{and_first, and_second}
-use Rattle.chain_picture.specs.Xml.{IsPlainByte, attribute, begins_with, count_of, digit, element, escaped, escaped_byte, leaf, place, size}
+use Rattle.chain_picture.specs.Xml.{IsPlainByte, attribute, count_of, digit, element, escaped, escaped_byte, leaf, place, size}
 
 -- the byte is a line feed or printable ASCII
 abbrev pub is_plain : ℕ → Bool

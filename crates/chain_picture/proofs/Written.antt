@@ -1,7 +1,6 @@
 -- The text of a picture: all its bytes are plain, and as many `<line` stand in it as links are drawn.
-use Rattle.std.proofs.Common.{◌≡◌, ℕ, zero, suc, ◌+◌, ◌*◌, ◌%◌, ℤ, List, [], ◌∷◌, ◌++◌, length, take, drop, refl, ap, sym, ◌∙◌, subst, arith, true, append-nil}
-use Rattle.std.specs.Prelude.{codes, decimal, All, Option, Some, None, sum_by, unsigned_abs}
-use Rattle.std.specs.Fmt.{signed_decimal}
+use Rattle.std.proofs.Common.{◌≡◌, ℕ, ◌+◌, ◌*◌, ◌%◌, List, [], ◌∷◌, length, refl, ap, sym, ◌∙◌, arith, true, append-nil}
+use Rattle.std.specs.Prelude.{codes, All, Option, Some, None}
 use Rattle.std.proofs.lemmas.List.Sums.{sum_by-cons}
 use Rattle.base_types.specs.declared.span.Point.{Point}
 use Rattle.chain_picture.specs.declared.chain.Segment.{Segment}
@@ -9,7 +8,7 @@ use Rattle.chain_picture.specs.declared.chain.DrawnChain.{DrawnChain}
 use Rattle.chain_picture.specs.declared.sheet.Sheet.{Sheet}
 use Rattle.chain_picture.specs.declared.totals.Totals.{Totals}
 use Rattle.chain_picture.specs.Sizes.{sheet_of}
-use Rattle.chain_picture.specs.Xml.{IsPlainByte, attribute, count_of, element, escaped, leaf, place, size}
+use Rattle.chain_picture.specs.Xml.{IsPlainByte, attribute, count_of, place}
 use Rattle.chain_picture.specs.Pictures.{boxes, cells_from, colour, colours, dashes, drawing, foot, group, heads, keys, label, legend, link, link_count, links, links_from, mark_at, marks_from, nowhere, numbers, point, ring, rows, rows_from, scale, square, square_data, strokes, svg_by, svg_of, swatch, table, totals_of, transform, view, word_at, word_until}
 use Rattle.chain_picture.proofs.Says.{Quiet, Says, Tag, ◌⊕◌, ◌⊞◌, are_quiet, all_plain, attribute_says, element_loud, element_says, empty, escaped_says, leaf_says, loud, number, place_says, quiet, quiet_part, same, signed, size_says}
 

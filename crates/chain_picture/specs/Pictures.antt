@@ -1,6 +1,6 @@
 -- The picture of scan chains, as an SVG text: what is drawn of the chains at the left, each layer over the one before it, and the legend at
 -- the right. Numbers are half database units; the legend's own are a sixth of a letter's width.
-use Rattle.std.specs.Prelude.{◌≡◌, ℕ, ◌+◌, ◌*◌, ◌%◌, max, ℤ, pos, List, [], ◌∷◌, ◌++◌, length, take, drop, codes, decimal, sum_by, Option, Some, None}
+use Rattle.std.specs.Prelude.{ℕ, ◌+◌, ◌*◌, ◌%◌, max, pos, List, [], ◌∷◌, ◌++◌, length, take, drop, codes, decimal, sum_by, Option, Some, None}
 use Rattle.std.specs.Fmt.{signed_decimal}
 use Rattle.base_types.specs.declared.span.Point.{Point}
 use Rattle.chain_picture.specs.declared.chain.Segment.{Segment}

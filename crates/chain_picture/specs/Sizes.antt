@@ -1,5 +1,5 @@
 -- The sizes of a picture, by the extent of what is drawn, and its scale.
-use Rattle.std.specs.Prelude.{ℕ, zero, suc, ◌+◌, ◌*◌, ◌/◌, max, nat_le, if◌then◌else◌, ℤ, pos, ◌-ℤ◌, int_lt, unsigned_abs, List, [], ◌∷◌, length, Option, Some, None, unwrap_or, sum_by}
+use Rattle.std.specs.Prelude.{ℕ, zero, suc, ◌+◌, ◌*◌, ◌/◌, max, nat_le, if◌then◌else◌, pos, ◌-ℤ◌, int_lt, unsigned_abs, List, [], ◌∷◌, length, Option, Some, None, unwrap_or}
 use Rattle.base_types.specs.declared.span.Point.{Point}
 use Rattle.chain_picture.specs.declared.chain.Segment.{Segment}
 use Rattle.chain_picture.specs.declared.chain.DrawnChain.{DrawnChain}

@@ -1,8 +1,7 @@
 use Rattle.std.proofs.Common.{◌≡◌, ◌++◌, List, ℕ, sym, subst, ap, ◌∙◌}
 use Rattle.std.specs.Prelude.{All, codes}
-use Rattle.chain_picture.specs.Sizes.{sheet_of}
 use Rattle.chain_picture.specs.declared.sheet.Sheet.{Sheet}
-use Rattle.chain_picture.specs.Pictures.{link_count, svg_by, svg_of}
+use Rattle.chain_picture.specs.Pictures.{svg_by, svg_of}
 use Rattle.chain_picture.specs.Xml.{IsPlainByte, count_of}
 use Rattle.chain_picture.proofs.Written.{line_count, plain_svg}
 use Rattle.chain_picture.proofs.svg.svg_of.Goals as goal

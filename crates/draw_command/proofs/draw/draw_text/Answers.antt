@@ -1,4 +1,4 @@
-use Rattle.std.proofs.Common.{Option, sym, ap, ◌∙◌, subst}
+use Rattle.std.proofs.Common.{Option, sym, ◌∙◌, subst}
 use Rattle.std.specs.Prelude.{Some, None}
 use Rattle.stil_types.specs.declared.head.StilHead.{StilHead}
 use Rattle.wire_cost.specs.declared.ends.Ends.{Ends}

@@ -1,4 +1,4 @@
-use Rattle.std.proofs.Common.{◌≤◌, ℕ, List, length, sym, subst, arith, ap}
+use Rattle.std.proofs.Common.{◌≤◌, ℕ, List, length, sym, subst}
 use Rattle.wire_cost.specs.Lengths.{IsChainAt}
 use Rattle.wire_cost.proofs.Plans.{chain_of_plan}
 use Rattle.draw_command.proofs.drawn.drawn_chain.Goals as goal

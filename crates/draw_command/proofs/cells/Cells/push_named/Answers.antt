@@ -1,4 +1,4 @@
-use Rattle.std.proofs.Common.{List, sym}
+use Rattle.std.proofs.Common.{sym}
 use Rattle.design_places.proofs.Fits.{placed_fits}
 use Rattle.draw_command.proofs.cells.Cells.push_named.Goals as goal
 
