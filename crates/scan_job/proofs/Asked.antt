@@ -1,5 +1,5 @@
 -- Words that say an order say a request, and one at most; and a request looks at its inputs alone.
-use Rattle.std.proofs.Common.{◌≡◌, inl, inr, Bool, true, false, List, [], length, codes, Option, Some, None, refl, sym, ap, ◌∙◌, subst, arith}
+use Rattle.std.proofs.Common.{◌≡◌, inl, inr, Bool, true, false, List, [], length, codes, Option, Some, None, refl, sym, ap, ◌∙◌, subst}
 use Rattle.std.proofs.lemmas.Option.{same_Some}
 use Rattle.base_types.specs.declared.fault.Fault.{Fault}
 use Rattle.desk_io.specs.declared.outputs.Outputs.{Outputs}

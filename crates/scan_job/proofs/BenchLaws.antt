@@ -1,10 +1,10 @@
 -- The laws of `bench`: its values make one request, which looks at no input; and the faults of the made files are those of their number.
-use Rattle.std.proofs.Common.{◌≡◌, ◌<◌, ◌≤◌, ℕ, true, false, List, [], ◌∷◌, length, Some, Err, decimal, refl, sym, ap, ◌∙◌, subst, arith}
+use Rattle.std.proofs.Common.{◌≡◌, ◌<◌, ℕ, true, false, List, [], ◌∷◌, length, Some, Err, decimal, refl, sym, ap, ◌∙◌, subst, arith}
 use Rattle.std.proofs.lemmas.Fmt.{decimal_injective}
 use Rattle.base_types.specs.declared.fault.Fault.{Fault}
 use Rattle.base_types.specs.declared.fault.ReadFault.{ReadFault}
 use Rattle.base_types.specs.declared.fault.ReadFault.TheVariants as faults
-use Rattle.base_types.specs.FirstFault.{ComesBefore, IfFault, IsFirstFault}
+use Rattle.base_types.specs.FirstFault.{IfFault, IsFirstFault}
 use Rattle.desk_io.specs.declared.outputs.Outputs.{Outputs}
 use Rattle.scan_words.specs.declared.verb.Verb.TheVariants as verbs
 use Rattle.scan_words.specs.declared.table.OptionName.TheVariants as options

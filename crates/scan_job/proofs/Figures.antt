@@ -3,7 +3,7 @@ use Rattle.std.proofs.Common.{◌≡◌, ℕ, List, [], ◌++◌, codes, ap, ◌
 use Rattle.reorder_command.specs.declared.figures.Figures.{Figures}
 use Rattle.retargeted_patterns.specs.declared.figures.PatternFigures.{PatternFigures}
 use Rattle.scan_job.specs.Commands.Reorder.{figure_line, measured_text, cut_text, figures_text}
-use Rattle.scan_job.specs.Commands.Patterns.{pattern_lines, all_figures_text}
+use Rattle.scan_job.specs.Commands.Patterns.{all_figures_text}
 
 -- a line was appended to a text that is known
 behind : (old was line new : List ℕ) → old ≡ was → new ≡ old ++ line → new ≡ was ++ line

@@ -1,5 +1,5 @@
 -- What a run of `reorder` with patterns leaves at the slots, before the other outputs are put.
-use Rattle.std.proofs.Common.{◌≡◌, ◌≢◌, ◌<◌, ◌⊎◌, ℕ, List, length, Option, IfSome, refl, sym, ◌∙◌, ap, subst, arith, inl, inr}
+use Rattle.std.proofs.Common.{◌≡◌, ◌≢◌, ◌<◌, ◌⊎◌, ℕ, List, Option, IfSome, refl, sym, ◌∙◌, ap, subst, arith, inl, inr}
 use Rattle.base_types.specs.declared.fault.Fault.{Fault}
 use Rattle.base_types.specs.FirstFault.{IsFirstFault}
 use Rattle.desk_io.specs.declared.slot.Slot.{Slot}
@@ -14,11 +14,11 @@ use Rattle.design_files.specs.Files.{Texts}
 use Rattle.scan_job.specs.declared.commands.patterns.PatternsRequest.{PatternsRequest}
 use Rattle.scan_job.specs.Requests.{Request, ReorderPatterns, names_of}
 use Rattle.scan_job.specs.Commands.Check.{design_in}
-use Rattle.scan_job.specs.Commands.Patterns.{AreRetargeted, HoldsInRetargeting, IsPatternKind, first_names, last_names}
-use Rattle.scan_job.specs.Faults.{IsOver, IsSizeFault, IsRunFault, HasNoFault, HasNoFaultBefore}
+use Rattle.scan_job.specs.Commands.Patterns.{AreRetargeted, IsPatternKind, first_names, last_names}
+use Rattle.scan_job.specs.Faults.{IsOver, IsSizeFault, AreSmall, IsRunFault, HasNoCommandFault, HasNoFaultBefore}
 use Rattle.scan_job.specs.TopCall.{Slots, IsUsed, Reads, SameUnused, SameDesign}
 use Rattle.scan_job.specs.Retargeting.{SameBut, IsRetargetingFault}
-use Rattle.scan_job.specs.PatternPhases.{design_of, HasReadPatterns}
+use Rattle.scan_job.specs.PatternPhases.{design_of}
 use Rattle.desk_io.proofs.Slots.{input_or_output, slot_cases, at_slot, apart}
 use Rattle.scan_job.proofs.Agreeing.{design_same}
 use Rattle.scan_job.proofs.Sizes.{size_first, size_none}
@@ -159,8 +159,11 @@ module _ (r : PatternsRequest) (texts : List (Option (List ℕ))) (a b : Slots) 
       own_fault fault (inl large) = absurd (size_none request files (all_small request refl texts a b taken files holds (low_input r) shows) fault large.holds)
       own_fault fault (inr own) = inr (shows, own.1)
 
-      pub none_is : ((fault : Fault) → IsRetargetingFault (design_in files) (files Stil) fault → ⊥) → HasNoFault request files
-      none_is none fault is = none fault (own_fault fault is)
+      pub small_is : AreSmall request files
+      small_is = all_small request refl texts a b taken files holds (low_input r) shows
+
+      pub none_is : ((fault : Fault) → IsRetargetingFault (design_in files) (files Stil) fault → ⊥) → HasNoCommandFault request files
+      none_is none fault own = none fault (inr (shows, own))
 
       pub none_before : ((fault : Fault) → IsRetargetingFault (design_in files) (files Stil) fault → IsPatternKind fault.kind) → HasNoFaultBefore request files
       none_before late fault is = late fault (own_fault fault is)

@@ -1,10 +1,10 @@
 -- What a run of `reorder` with patterns leaves, from what its phases leave.
-use Rattle.std.proofs.Common.{◌≡◌, ◌≢◌, ◌<◌, ◌⊎◌, ℕ, List, [], Option, IfSome, Result, Ok, Err, refl, sym, ◌∙◌, ap, subst, arith, inl, inr}
+use Rattle.std.proofs.Common.{◌≡◌, ◌≢◌, ◌<◌, ◌⊎◌, ℕ, List, Option, Result, Ok, Err, refl, sym, ◌∙◌, ap, subst, arith, inl, inr}
 use Rattle.base_types.specs.declared.fault.Fault.{Fault}
 use Rattle.desk_io.specs.declared.slot.Slot.{Slot}
 use Rattle.desk_io.specs.declared.slot.Slot.TheVariants.{Table, Lef, Verilog, Def, Stil, NewVerilog, NewStil, Log, OutVerilog, OutDef, OutStil, OutSvg, Console}
 use Rattle.desk_io.specs.declared.outputs.Outputs.{Outputs}
-use Rattle.desk_io.specs.Desk.{SlotState, SameElsewhere, IsInput, IsOutput, IsOpen, IsClosed, AllUnopened}
+use Rattle.desk_io.specs.Desk.{SlotState, SameElsewhere, IsOutput, IsOpen, IsClosed, AllUnopened}
 use Rattle.desk_io.specs.Prefixes.{IsAtEnd, IsAppended, HoldsPrefix}
 use Rattle.desk_io.specs.Names.{IsNamed}
 use Rattle.desk_io.specs.Inputs.{HasTakenInputs}
@@ -22,10 +22,10 @@ use Rattle.scan_job.specs.TopCall.{Slots, IsUsed, Reads, SameDesign, HoldsTextBe
 use Rattle.scan_job.specs.Ended.{IsDone, IsRefused, IsInputFailed, IsOutputFailed, IsOutOfMemory, HasEnded}
 use Rattle.scan_job.specs.Phases.{HasPutLine, HasFailedAtLine}
 use Rattle.scan_job.specs.Retargeting.{IsRetargetingFault}
-use Rattle.scan_job.specs.PatternPhases.{design_of, IsPutClosed, HasReadPatterns, AreOutputsFound, HasBegunStil, HasWrittenOut, HasFoundBefore, HasFoundWriting, HasFailedAtPatterns, HasRunOutAtPatterns, HasFailedAtOutput, HasFinishedPatterns}
+use Rattle.scan_job.specs.PatternPhases.{IsPutClosed, HasReadPatterns, AreOutputsFound, HasBegunStil, HasWrittenOut, HasFoundBefore, HasFoundWriting, HasFailedAtPatterns, HasRunOutAtPatterns, HasFailedAtOutput, HasFinishedPatterns}
 use Rattle.desk_io.proofs.Slots.{below_cases, input_or_output, not_both, slot_cases, at_slot, apart, early_turn}
 use Rattle.scan_job.proofs.Phases.{state_same, unused_apart, used_or_not, nothing_held, all_held, appended_since, prefix_since, risen_since, before_of, not_open_closed}
-use Rattle.scan_job.proofs.PatternFrames.{last_used, stil_or_last, b_out, b_stil, of_files, run_fault, none_is, none_before, e_unused, e_out, e_design, e_count, in_count, e_closed, e_end, e_open}
+use Rattle.scan_job.proofs.PatternFrames.{last_used, stil_or_last, b_out, b_stil, of_files, run_fault, small_is, none_is, none_before, e_unused, e_out, e_design, e_count, in_count, e_closed, e_end, e_open}
 
 -- the closed output isn't open
 shut : (bytes : List ℕ) (old new : SlotState) → IsPutClosed bytes old new → IsOpen new → ⊥
@@ -245,7 +245,7 @@ module _ (r : PatternsRequest) (texts : List (Option (List ℕ))) (a b : Slots) 
     outputs_are : (files : Slot → List ℕ) → Reads request files a → AreOutputsOf request files w.outputs
     outputs_are files holds =
         let found = of_files r texts a b unopened taken files holds (λ t stil. AreRetargeted r t stil w.outputs × ((fault : Fault) → IsRetargetingFault t stil fault → ⊥)) w.is in
-        record { no_fault = none_is r texts a b unopened taken files holds w.outputs found.0 found.1; texts = found.0 }
+        record { small = small_is r texts a b unopened taken files holds w.outputs found.0; no_fault = none_is r texts a b unopened taken files holds w.outputs found.0 found.1; texts = found.0 }
 
     last_apart : (slot : Slot) → IsNamed (last_names r) slot → slot ≢ OutStil
     last_apart OutStil named is = absurd cc

@@ -1,5 +1,5 @@
 -- The laws of `reorder` with patterns: it looks at its inputs alone.
-use Rattle.std.proofs.Common.{◌≡◌, List, ℕ, refl, subst}
+use Rattle.std.proofs.Common.{List, ℕ, refl, subst}
 use Rattle.base_types.specs.declared.fault.Fault.{Fault}
 use Rattle.base_types.specs.FirstFault.{IsFirstFault}
 use Rattle.desk_io.specs.declared.slot.Slot.TheVariants.{Table, Lef, Verilog, Def, Stil}

@@ -16,7 +16,7 @@ use Rattle.scan_job.specs.declared.stop.Stop.{Stop}
 use Rattle.scan_job.specs.declared.stop.Stop.TheVariants.{NoForm, Refused, InputFailed, OutputFailed, NoMemory}
 use Rattle.scan_words.specs.declared.order.Order.{Order}
 use Rattle.scan_job.specs.Requests.{Request, order_of, command_of, names_of}
-use Rattle.scan_job.specs.Faults.{size_fault, IsOver, AreSmall, IsCommandFault, HasNoCommandFault, IsRunFault, HasNoFault, IsFoundWriting}
+use Rattle.scan_job.specs.Faults.{size_fault, IsOver, AreSmall, IsCommandFault, IsRunFault, HasNoFault, IsFoundWriting}
 use Rattle.scan_job.specs.Texts.{AreOutputsOf, AreOutputsBefore}
 use Rattle.scan_job.specs.TopCall.{Slots, IsUsed, Reads, SameEverywhere, SameUnused, SameOutputs, SameDesign, AreFilesRefused}
 use Rattle.scan_job.specs.Ended.{IsDone, IsRefused, IsInputFailed, IsOutputFailed, IsOutOfMemory, HasEnded, HasRunOrder}
@@ -108,18 +108,19 @@ module _ (request : Request) (texts : List (Option (List ℕ))) (a b : Slots) (t
     found_first : (fault : Fault) → IsCommandFault request (input_at texts) fault → IsRunFault request files fault
     found_first fault found = inr (is_small, command_same request (input_at texts) files fault file_is found)
 
-    none_first : HasNoCommandFault request (input_at texts) → HasNoFault request files
-    none_first none fault (inl large) = size_none request files is_small fault large.holds
-    none_first none fault (inr own) = none fault (command_same request files (input_at texts) fault (λ slot input used. sym (file_is slot input used)) own.1)
-
     judged_outputs : (outputs : Outputs) → AreJudged request texts outputs → AreOutputsOf request files outputs
     judged_outputs outputs judged = record {
-      no_fault = none_first judged.no_fault;
+      small = is_small;
+      no_fault = λ fault own. judged.no_fault fault (command_same request files (input_at texts) fault (λ slot input used. sym (file_is slot input used)) own);
       texts = texts_same request (input_at texts) files outputs file_is judged.are;
     }
 
+pub none_of : (request : Request) (files : Slot → List ℕ) (outputs : Outputs) → AreOutputsOf request files outputs → HasNoFault request files
+none_of request files outputs are fault (inl large) = size_none request files are.small fault large.holds
+none_of request files outputs are fault (inr own) = are.no_fault fault own.1
+
 pub before_of : (request : Request) (files : Slot → List ℕ) (outputs : Outputs) → AreOutputsOf request files outputs → AreOutputsBefore request files outputs
-before_of request files outputs are = record { no_fault = λ fault is. absurd (are.no_fault fault is); texts = are.texts }
+before_of request files outputs are = record { no_fault = λ fault is. absurd (none_of request files outputs are fault is); texts = are.texts }
 
 -- no output was touched, nor anything said
 

@@ -1,5 +1,5 @@
 -- What planning by a taken head answers, from what the readers answer.
-use Rattle.std.proofs.Common.{◌≡◌, ◌≢◌, ◌<◌, ◌≤◌, ℕ, suc, List, [], ◌∷◌, Option, Some, None, option_map, IfSome, Result, Ok, Err, refl, sym, ◌∙◌, ap, subst, arith, inl, inr}
+use Rattle.std.proofs.Common.{◌≡◌, ◌≢◌, ◌<◌, ◌≤◌, ℕ, suc, false, List, [], ◌∷◌, Option, Some, None, option_map, IfSome, Result, Ok, Err, refl, sym, ◌∙◌, ap, subst, arith, inl, inr}
 use Rattle.std.proofs.lemmas.Option.{same_Some}
 use Rattle.base_types.specs.declared.fault.Fault.{Fault}
 use Rattle.base_types.specs.declared.fault.ReadFault.{ReadFault}
@@ -14,7 +14,6 @@ use Rattle.desk_io.specs.declared.slot.Slot.TheVariants.{Stil, OutStil}
 use Rattle.desk_io.specs.Desk.{SlotState, SameElsewhere, opened, closed}
 use Rattle.desk_io.specs.Causes.{HasFailed, HasRisen}
 use Rattle.stil_types.specs.declared.head.StilHead.{StilHead}
-use Rattle.stil_parts.specs.Heads.{head_len}
 use Rattle.stil_head.specs.Heads.{DenotesHead}
 use Rattle.stil_calls.specs.Scans.{bits_of}
 use Rattle.stil_tester.specs.Shifting.{bit_counts}
@@ -22,7 +21,7 @@ use Rattle.stil_reader.specs.Sayings.{Head, Told, after, refusal, told_whole}
 use Rattle.stil_stream.specs.Streams.{Streaming, fault_of, fresh}
 use Rattle.stil_input.specs.declared.input.StilStop.{StilStop}
 use Rattle.stil_input.specs.declared.input.StilStop.TheVariants.{Fault as OfText, Read, NoMemory}
-use Rattle.stil_input.specs.Inputs.{coming, HasDrawn, HasDrawnAndFailed, Says, GivesHead, stop_of}
+use Rattle.stil_input.specs.Inputs.{Draws, coming, HasDrawn, HasDrawnAndFailed, Says, GivesHead, stop_of}
 use Rattle.reorder_command.specs.declared.goal.Goal.{Goal}
 use Rattle.design_files.specs.Files.{Texts, with_head, IsHeadIn}
 use Rattle.design_files.specs.Faults.{HoldsInFiles, IsFilesFault}
@@ -31,18 +30,17 @@ use Rattle.design_files.proofs.LayerKinds.{among}
 use Rattle.reorder_command.specs.declared.reorder.Reordered.{Reordered}
 use Rattle.reorder_command.specs.declared.patterns.PatternPlan.{PatternPlan}
 use Rattle.reorder_command.specs.PatternPlans.{ArePatternsPlanned, IsReorderedWith}
-use Rattle.pattern_warnings.specs.declared.warnings.PatternWarnings.{PatternWarnings}
 use Rattle.play_command.specs.Files.{IsHeadText}
 use Rattle.scan_job.specs.declared.commands.patterns.PatternsRequest.{PatternsRequest}
-use Rattle.scan_job.specs.declared.patterns.Made.{Made}
+use Rattle.scan_job.specs.declared.patterns.Ready.{Ready}
 use Rattle.scan_job.specs.declared.stop.Stop.{Stop}
 use Rattle.scan_job.specs.declared.stop.Stop.TheVariants.{NoForm, Refused, InputFailed, OutputFailed, NoMemory as OutOfMemory}
 use Rattle.scan_job.specs.Commands.Patterns.{HoldsInRetargeting, Before, OfPatterns, IsPatternKind}
 use Rattle.scan_job.specs.Requests.{ReorderPatterns, names_of}
 use Rattle.scan_job.specs.TopCall.{Slots}
 use Rattle.scan_job.specs.Phases.{HasSaid}
-use Rattle.scan_job.specs.Retargeting.{IsFaultBefore, IsRetargetingFault, HasPlanned}
-use Rattle.scan_job.specs.PatternPhases.{design_of, HasReadPatterns, HasFailedAtPatterns, HasRunOutAtPatterns, HasFinishedPatterns}
+use Rattle.scan_job.specs.Retargeting.{IsFaultBefore, IsRetargetingFault, IsReadyWith, HasPlanned}
+use Rattle.scan_job.specs.PatternPhases.{design_of, HasReadPatterns, HasFinishedPatterns}
 use Rattle.scan_job.proofs.Played.{any_head, told_if, comes_whole, no_head, head_text_is, head_shows, one_text}
 use Rattle.play_command.proofs.PatternKinds.{pattern_late}
 
@@ -84,6 +82,13 @@ module _ (t : Texts) (stil : List ℕ) (fault : Fault) where
       let high = files_early (with_head t text) fault first.holds in
       absurd (omega (arith, low, high))
 
+-- where there is a head, patterns are planned for
+pub some_planned : (text : List ℕ) (n : Netlist) (cells : Cells) (paths new : List Path) (o : Option StilHead) (patterns : Option PatternPlan) → ArePatternsPlanned n cells paths new (Some text) o patterns → (plan : PatternPlan) × (patterns ≡ Some plan)
+some_planned text n cells paths new None None p = absurd p
+some_planned text n cells paths new None (Some plan) p = absurd p
+some_planned text n cells paths new (Some head) None p = absurd p
+some_planned text n cells paths new (Some head) (Some plan) p = (plan, refl)
+
 -- a plan for patterns keeps their head, whose calls fit the chains along the read paths
 pub planned_by : (text : List ℕ) (n : Netlist) (cells : Cells) (paths new : List Path) (o : Option StilHead) (plan : PatternPlan) → ArePatternsPlanned n cells paths new (Some text) o (Some plan) → IsHeadIn (Some text) o
     → DenotesHead text plan.head × (bit_counts plan.map.0 ≡ bits_of plan.head.chains)
@@ -122,18 +127,23 @@ module _ (goal : Goal) (t : Texts) (s u : Streaming) (a b : SlotState) (is_fresh
     plan_refused (faults.Fault fault) first = ((says any_head).drawn, told_if (λ stil. IsFaultBefore t stil fault) a.unread (λ stil told. inr (text, shown stil told, first)))
     plan_refused faults.NoMemory first = (says any_head).drawn
 
-    pub plan_ready : (made : Made) (plan : PatternPlan) (warnings : PatternWarnings) → IsReorderedWith goal (with_head t text) made.verilog made.def made.figures (Some plan) → ((fault : Fault) → HoldsInFiles (with_head t text) fault → ⊥)
-        → HasPlanned goal t a b (Ok (record { made = made; plan = plan; warnings = warnings; input = u }))
-    plan_ready made plan warnings reordered no_fault =
-        let r = reordered.reordered.made in
-        let p = planned_by text r.netlist r.cells r.paths _ r.head plan reordered.planned r.checked.head_is in (
+    pub plan_ready : (made : Reordered) (ready : Ready) → IsReadyWith made u ready → IsReorderedWith goal (with_head t text) made.verilog made.def made.figures made.patterns
+        → ((fault : Fault) → HoldsInFiles (with_head t text) fault → ⊥) → HasPlanned goal t a b (Ok ready)
+    plan_ready made ready is reordered no_fault =
+        let all : IsReorderedWith goal (with_head t text) ready.made.verilog ready.made.def ready.made.figures (Some ready.plan) = rw (is.verilog, is.def, is.figures, sym is.plan) reordered in
+        let r = all.reordered.made in
+        let p = planned_by text r.netlist r.cells r.paths _ r.head ready.plan all.planned r.checked.head_is in (
           (says any_head).drawn,
-          (says any_head).draws,
-          (says any_head).behind,
+          subst (λ (v : Streaming). Draws v b) (sym is.input) (says any_head).draws,
+          subst (λ (v : Streaming). v.in_head ≡ false) (sym is.input) (says any_head).behind,
           p.1,
           told_if _ a.unread (λ stil told. (
-            record { text = text; head_is = shown stil told; denotes = p.0; no_fault = no_fault; reordered = reordered },
-            (text, whole_of plan.head stil told),
+            record { text = text; head_is = shown stil told; denotes = p.0; no_fault = no_fault; reordered = all },
+            (
+              text,
+              subst (λ (v : Streaming). Some (told_whole ready.plan.head stil) ≡ option_map (after (Head text ∷ [])) (coming ready.plan.head v b)) (sym is.input)
+                  (whole_of ready.plan.head stil told),
+            ),
           )),
         )
 

@@ -1,10 +1,11 @@
 -- What follows where a plan was made for files and their patterns: the outputs by it, and that no fault was before them.
-use Rattle.std.proofs.Common.{◌≡◌, ◌≢◌, ◌<◌, ◌⊎◌, ℕ, List, [], ◌∷◌, ◌++◌, Some, None, refl, sym, ◌∙◌, ap, subst, inl, inr}
+use Rattle.std.proofs.Common.{◌≡◌, ℕ, List, [], ◌∷◌, ◌++◌, Option, Some, None, refl, sym, ◌∙◌, ap, subst, inl, inr}
 use Rattle.std.proofs.lemmas.Option.{same_Some}
 use Rattle.base_types.specs.declared.fault.Fault.{Fault}
-use Rattle.base_types.specs.FirstFault.{ComesBefore}
+use Rattle.base_types.specs.FirstFault.{ComesBefore, IsFirstFault}
 use Rattle.base_types.proofs.FirstFaults.{itself}
 use Rattle.desk_io.specs.declared.outputs.Outputs.{Outputs}
+use Rattle.stil_parts.specs.declared.part.PartFault.{PartFault}
 use Rattle.stil_reader.specs.Sayings.{Head, Told, after, told_whole}
 use Rattle.stil_reader.specs.Patterns.{statements_in}
 use Rattle.stil_stream.specs.Streams.{fault_of}
@@ -41,18 +42,6 @@ module _ (law : MeaningLaw) (sums : FiguresLaw) (r : PatternsRequest) (t : Texts
   abbrev pub whole : Told
   whole = told_whole planning.head stil
 
-  pub are_planned : AreRetargeted r t stil (planned_outputs written planning stil)
-  are_planned = record {
-    text = planned.text;
-    head_is = planned.head_is;
-    figures = written.figures;
-    plan = planning;
-    made = planned.reordered;
-    stil_text = refl;
-    meaning = law t written.verilog written.def written.figures.nets_cut planning planned.text stil planned.head_is planned.reordered.reordered.made planned.reordered.planned planned.no_fault;
-    console = refl;
-  }
-
   not_before : (text : List ℕ) (fault : Fault) → IsHeadText stil text → HoldsInFiles (with_head t text) fault → ⊥
   not_before text fault is held = planned.no_fault fault (subst (λ (x : List ℕ). HoldsInFiles (with_head t x) fault) (one_text stil planned.text text planned.head_is is) held)
 
@@ -71,9 +60,6 @@ module _ (law : MeaningLaw) (sums : FiguresLaw) (r : PatternsRequest) (t : Texts
       by (Before text is held) = absurd (not_before text fault is held)
       by (OfPatterns text is met) = subst (λ (f : Fault). IsPatternKind f.kind) (sym met.is) (pattern_late met.head stil is.len met.found is.ends met.says)
 
-  pub found_planned : AreOutputsFound r t stil (planned_outputs written planning stil)
-  found_planned = record { are = are_planned; no_fault = late_fault }
-
   pub none_planned : whole.fault ≡ None → (fault : Fault) → IsRetargetingFault t stil fault → ⊥
   none_planned sound fault (inl none) = head_shows stil planned.text planned.head_is none.0
   none_planned sound fault (inr first) = by first.1.holds
@@ -82,14 +68,11 @@ module _ (law : MeaningLaw) (sums : FiguresLaw) (r : PatternsRequest) (t : Texts
       by (Before text is held) = not_before text fault is held
       by (OfPatterns text is met) = let both : None ≡ Some met.found = sym sound ∙ met_at text fault is met in absurd cc
 
-  pub fault_planned : (fault : Fault) → IsToldFault whole fault → IsRetargetingFault t stil fault
-  fault_planned fault told = inr (
-    head_shows stil planned.text planned.head_is,
-    record {
-      holds = OfPatterns planned.text planned.head_is (record { head = planning.head; head_is = planned.denotes; found = told.found; says = told.comes; is = told.is });
-      least = least;
-    },
-  )
+  fault_first : (fault : Fault) → IsToldFault whole fault → IsFirstFault (HoldsInRetargeting t stil) fault
+  fault_first fault told = record {
+    holds = OfPatterns planned.text planned.head_is (record { head = planning.head; head_is = planned.denotes; found = told.found; says = told.comes; is = told.is });
+    least = least;
+  }
     where
       least : (g : Fault) → HoldsInRetargeting t stil g → ComesBefore g fault → ⊥
       least g (Before text is held) sooner = not_before text g is held
@@ -97,6 +80,33 @@ module _ (law : MeaningLaw) (sums : FiguresLaw) (r : PatternsRequest) (t : Texts
           let one = same_Some _ _ (sym (met_at text g is met) ∙ told.comes) in
           let same : g ≡ fault = met.is ∙ ap fault_of one ∙ sym told.is in
           itself fault (subst (λ (x : Fault). ComesBefore x fault) same sooner)
+
+  pub fault_planned : (fault : Fault) → IsToldFault whole fault → IsRetargetingFault t stil fault
+  fault_planned fault told = inr (head_shows stil planned.text planned.head_is, fault_first fault told)
+
+  -- where the files have no first fault, none is met in what is told
+  sound : ((fault : Fault) → IsFirstFault (HoldsInRetargeting t stil) fault → ⊥) → whole.fault ≡ None
+  sound none = by whole.fault refl
+    where
+      by : (o : Option PartFault) → whole.fault ≡ o → whole.fault ≡ None
+      by None is = is
+      by (Some found) is = absurd (none (fault_of found) (fault_first (fault_of found) (record { found = found; comes = is; is = refl })))
+
+  pub are_planned : AreRetargeted r t stil (planned_outputs written planning stil)
+  are_planned = record {
+    text = planned.text;
+    head_is = planned.head_is;
+    figures = written.figures;
+    plan = planning;
+    made = planned.reordered;
+    stil_text = refl;
+    sound = sound;
+    meaning = law t written.verilog written.def written.figures.nets_cut planning planned.text stil planned.head_is planned.reordered.reordered.made planned.reordered.planned planned.no_fault;
+    console = refl;
+  }
+
+  pub found_planned : AreOutputsFound r t stil (planned_outputs written planning stil)
+  found_planned = record { are = are_planned; no_fault = late_fault }
 
   -- what was put of the text behind the head
 

@@ -17,7 +17,7 @@ use Rattle.scan_job.specs.declared.stop.Stop.{Stop}
 use Rattle.scan_job.specs.declared.stop.Stop.TheVariants.{NoForm, Refused, InputFailed, OutputFailed, NoMemory}
 use Rattle.scan_job.specs.Requests.{Request, Play, names_of}
 use Rattle.scan_job.specs.Commands.Play.{first_names}
-use Rattle.scan_job.specs.Faults.{IsOver, IsSizeFault, AreSmall, IsRunFault, HasNoFault}
+use Rattle.scan_job.specs.Faults.{IsOver, IsSizeFault, AreSmall, IsRunFault}
 use Rattle.scan_job.specs.Texts.{AreOutputsOf}
 use Rattle.scan_job.specs.TopCall.{Slots, IsUsed, Reads, SameUnused}
 use Rattle.scan_job.specs.Ended.{IsDone, IsInputFailed, IsOutputFailed, IsOutOfMemory, HasEnded}
@@ -25,7 +25,7 @@ use Rattle.scan_job.specs.Phases.{HasSaid}
 use Rattle.scan_job.specs.Playing.{IsPlayed, IsPlayFault}
 use Rattle.scan_job.specs.PlayPhases.{HasReadStil, HasFailedAtStil, HasRunOutAtStil, HasFinishedPlay}
 use Rattle.desk_io.proofs.Slots.{input_or_output, slot_cases, at_slot, apart}
-use Rattle.scan_job.proofs.Sizes.{IsWhole, small_of, size_first, size_none}
+use Rattle.scan_job.proofs.Sizes.{IsWhole, small_of, size_first}
 use Rattle.scan_job.proofs.Phases.{text_is, state_same, unused_apart, used_or_not, appended_since, prefix_since, risen_since, not_open_closed, not_open_unopened, Found, put_line, failed_at_line, failed_untouched, ran_out_untouched, before_of, here_kept, output_as_was, unused_as_was, count_as_was, found_closed}
 
 -- the table and the netlist are what is taken before the STIL slot is opened
@@ -227,11 +227,7 @@ module _ (r : PlayRequest) (texts : List (Option (List ℕ))) (a b : Slots) (uno
         (of_file files holds (λ stil. IsPlayFault (input_at texts Table) (input_at texts Verilog) stil fault) is)))
 
     outputs_are : (said : List ℕ) → IsPlayed (files Table) (files Verilog) (files Stil) r.device said → AreOutputsOf request files (saying said)
-    outputs_are said is = record { no_fault = none; texts = is.is }
-      where
-        none : HasNoFault request files
-        none fault (inl large) = size_none request files (all_small is.head) fault large.holds
-        none fault (inr own) = is.no_fault fault own.1.holds
+    outputs_are said is = record { small = all_small is.head; no_fault = λ fault own. is.no_fault fault own.holds; texts = is.is }
 
   -- a fault was found, and nothing was written yet
   found_play : (e : Slots) (fault : Fault) → HasReadStil b e → IfSome (b Stil).unread (λ stil. IsPlayFault (input_at texts Table) (input_at texts Verilog) stil fault) → Found request fault a e

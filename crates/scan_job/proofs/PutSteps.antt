@@ -1,19 +1,21 @@
 -- The steps by which patterns are written, on the slots of a desk: the STIL slot is read, and then its output is written.
-use Rattle.std.proofs.Common.{◌≡◌, ◌≢◌, ◌⊎◌, inl, inr, ℕ, false, List, [], ◌∷◌, ◌++◌, map, Option, Some, None, Result, Ok, Err, refl, sym, ◌∙◌, ap, subst}
+use Rattle.std.proofs.Common.{◌≡◌, inl, inr, ℕ, false, List, [], ◌∷◌, ◌++◌, map, Option, Some, None, Result, Ok, Err, refl, sym, ◌∙◌, ap, subst, append-nil}
 use Rattle.base_types.specs.declared.fault.Fault.{Fault}
 use Rattle.desk_io.specs.declared.slot.Slot.TheVariants.{Stil, OutStil}
 use Rattle.desk_io.specs.Desk.{SlotState, IsOpen, SameElsewhere, opened}
 use Rattle.desk_io.specs.Causes.{HasFailed}
 use Rattle.desk_io.specs.Prefixes.{HasPut, HasPutAndFailed}
-use Rattle.stil_reader.specs.Sayings.{Saying, GapByte, named}
+use Rattle.stil_reader.specs.Sayings.{Saying, GapByte, Stated, named}
 use Rattle.stil_reader.specs.Patterns.{statements_in}
 use Rattle.stil_types.specs.declared.head.StilHead.{StilHead}
 use Rattle.stil_types.specs.declared.statement.PatternStatement.{PatternStatement}
 use Rattle.stil_stream.specs.Streams.{Streaming}
 use Rattle.stil_input.specs.declared.input.StilStop.{StilStop}
-use Rattle.stil_input.specs.declared.input.StilStop.TheVariants.{Fault as OfText, NoMemory}
+use Rattle.stil_input.specs.declared.input.StilStop.TheVariants.{Fault as OfText, Read, NoMemory}
 use Rattle.stil_input.specs.Inputs.{Draws, HasDrawn, Says, Gives, HasEnded}
 use Rattle.stil_written.specs.Written.{Form, written_says}
+use Rattle.stil_writer.specs.Loops.{written_with}
+use Rattle.retarget.specs.Moved.{moved_call}
 use Rattle.retargeted_patterns.specs.declared.figures.PatternFigures.{PatternFigures}
 use Rattle.retargeted_patterns.specs.Progress.{Progress, after_all}
 use Rattle.scan_job.specs.declared.putting.PutStop.{PutStop}
@@ -27,7 +29,7 @@ use Rattle.scan_job.specs.Requests.{ReorderPatterns, names_of}
 use Rattle.scan_job.specs.Phases.{HasSaid}
 use Rattle.scan_job.specs.PatternPhases.{outputs_of, HasClosedBoth, HasPutStil, HasPutOthers, HasWrittenReady}
 use Rattle.scan_job.specs.TopCall.{Slots}
-use Rattle.scan_job.specs.Retargeting.{SameBut, form_by, HasPutOn}
+use Rattle.scan_job.specs.Retargeting.{SameBut, form_by, HasPutStated, HasPutOn}
 use Rattle.scan_job.proofs.Retargeted.{HasWrittenSo, gap_none, written_none, written_more, output_failed, all_written, ran_out, met_stop, head_failed, open_failed, put_opened}
 
 -- a gap is written as it is, and says no statement
@@ -100,6 +102,21 @@ module _ (front : List ℕ) (p q : Progress) (s t : Streaming) (a m : Slots) (so
     failed_at failed =
         subst (λ (x : SlotState). HasPutOn front p s (a Stil) x (a OutStil) (l OutStil) (Err stops.Output)) (sym (put_elsewhere Stil (λ e. cc)))
         (output_failed front p q s t (a Stil) (m Stil) (a OutStil) (m OutStil) so u (k Stil) (l OutStil) r said text says form (subst (λ (x : SlotState). HasPutAndFailed text x (l OutStil)) out_same failed))
+
+  module _ (head : StilHead) (same : head ≡ q.head) (statement : PatternStatement) (gives : Says head t u (m Stil) (k Stil) (Stated statement ∷ [])) (r : Progress) (l : Slots) (put_elsewhere : SameElsewhere OutStil k l) where
+    form : written_with q.head.chains (moved_call q.old_chains q.new_chains) statement ≡ written_says (form_by front q) (Stated statement ∷ [])
+    form = sym (append-nil (written_with q.head.chains (moved_call q.old_chains q.new_chains) statement))
+
+    pub stated_further : HasPutStated statement q r (k OutStil) (l OutStil) (Ok tt) → AreWrittenSo front p r s u a l
+    stated_further (put, counted) = further head same r (Stated statement ∷ []) (written_with q.head.chains (moved_call q.old_chains q.new_chains) statement) gives form l put_elsewhere counted put
+
+    pub stated_stopped : (stop : PutStop) → HasPutStated statement q r (k OutStil) (l OutStil) (Err stop) → ArePutOn front p s a l (Err stop)
+    stated_stopped (stops.Input (OfText fault)) put = absurd put
+    stated_stopped (stops.Input Read) put = absurd put
+    stated_stopped (stops.Input NoMemory) out_kept =
+        subst (λ (x : SlotState). HasPutOn front p s (a Stil) x (a OutStil) (l OutStil) (Err (stops.Input NoMemory))) (sym (put_elsewhere Stil (λ e. cc)))
+        (subst (λ (x : SlotState). HasPutOn front p s (a Stil) (k Stil) (a OutStil) x (Err (stops.Input NoMemory))) (sym out_kept) (ran_out_at gives.drawn))
+    stated_stopped stops.Output failed = failed_at head same r (Stated statement ∷ []) (written_with q.head.chains (moved_call q.old_chains q.new_chains) statement) gives form l put_elsewhere failed
 
 -- the output was opened for it
 

@@ -4,7 +4,7 @@ use Rattle.std.proofs.lemmas.Grind.{flat_map-append}
 use Rattle.base_types.specs.declared.fault.Fault.{Fault}
 use Rattle.desk_io.specs.Desk.{SlotState, IsOpen, opened}
 use Rattle.desk_io.specs.Causes.{HasRisen, HasFailed}
-use Rattle.desk_io.specs.Prefixes.{IsAppended, IsAtEnd, HasPut, HasPutAndFailed, HoldsPrefix}
+use Rattle.desk_io.specs.Prefixes.{IsAppended, HasPut, HasPutAndFailed}
 use Rattle.stil_types.specs.declared.head.StilHead.{StilHead}
 use Rattle.stil_types.specs.declared.statement.PatternStatement.{PatternStatement}
 use Rattle.stil_parts.specs.declared.part.PartFault.{PartFault}
@@ -13,16 +13,14 @@ use Rattle.stil_reader.specs.Patterns.{statements_in}
 use Rattle.stil_stream.specs.Streams.{Streaming, fault_of}
 use Rattle.stil_input.specs.declared.input.StilStop.{StilStop}
 use Rattle.stil_input.specs.declared.input.StilStop.TheVariants.{Fault as OfText, Read, NoMemory}
-use Rattle.stil_input.specs.Inputs.{Draws, coming, HasDrawn, HasDrawnAndFailed, Says, HasEnded, IsRefused, Gives}
+use Rattle.stil_input.specs.Inputs.{Draws, coming, HasDrawn, Says, HasEnded, IsRefused, Gives}
 use Rattle.stil_written.specs.Written.{written_saying, written_says}
-use Rattle.stil_written.proofs.Pieces.{pieces_law}
 use Rattle.retargeted_patterns.specs.declared.figures.PatternFigures.{PatternFigures}
 use Rattle.retargeted_patterns.specs.Progress.{Progress, after_writing, after_all}
 use Rattle.scan_job.specs.declared.putting.PutStop.{PutStop}
 use Rattle.scan_job.specs.declared.putting.PutStop.TheVariants as stops
 use Rattle.scan_job.specs.Playing.{IsToldFault}
 use Rattle.scan_job.specs.Retargeting.{form_by, IsAllOf, IsFrontOf, IsPutOpen, HasFailedPutting, HasPutOn}
-use Rattle.scan_job.proofs.Phases.{all_held}
 use Rattle.scan_job.proofs.Played.{drawn_none, drawn_more, drawn_failed, after_both, none_after}
 
 -- what is put at a slot, piece by piece

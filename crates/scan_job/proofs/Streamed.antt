@@ -1,14 +1,13 @@
 -- A request that reads its STIL file as it comes: its other inputs are taken whole before, and then the STIL slot is read.
-use Rattle.std.proofs.Common.{◌≡◌, ◌≢◌, ◌<◌, ◌≤◌, ◌⊎◌, ℕ, true, List, length, Option, Some, IfSome, ◌^◌, refl, sym, ◌∙◌, ap, subst, arith, inl, inr}
+use Rattle.std.proofs.Common.{◌≡◌, ◌≢◌, ◌<◌, ◌≤◌, ◌⊎◌, ℕ, List, length, Option, Some, IfSome, ◌^◌, refl, sym, ◌∙◌, ap, subst, arith, inl, inr}
 use Rattle.desk_io.specs.declared.slot.Slot.{Slot}
 use Rattle.desk_io.specs.declared.slot.Slot.TheVariants.{Stil}
 use Rattle.desk_io.specs.Number.{number}
-use Rattle.desk_io.specs.Desk.{SlotState, SameElsewhere, IsInput, IsClosed, AllUnopened}
-use Rattle.desk_io.specs.Prefixes.{IsAtEnd}
+use Rattle.desk_io.specs.Desk.{SlotState, SameElsewhere, IsInput}
 use Rattle.desk_io.specs.Names.{Names, IsNamed}
 use Rattle.desk_io.specs.Inputs.{input_at, HasTakenInputs, HasStoppedAt}
 use Rattle.desk_io.proofs.Slots.{slot_cases, at_slot}
-use Rattle.scan_job.specs.Requests.{Request, command_of, names_of}
+use Rattle.scan_job.specs.Requests.{Request, names_of}
 use Rattle.scan_job.specs.Faults.{IsOver, AreSmall}
 use Rattle.scan_job.specs.TopCall.{Slots, IsUsed, Reads}
 use Rattle.scan_job.proofs.Sizes.{IsWhole, small_of}

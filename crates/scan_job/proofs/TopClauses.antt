@@ -15,7 +15,7 @@ use Rattle.scan_job.specs.Requests.{Request, Asks, order_of}
 use Rattle.scan_job.specs.Faults.{IsRunFault, HasNoFault}
 use Rattle.scan_job.specs.TopCall.{Slots, SaysNothing, SameEverywhere, SameUnused, SameDesign, Reads, NoneRose, HasDone, HasRefused, HasWritten, AllClosed, AllRead}
 use Rattle.scan_job.proofs.Asked.{order_once}
-use Rattle.scan_job.proofs.Phases.{before_of}
+use Rattle.scan_job.proofs.Phases.{none_of, before_of}
 use Rattle.scan_job.specs.Ended.{IsDone, IsRefused, IsInputFailed, IsOutputFailed, IsOutOfMemory, HasRun, status_of}
 
 -- the words say one order at most
@@ -115,7 +115,7 @@ module _ (words : List (List ℕ)) (old new : Slots) where
       refuses (Err NoMemory) status is run fault first none = inr is
       refuses (Ok done) status is run fault first none =
           let had : HasDone request files old new = (for_request words (λ r. IsDone r old new) run.0 request run.1 says run.2).done files holds in
-          absurd (had.are.no_fault fault first)
+          absurd (none_of request files had.outputs had.are fault first)
       refuses (Err Refused) status is run fault first none = inl is
       refuses (Err InputFailed) status is run fault first none = absurd (none run.2.rose.slot run.2.rose.risen)
       refuses (Err OutputFailed) status is run fault first none = absurd (none run.2.rose.slot run.2.rose.risen)

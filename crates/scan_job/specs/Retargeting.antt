@@ -1,14 +1,15 @@
 -- What is known of the files of `reorder` with patterns while these come from the STIL slot, and what is left at both STIL slots.
-use Rattle.std.specs.Prelude.{◌≡◌, ◌≢◌, ◌⊎◌, ℕ, false, List, [], ◌∷◌, ◌++◌, Option, Some, None, option_map, IfSome, Result, Ok, Err}
+use Rattle.std.specs.Prelude.{◌≡◌, ◌≢◌, ◌⊎◌, ℕ, false, List, [], ◌∷◌, ◌++◌, Some, None, option_map, IfSome, Result, Ok, Err}
 use Rattle.base_types.specs.declared.fault.Fault.{Fault}
 use Rattle.base_types.specs.FirstFault.{IsFirstFault}
 use Rattle.desk_io.specs.declared.slot.Slot.{Slot}
 use Rattle.desk_io.specs.declared.slot.Slot.TheVariants.{Stil}
 use Rattle.desk_io.specs.Desk.{SlotState, IsOpen}
 use Rattle.desk_io.specs.Causes.{HasRisen}
-use Rattle.desk_io.specs.Prefixes.{IsAppended, IsAtEnd, HoldsPrefix}
+use Rattle.desk_io.specs.Prefixes.{IsAppended, IsAtEnd, HoldsPrefix, HasPut, HasPutAndFailed}
 use Rattle.stil_parts.specs.Heads.{head_len}
 use Rattle.stil_head.specs.Heads.{DenotesHead}
+use Rattle.stil_types.specs.declared.statement.PatternStatement.{PatternStatement}
 use Rattle.stil_reader.specs.Sayings.{Head, Told, after, told_whole}
 use Rattle.stil_reader.specs.Patterns.{statements_in}
 use Rattle.stil_stream.specs.Streams.{Streaming}
@@ -19,6 +20,7 @@ use Rattle.stil_tester.specs.Shifting.{bit_counts}
 use Rattle.stil_input.specs.Inputs.{Draws, coming, HasDrawn, HasDrawnAndFailed}
 use Rattle.stil_written.specs.Written.{Form, written_says}
 use Rattle.reorder_command.specs.declared.patterns.PatternPlan.{PatternPlan}
+use Rattle.reorder_command.specs.declared.reorder.Reordered.{Reordered}
 use Rattle.reorder_command.specs.PatternPlans.{IsReorderedWith}
 use Rattle.design_files.specs.Faults.{HoldsInFiles}
 use Rattle.play_command.specs.Files.{IsHeadText}
@@ -26,7 +28,7 @@ use Rattle.reorder_command.specs.declared.goal.Goal.{Goal}
 use Rattle.retarget.specs.Moved.{moved_call}
 use Rattle.stil_writer.specs.Loops.{written_with}
 use Rattle.retargeted_patterns.specs.declared.figures.PatternFigures.{PatternFigures}
-use Rattle.retargeted_patterns.specs.Progress.{Progress, after_all}
+use Rattle.retargeted_patterns.specs.Progress.{Progress, after_writing, after_all}
 use Rattle.scan_job.specs.declared.patterns.Made.{Made}
 use Rattle.scan_job.specs.declared.patterns.Ready.{Ready}
 use Rattle.scan_job.specs.declared.putting.PutStop.{PutStop}
@@ -94,6 +96,22 @@ put_no_memory = stops.Input NoMemory
 -- at the output
 abbrev pub put_output : PutStop
 put_output = stops.Output
+
+-- a statement's written form was put and counted; or memory ran out before it; or the output failed at it
+abbrev pub HasPutStated : PatternStatement → Progress → Progress → SlotState → SlotState → Result (Unit {0}) PutStop → Type 0
+HasPutStated s p q out out' (Ok done) = HasPut (written_with p.head.chains (moved_call p.old_chains p.new_chains) s) out out' × (q ≡ after_writing s p)
+HasPutStated s p q out out' (Err (stops.Input (OfText fault))) = ⊥
+HasPutStated s p q out out' (Err (stops.Input Read)) = ⊥
+HasPutStated s p q out out' (Err (stops.Input NoMemory)) = out' ≡ out
+HasPutStated s p q out out' (Err stops.Output) = HasPutAndFailed (written_with p.head.chains (moved_call p.old_chains p.new_chains) s) out out'
+
+-- what stands ready is what was planned, and what is read on
+pub record IsReadyWith (r : Reordered) (s : Streaming) (ready : Ready) : Type 0 where
+  pub verilog : ready.made.verilog ≡ r.verilog
+  pub def : ready.made.def ≡ r.def
+  pub figures : ready.made.figures ≡ r.figures
+  pub plan : r.patterns ≡ Some ready.plan
+  pub input : ready.input ≡ s
 
 -- What was written, a front and then the patterns that were still to come; why writing ended; and what it left at both STIL slots. Where the
 -- slot that is read tells its bytes, what was put is their written form, all of it or its beginning.

@@ -1,4 +1,4 @@
-ghost use Rattle.std.specs.Prelude.{◌≡◌, ◌<◌, ◌^◌, false, length, IsTrue};
+ghost use Rattle.std.specs.Prelude.{◌≡◌, ◌<◌, ◌^◌, false, length, Some, IfOk, IsTrue};
 ghost use Rattle.desk_io.specs.declared.slot.Slot.TheVariants.{Lef, Verilog, Def, Stil, OutStil};
 ghost use Rattle.desk_io.specs.Desk.{AllUnopened, IsUnopened, IsOpen, SameElsewhere, SameNames, SameSlots};
 ghost use Rattle.desk_io.specs.Names.{AllowsNames};
@@ -11,7 +11,8 @@ ghost use Rattle.scan_job.specs.declared.commands.patterns.PatternsRequest.{Patt
 ghost use Rattle.scan_job.specs.Requests as requests;
 ghost use Rattle.scan_job.specs.Requests.{Request, order_of, names_of};
 ghost use Rattle.scan_job.specs.Commands.Patterns.{first_names, last_names};
-ghost use Rattle.scan_job.specs.Retargeting.{SameBut, HasPutOn, HasPlanned};
+ghost use Rattle.reorder_command.specs.declared.patterns.PatternPlan.{PatternPlan};
+ghost use Rattle.scan_job.specs.Retargeting.{SameBut, IsReadyWith, HasPutOn, HasPlanned};
 ghost use Rattle.scan_job.specs.PatternPhases.{HasClosedBoth, HasPutOthers, HasWrittenReady, HasFinishedPatterns, design_of, outputs_of, progress_of};
 ghost use Rattle.scan_job.specs.Ended.{HasEnded, HasRunOrder};
 
@@ -23,7 +24,7 @@ use crate::putting::{PutStop, put_patterns};
 use crate::say::{refuse, size_fault};
 use crate::searching::Searching;
 use crate::stop::Stop;
-use base_types::{Text, Word};
+use base_types::{NoMemory, Text, Word};
 use desk_io::{Desk, Inputs, InputsFault, Names, Outputs, Slot, put_outputs, take_inputs};
 use pattern_warnings::PatternWarnings;
 use reorder_command::{Figures, PatternPlan, Reordered, reorder_texts};
@@ -31,6 +32,7 @@ use retargeted_patterns::{PatternFigures, Retargeting, figures_law};
 use scan_words::Order;
 use std::alloc::Global;
 use stil_input::{StilInput, StilStop};
+use stil_types::StilHead;
 use written_meaning::meaning_law;
 
 /// What is written of the design, and what is said of it.
@@ -53,6 +55,51 @@ pub(crate) struct Ready {
     pub(crate) input: StilInput,
 }
 
+/// What patterns of a request are warned of, whose head has this text: nothing yet. Or want of memory.
+fn warnings_of(
+    alloc: Global,
+    request: &PatternsRequest,
+    text: &[u8],
+    head: &StilHead,
+) -> Result<PatternWarnings, NoMemory> {
+    let file = Word::copy(alloc, request.stil.as_str())?;
+    PatternWarnings::new(alloc, file, text, head)
+}
+
+/// What stands ready once the design is reordered with a head, whose text this is, or want of memory.
+fn ready_of(
+    alloc: Global,
+    request: &PatternsRequest,
+    head: &[u8],
+    reordered: Reordered,
+    input: StilInput,
+) -> Result<Ready, NoMemory>
+    requires planned { (plan : PatternPlan) × (reordered.patterns ≡ Some plan) }
+    ensures ready { IfOk result (IsReadyWith reordered input) }
+{
+    let note = note_of(alloc, &reordered.figures.measured)?;
+    let Reordered {
+        verilog,
+        def,
+        figures,
+        patterns,
+    } = reordered;
+    let Some(plan) = patterns else { unreachable!() };
+    let warnings = warnings_of(alloc, request, head, &plan.head)?;
+    let made = Made {
+        verilog,
+        def,
+        figures,
+        note,
+    };
+    Ok(Ready {
+        made,
+        plan,
+        warnings,
+        input,
+    })
+}
+
 /// Takes the head of the patterns from the open STIL slot and plans for it. Refused by the first fault before the patterns.
 fn plan_taken<D: Desk>(
     alloc: Global,
@@ -70,12 +117,7 @@ fn plan_taken<D: Desk>(
 {
     let mut input = StilInput::new(alloc)?;
     let head = input.next_head(alloc, desk)?;
-    let Reordered {
-        verilog,
-        def,
-        figures,
-        patterns,
-    } = reorder_texts(
+    let reordered = reorder_texts(
         alloc,
         inputs.text(Slot::Table),
         inputs.text(Slot::Lef),
@@ -85,22 +127,7 @@ fn plan_taken<D: Desk>(
         request.design.goal,
         &Searching { desk },
     )?;
-    let Some(plan) = patterns else { unreachable!() };
-    let note = note_of(alloc, &figures.measured)?;
-    let made = Made {
-        verilog,
-        def,
-        figures,
-        note,
-    };
-    let file = Word::copy(alloc, request.stil.as_str())?;
-    let warnings = PatternWarnings::new(alloc, file, head.bytes(), &plan.head)?;
-    Ok(Ready {
-        made,
-        plan,
-        warnings,
-        input,
-    })
+    Ok(ready_of(alloc, request, head.bytes(), reordered, input)?)
 }
 
 /// Tells the user what the patterns are warned of.
@@ -119,7 +146,7 @@ fn put_stil<D: Desk>(
     name: &Word,
     plan: PatternPlan,
     mut warnings: PatternWarnings,
-    input: StilInput,
+    mut input: StilInput,
     desk: &mut D,
 ) -> Result<PatternFigures, PutStop>
     requires draws { Draws input (D.state desk.old Stil) }
@@ -138,13 +165,13 @@ fn put_stil<D: Desk>(
         head_text,
         map,
     } = plan;
-    let retargeting = Retargeting::new(head, map);
+    let mut retargeting = Retargeting::new(head, map);
     let put = put_patterns(
         alloc,
         head_text.bytes(),
-        retargeting,
+        &mut retargeting,
         &mut warnings,
-        input,
+        &mut input,
         desk,
     );
     tell_warnings(&warnings, desk);

@@ -38,12 +38,12 @@ fn play_stated(playing: &mut Playing, statement: PatternStatement) -> Result<(),
 fn play_patterns<D: Desk>(
     alloc: Global,
     mut playing: Playing,
-    mut input: StilInput,
+    input: &mut StilInput,
     desk: &mut D,
 ) -> Result<Text, StilStop>
-    requires draws { Draws input (D.state desk.old Stil) }
-    requires behind_head { input.in_head ≡ false }
-    ensures played { HasPlayedOn playing input (D.state desk.old Stil) (D.state desk.new Stil) result }
+    requires draws { Draws input.old (D.state desk.old Stil) }
+    requires behind_head { input.old.in_head ≡ false }
+    ensures played { HasPlayedOn playing input.old (D.state desk.old Stil) (D.state desk.new Stil) result }
     ensures elsewhere { SameElsewhere Stil (D.state desk.old) (D.state desk.new) }
     ensures names { SameNames (D.allows desk.old) (D.allows desk.new) }
 {
@@ -78,5 +78,5 @@ pub(crate) fn play_stil<D: Desk>(
     let mut input = StilInput::new(alloc)?;
     let head = input.next_head(alloc, desk)?;
     let playing = Playing::new(alloc, table, verilog, head.bytes(), device)?;
-    play_patterns(alloc, playing, input, desk)
+    play_patterns(alloc, playing, &mut input, desk)
 }

@@ -1,6 +1,7 @@
 -- The commands `reorder` and `balance` where they are given patterns: these are written anew with the design.
 use Rattle.std.specs.Prelude.{◌≡◌, ℕ, ◌≤◌, true, List, [], ◌∷◌, ◌++◌, codes, Some, None}
 use Rattle.base_types.specs.declared.fault.Fault.{Fault}
+use Rattle.base_types.specs.FirstFault.{IsFirstFault}
 use Rattle.base_types.specs.declared.kind.Kind.{Kind}
 use Rattle.base_types.specs.Faults.{number_of}
 use Rattle.desk_io.specs.declared.slot.Slot.TheVariants.{Table, Lef, Verilog, Def, Stil, OutVerilog, OutDef, OutStil}
@@ -47,7 +48,7 @@ all_figures_text figures patterns = figures_text figures ++ pattern_lines patter
 
 -- The outputs are those of the command with patterns, all of one plan: the Verilog and the DEF, and the STIL with the declarations of the
 -- new paths and with each scan call retargeted to them. Where the patterns have no fault, both STIL texts mean the same, each on the scan
--- chains of its netlist.
+-- chains of its netlist; and they have none where the files have none.
 pub record AreRetargeted (r : PatternsRequest) (t : Texts) (stil : List ℕ) (outputs : Outputs) : Type 0 where
   pub text : List ℕ
   pub head_is : IsHeadText stil text
@@ -55,6 +56,7 @@ pub record AreRetargeted (r : PatternsRequest) (t : Texts) (stil : List ℕ) (ou
   pub plan : PatternPlan
   pub made : IsReorderedWith r.design.goal (with_head t text) outputs.verilog outputs.def figures (Some plan)
   pub stil_text : outputs.stil ≡ written_says (form_of plan) (told_whole plan.head stil).says
+  pub sound : ((fault : Fault) → IsFirstFault (HoldsInRetargeting t stil) fault → ⊥) → (told_whole plan.head stil).fault ≡ None
   pub meaning : (told_whole plan.head stil).fault ≡ None
       → KeepsMeaning made.reordered.made.netlist made.reordered.made.written made.reordered.made.cells made.reordered.made.paths made.reordered.made.after stil outputs.stil
   pub console : outputs.console ≡ all_figures_text figures (figures_in plan (told_whole plan.head stil))

@@ -1,5 +1,4 @@
 use Rattle.std.proofs.Common.{◌≡◌, Err, ◌∙◌, rules}
-use Rattle.std.proofs.lemmas.Result.{err_from_is_err_and}
 use Rattle.desk_io.specs.declared.slot.Slot.TheVariants.{Stil, OutStil}
 use Rattle.desk_io.specs.Desk.{opened}
 use Rattle.desk_io.specs.Causes.{HasFailed}

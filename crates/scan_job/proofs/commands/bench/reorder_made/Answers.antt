@@ -1,4 +1,4 @@
-use Rattle.std.proofs.Common.{◌≡◌, Some, None, Err, length, refl, arith, ap}
+use Rattle.std.proofs.Common.{◌≡◌, Some, None, length, refl, arith, ap}
 use Rattle.std.proofs.lemmas.Result.{err_from_is_err_and}
 use Rattle.design_files.specs.Files.{texts_of, texts_with, with_head}
 use Rattle.scan_job.specs.declared.patterns.Made.{Made}

@@ -1,6 +1,5 @@
-use Rattle.std.proofs.Common.{List, ℕ, Err, arith}
+use Rattle.std.proofs.Common.{arith}
 use Rattle.std.proofs.lemmas.Result.{err_from_is_err_and}
-use Rattle.base_types.specs.declared.fault.ReadFault.{ReadFault}
 use Rattle.scan_job.proofs.BenchLaws.{one_number, refused_made, none_made, benched}
 use Rattle.scan_job.proofs.commands.bench.BenchRequestWhole.judge.Goals as goal
 
