@@ -1,7 +1,6 @@
 -- The lines of a log's text.
-use Rattle.std.proofs.Common.{◌≡◌, ◌≢◌, ℕ, ◌+◌, ◌<◌, ◌≤◌, List, [], ◌∷◌, ◌++◌, length, map, Bool, true, cond, decimal, get_or, drop, zero, suc, refl, sym, ap, ◌∙◌, subst, arith, ⊎_elim, append_assoc, Some}
-use Rattle.std.specs.Prelude.{slice_get, All}
-use Rattle.std.proofs.lemmas.List.Elements.{All-head, All-tail}
+use Rattle.std.proofs.Common.{◌≡◌, ◌≢◌, ℕ, ◌+◌, ◌<◌, ◌≤◌, List, [], ◌∷◌, ◌++◌, length, Bool, true, false, cond, decimal, get_or, drop, zero, suc, refl, sym, ap, ◌∙◌, subst, arith, ⊎_elim, append_assoc, Some}
+use Rattle.std.specs.Prelude.{slice_get}
 use Rattle.base_types.specs.Faults.{at_line}
 use Rattle.base_types.specs.declared.fault.Fault.{Fault}
 use Rattle.base_types.specs.declared.fault.FileKind.TheVariants.{Log}
@@ -11,40 +10,60 @@ use Rattle.fail_map.proofs.FaultLines.{syntax_before}
 use Rattle.std.specs.Char.{is_ascii_digit}
 use Rattle.std.specs.Str.{all_ascii_digits}
 use Rattle.std.proofs.lemmas.Bool.{false≢true, cases_lt, cases_eq, ne_eqb, and_parts}
-use Rattle.std.proofs.lemmas.List.{length-map, length-append, length-drop, append-nil, drop-drop, drop_all, drop_more}
+use Rattle.std.proofs.lemmas.List.{length-append, length-drop, append-nil, drop-drop, drop_all, drop_more}
 use Rattle.std.proofs.lemmas.Option.{slice_get_within, same_Some}
 use Rattle.fail_map.specs.declared.line.LogLine.{LogLine}
-use Rattle.fail_map.specs.Logs.{most_number, HasSmallNumbers, row_of, rows_of, with_byte, IsLogLine, IsLogText, HoldsInLog}
-use Rattle.fail_map.specs.Rows.{StopsDigits, HasNumber, HasNumberBehind, IsNumberAt, IsNumberBehind, EndsRow, HasRow, IsRowAt}
+use Rattle.fail_map.specs.Logs.{most_number, parted, rows_of, with_byte, IsBlank, IsLogLine, IsLogText, HoldsInLog}
+use Rattle.fail_map.specs.Rows.{StopsDigits, HasNumber, HasNumberBehind, IsNumberAt, IsNumberBehind, EndsRow, HasRow, IsRowAt, SayLines, AreReadTo}
 use Rattle.fail_map.proofs.Decimals.{same_number, decimal_digits}
 use Rattle.fail_map.proofs.Lists.{get_left, get_right}
 
 -- ---- one line
 
--- a decimal behind a blank
-abbrev pub behind : ℕ → List ℕ → List ℕ
-behind n tail = 32 ∷ decimal n ++ tail
+-- a decimal behind a byte
+abbrev pub behind : ℕ → ℕ → List ℕ → List ℕ
+behind blank n tail = blank ∷ decimal n ++ tail
+
+-- what stands behind the third number of a row, the second and the first
+abbrev pub behind_chain : {bytes : List ℕ} → HasRow bytes → List ℕ
+behind_chain h = behind h.says.third h.line.index h.tail
+
+abbrev pub behind_scan : {bytes : List ℕ} → HasRow bytes → List ℕ
+behind_scan h = behind h.says.second h.line.chain (behind_chain h)
+
+abbrev pub behind_pattern : {bytes : List ℕ} → HasRow bytes → List ℕ
+behind_pattern h = behind h.says.first h.line.scan (behind_scan h)
 
 -- a line in front of other bytes, number by number
-pub row_parts : (line : LogLine) (tail : List ℕ) → row_of line ++ tail ≡ decimal line.pattern ++ behind line.scan (behind line.chain (behind line.index tail))
-row_parts line tail =
-    append_assoc (decimal line.pattern ++ 32 ∷ decimal line.scan ++ 32 ∷ decimal line.chain) (32 ∷ decimal line.index) tail
-    ∙ append_assoc (decimal line.pattern ++ 32 ∷ decimal line.scan) (32 ∷ decimal line.chain) (behind line.index tail)
-    ∙ append_assoc (decimal line.pattern) (32 ∷ decimal line.scan) (behind line.chain (behind line.index tail))
+row_parts : (a b c : ℕ) (line : LogLine) (tail : List ℕ) → parted a b c line ++ tail ≡ decimal line.pattern ++ behind a line.scan (behind b line.chain (behind c line.index tail))
+row_parts a b c line tail =
+    append_assoc (decimal line.pattern ++ a ∷ decimal line.scan ++ b ∷ decimal line.chain) (c ∷ decimal line.index) tail
+    ∙ append_assoc (decimal line.pattern ++ a ∷ decimal line.scan) (b ∷ decimal line.chain) (behind c line.index tail)
+    ∙ append_assoc (decimal line.pattern) (a ∷ decimal line.scan) (behind b line.chain (behind c line.index tail))
+
+-- a blank is no digit
+pub blank_stops : (b : ℕ) → IsBlank b → is_ascii_digit b ≡ false
+blank_stops b = ⊎_elim (λ (e : b ≡ 32). ap is_ascii_digit e) (λ (e : b ≡ 9). ap is_ascii_digit e)
+
+-- the first number of a row, and what stands behind it
+row_front : (bytes : List ℕ) (h : HasRow bytes) → bytes ≡ decimal h.line.pattern ++ behind_pattern h
+row_front bytes h = h.is ∙ ap (λ xs. xs ++ h.tail) h.says.is ∙ row_parts h.says.first h.says.second h.says.third h.line h.tail
 
 pub has_first : (bytes : List ℕ) → HasRow bytes → HasNumber bytes
 has_first bytes h = record {
   number = h.line.pattern;
-  tail = behind h.line.scan (behind h.line.chain (behind h.line.index h.tail));
-  small = h.small.pattern;
-  stops = refl;
-  is = h.is ∙ row_parts h.line h.tail;
+  tail = behind_pattern h;
+  small = h.says.small.pattern;
+  stops = blank_stops h.says.first h.says.blanks.0;
+  is = row_front bytes h;
 }
 
-pub has_behind : (bytes tail : List ℕ) (n : ℕ) → n ≤ most_number → StopsDigits tail → bytes ≡ behind n tail → HasNumberBehind bytes
-has_behind bytes tail n small stops e = record {
+pub has_behind : (bytes tail : List ℕ) (b n : ℕ) → IsBlank b → n ≤ most_number → StopsDigits tail → bytes ≡ behind b n tail → HasNumberBehind bytes
+has_behind bytes tail b n blank small stops e = record {
+  blank = b;
+  is_blank = blank;
   rest = decimal n ++ tail;
-  blank = e;
+  is = e;
   number = record { number = n; tail = tail; small = small; stops = stops; is = refl };
 }
 
@@ -52,12 +71,13 @@ pub ends_stop : (tail : List ℕ) → EndsRow tail → StopsDigits tail
 ends_stop [] e = tt
 ends_stop (b ∷ bs) e = ap is_ascii_digit e
 
--- what stands behind the first number, the second, the third and the last
-pub behind_first : (bytes : List ℕ) (h : HasRow bytes) (n : ℕ) (rest : List ℕ) → n ≤ most_number → StopsDigits rest → bytes ≡ decimal n ++ rest → rest ≡ behind h.line.scan (behind h.line.chain (behind h.line.index h.tail))
-behind_first bytes h n rest small stops e = (same_number n h.line.pattern rest (behind h.line.scan (behind h.line.chain (behind h.line.index h.tail))) small h.small.pattern stops refl (sym e ∙ h.is ∙ row_parts h.line h.tail)).1
+-- what stands behind the first number, and behind each other one
+pub behind_first : (bytes : List ℕ) (h : HasRow bytes) (n : ℕ) (rest : List ℕ) → n ≤ most_number → StopsDigits rest → bytes ≡ decimal n ++ rest → rest ≡ behind_pattern h
+behind_first bytes h n rest small stops e =
+    (same_number n h.line.pattern rest (behind_pattern h) small h.says.small.pattern stops (blank_stops h.says.first h.says.blanks.0) (sym e ∙ row_front bytes h)).1
 
-pub behind_next : (bytes tail : List ℕ) (m n : ℕ) (rest : List ℕ) → m ≤ most_number → n ≤ most_number → StopsDigits tail → StopsDigits rest → bytes ≡ behind m tail → bytes ≡ behind n rest → rest ≡ tail
-behind_next bytes tail m n rest small small' stops stops' e f =
+pub behind_next : (bytes tail : List ℕ) (a b m n : ℕ) (rest : List ℕ) → m ≤ most_number → n ≤ most_number → StopsDigits tail → StopsDigits rest → bytes ≡ behind a m tail → bytes ≡ behind b n rest → rest ≡ tail
+behind_next bytes tail a b m n rest small small' stops stops' e f =
     let same : decimal n ++ rest ≡ decimal m ++ tail = ap (λ xs. drop 1 xs) (sym f ∙ e) in
     (same_number n m rest tail small' small stops' stops same).1
 
@@ -65,9 +85,19 @@ pub row_read : (bytes : List ℕ) (at a b c d : ℕ) (line : LogLine) → IsNumb
 row_read bytes at a b c d line p s h i ends = record {
   some = omega (arith, p.some, s.some, h.some, i.some);
   within = i.within;
-  small = record { pattern = p.small; scan = s.small; chain = h.small; index = i.small };
+  row = parted s.blank h.blank i.blank line;
+  says = record {
+    first = s.blank;
+    second = h.blank;
+    third = i.blank;
+    blanks = (s.is_blank, h.is_blank, i.is_blank);
+    is = refl;
+    small = record { pattern = p.small; scan = s.small; chain = h.small; index = i.small };
+  };
   ends = ends;
-  is = p.is ∙ ap (λ xs. decimal line.pattern ++ xs) (s.is ∙ ap (λ xs. 32 ∷ decimal line.scan ++ xs) (h.is ∙ ap (λ xs. 32 ∷ decimal line.chain ++ xs) i.is)) ∙ sym (row_parts line (drop d bytes));
+  is = p.is
+      ∙ ap (λ xs. decimal line.pattern ++ xs) (s.is ∙ ap (λ xs. behind s.blank line.scan xs) (h.is ∙ ap (λ xs. behind h.blank line.chain xs) i.is))
+      ∙ sym (row_parts s.blank h.blank i.blank line (drop d bytes));
 }
 
 -- ---- the lines of a text
@@ -90,16 +120,21 @@ digits_no_feed (d ∷ ds) a =
 decimal_no_feed : (n : ℕ) → n ≤ most_number → HasNoFeed (decimal n)
 decimal_no_feed n small = digits_no_feed (decimal n) (decimal_digits n small)
 
-blank_no_feed : (xs : List ℕ) → HasNoFeed xs → HasNoFeed (32 ∷ xs)
-blank_no_feed xs a = ((λ (e : 32 ≡ 10). omega (arith, e)), a)
+behind_no_feed : (b n : ℕ) → IsBlank b → n ≤ most_number → HasNoFeed (b ∷ decimal n)
+behind_no_feed b n blank small = (⊎_elim (λ (e : b ≡ 32) (f : b ≡ 10). omega (arith, e, f)) (λ (e : b ≡ 9) (f : b ≡ 10). omega (arith, e, f)) blank, decimal_no_feed n small)
 
-row_no_feed : (line : LogLine) → HasSmallNumbers line → HasNoFeed (row_of line)
-row_no_feed line small =
-    no_feeds (decimal line.pattern ++ 32 ∷ decimal line.scan ++ 32 ∷ decimal line.chain) (32 ∷ decimal line.index)
-    (no_feeds (decimal line.pattern ++ 32 ∷ decimal line.scan) (32 ∷ decimal line.chain)
-    (no_feeds (decimal line.pattern) (32 ∷ decimal line.scan) (decimal_no_feed line.pattern small.pattern) (blank_no_feed (decimal line.scan) (decimal_no_feed line.scan small.scan)))
-    (blank_no_feed (decimal line.chain) (decimal_no_feed line.chain small.chain)))
-    (blank_no_feed (decimal line.index) (decimal_no_feed line.index small.index))
+row_no_feed : (row : List ℕ) (line : LogLine) → IsLogLine row line → HasNoFeed row
+row_no_feed row line says =
+    let first = says.first ∷ decimal line.scan in
+    let second = says.second ∷ decimal line.chain in
+    let third = says.third ∷ decimal line.index in
+    let small = says.small in
+    subst HasNoFeed (sym says.is)
+    (no_feeds (decimal line.pattern ++ first ++ second) third
+    (no_feeds (decimal line.pattern ++ first) second
+    (no_feeds (decimal line.pattern) first (decimal_no_feed line.pattern small.pattern) (behind_no_feed says.first line.scan says.blanks.0 small.scan))
+    (behind_no_feed says.second line.chain says.blanks.1 small.chain))
+    (behind_no_feed says.third line.index says.blanks.2 small.index))
 
 rows_step : (b : ℕ) (bs : List ℕ) → b ≢ 10 → rows_of (b ∷ bs) ≡ with_byte b (rows_of bs)
 rows_step b bs ne = ap (λ (q : Bool). cond q ([] ∷ rows_of bs) (with_byte b (rows_of bs))) (ne_eqb b 10 ne)
@@ -125,14 +160,14 @@ rows_tail : (row tail : List ℕ) → 0 < length row → HasNoFeed row → EndsR
 rows_tail row [] l h e = ap rows_of (append-nil row) ∙ rows_end row l h
 rows_tail row (b ∷ tail) l h e = ap (λ (x : ℕ). rows_of (row ++ x ∷ tail)) e ∙ rows_front row tail h
 
-row_some : (line : LogLine) → 0 < length (row_of line)
-row_some line = omega (arith, length-append (decimal line.pattern ++ 32 ∷ decimal line.scan ++ 32 ∷ decimal line.chain) (32 ∷ decimal line.index))
+row_some : (row : List ℕ) (line : LogLine) → IsLogLine row line → 0 < length row
+row_some row line says = omega (arith, ap length says.is, length-append (decimal line.pattern ++ says.first ∷ decimal line.scan ++ says.second ∷ decimal line.chain) (says.third ∷ decimal line.index))
 
--- the lines from a place on, of which the first one is read
-pub rows_read : (bytes : List ℕ) (at : ℕ) (line : LogLine) (end : ℕ) → IsRowAt bytes at line end → rows_of (drop at bytes) ≡ row_of line ∷ rows_of (drop (end + 1) bytes)
+-- the rows from a place on, of which the first one is read
+rows_read : (bytes : List ℕ) (at : ℕ) (line : LogLine) (end : ℕ) (read : IsRowAt bytes at line end) → rows_of (drop at bytes) ≡ read.row ∷ rows_of (drop (end + 1) bytes)
 rows_read bytes at line end read =
-    ap rows_of read.is ∙ rows_tail (row_of line) (drop end bytes) (row_some line) (row_no_feed line read.small) read.ends
-    ∙ ap (λ xs. row_of line ∷ rows_of xs) (drop-drop 1 end bytes)
+    ap rows_of read.is ∙ rows_tail read.row (drop end bytes) (row_some read.row line read.says) (row_no_feed read.row line read.says) read.ends
+    ∙ ap (λ xs. read.row ∷ rows_of xs) (drop-drop 1 end bytes)
 
 -- ---- the first row
 
@@ -179,7 +214,7 @@ first_fronts (b ∷ bs) row e =
 pub has_row : (bytes row : List ℕ) (line : LogLine) → slice_get (rows_of bytes) 0 ≡ Some row → IsLogLine row line → HasRow bytes
 has_row bytes row line e is =
     let f : Fronts bytes row = first_fronts bytes row e in
-    record { line = line; tail = f.tail; small = is.small; ends = f.ends; is = f.is ∙ ap (λ xs. xs ++ f.tail) is.is }
+    record { line = line; row = row; says = is; tail = f.tail; ends = f.ends; is = f.is }
 
 first_of : {X : Type 0} (xs : List X) → 0 < length xs → (x : X) × (slice_get xs 0 ≡ Some x)
 first_of [] l = absurd (omega arith)
@@ -213,54 +248,78 @@ end_text bytes d g = subst EndsRow (sym (drop_all d bytes g)) tt
 
 -- ---- the lines that were read
 
--- a row of such lines is that of the line at its place
-row_here : (log : List LogLine) → All HasSmallNumbers log → (k : ℕ) (row : List ℕ) (line : LogLine) → slice_get (map row_of log) k ≡ Some row → slice_get log k ≡ Some line → IsLogLine row line
-row_here [] small k row line e f = absurd cc
-row_here (x ∷ log) small zero row line e f =
-    let same : x ≡ line = same_Some x line f in
-    subst (λ (y : LogLine). IsLogLine row y) same (record { is = sym (same_Some (row_of x) row e); small = All-head HasSmallNumbers x log small })
-row_here (x ∷ log) small (suc k) row line e f = row_here log (All-tail HasSmallNumbers x log small) k row line e f
+pub none_read : (bytes : List ℕ) → AreReadTo bytes 0 []
+none_read bytes = record { rows = []; say = tt; is = refl }
+
+-- one row more is read
+pub read_more : (bytes : List ℕ) (at : ℕ) (log : List LogLine) (line : LogLine) (end : ℕ) → AreReadTo bytes at log → IsRowAt bytes at line end → AreReadTo bytes (end + 1) (log ++ line ∷ [])
+read_more bytes at log line end r read = record {
+  rows = r.rows ++ read.row ∷ [];
+  say = say_more r.rows log r.say;
+  is = r.is ∙ ap (λ rows. r.rows ++ rows) (rows_read bytes at line end read) ∙ sym (append_assoc r.rows (read.row ∷ []) (rows_of (drop (end + 1) bytes)));
+}
+  where
+    say_more : (rows : List (List ℕ)) (lines : List LogLine) → SayLines rows lines → SayLines (rows ++ read.row ∷ []) (lines ++ line ∷ [])
+    say_more [] [] s = (read.says, tt)
+    say_more [] (x ∷ lines) s = absurd s
+    say_more (row ∷ rows) [] s = absurd s
+    say_more (row ∷ rows) (x ∷ lines) s = (s.0, say_more rows lines s.1)
+
+as_many : (rows : List (List ℕ)) (log : List LogLine) → SayLines rows log → length rows ≡ length log
+as_many [] [] s = refl
+as_many [] (x ∷ log) s = absurd s
+as_many (row ∷ rows) [] s = absurd s
+as_many (row ∷ rows) (x ∷ log) s = ap (λ n. suc n) (as_many rows log s.1)
+
+-- a row says the line at its place
+row_here : (rows : List (List ℕ)) (log : List LogLine) → SayLines rows log → (k : ℕ) (row : List ℕ) (line : LogLine) → slice_get rows k ≡ Some row → slice_get log k ≡ Some line → IsLogLine row line
+row_here [] log s k row line e f = absurd cc
+row_here (r ∷ rows) [] s k row line e f = absurd s
+row_here (r ∷ rows) (x ∷ log) s zero row line e f =
+    subst (λ (y : LogLine). IsLogLine row y) (same_Some x line f) (subst (λ (q : List ℕ). IsLogLine q x) (same_Some r row e) s.0)
+row_here (r ∷ rows) (x ∷ log) s (suc k) row line e f = row_here rows log s.1 k row line e f
 
 line_there : (log : List LogLine) (k : ℕ) → k < length log → (line : LogLine) × (slice_get log k ≡ Some line)
 line_there [] k l = absurd (omega arith)
 line_there (x ∷ log) zero l = (x, refl)
 line_there (x ∷ log) (suc k) l = line_there log k (omega arith)
 
--- no fault holds of a row that was read
-read_is_sound : (bytes : List ℕ) (log : List LogLine) (rest : List (List ℕ)) → rows_of bytes ≡ map row_of log ++ rest → All HasSmallNumbers log → (fault : Fault) (h : HoldsInLog bytes fault) → h.at < length log → ⊥
-read_is_sound bytes log rest e small fault h l =
-    let line = line_there log h.at l in
-    h.no_line line.0 (row_here log small h.at h.row line.0 (sym (ap (λ rows. slice_get rows h.at) e ∙ get_left (map row_of log) rest h.at (omega (arith, length-map log row_of, l))) ∙ h.there) line.1)
+module _ (bytes : List ℕ) (log : List LogLine) (at : ℕ) (r : AreReadTo bytes at log) where
+  -- no fault holds of a row that was read
+  read_is_sound : (fault : Fault) (h : HoldsInLog bytes fault) → h.at < length log → ⊥
+  read_is_sound fault h l =
+      let line = line_there log h.at l in
+      let left = get_left r.rows (rows_of (drop at bytes)) h.at (omega (arith, as_many r.rows log r.say, l)) in
+      h.no_line line.0 (row_here r.rows log r.say h.at h.row line.0 (sym (ap (λ rows. slice_get rows h.at) r.is ∙ left) ∙ h.there) line.1)
 
-pub log_read : (bytes : List ℕ) (log : List LogLine) (at : ℕ) → rows_of bytes ≡ map row_of log ++ rows_of (drop at bytes) → All HasSmallNumbers log → length bytes ≤ at → IsLogText bytes log
-log_read bytes log at e small end =
-    let all : rows_of bytes ≡ map row_of log = e ∙ ap (λ xs. map row_of log ++ rows_of xs) (drop_all at bytes end) ∙ append-nil (map row_of log) in
-    record {
-      count = sym (length-map log row_of) ∙ ap length (sym all);
-      each = λ k row line f g. row_here log small k row line (ap (λ rows. slice_get rows k) (sym all) ∙ f) g;
-    }
+  -- all rows were read
+  all_rows : length bytes ≤ at → rows_of bytes ≡ r.rows
+  all_rows end = r.is ∙ ap (λ xs. r.rows ++ rows_of xs) (drop_all at bytes end) ∙ append-nil r.rows
 
-pub no_syntax : (bytes : List ℕ) (log : List LogLine) (at : ℕ) → rows_of bytes ≡ map row_of log ++ rows_of (drop at bytes) → All HasSmallNumbers log → length bytes ≤ at → (fault : Fault) → HoldsInLog bytes fault → ⊥
-no_syntax bytes log at e small end fault h =
-    let all : rows_of bytes ≡ map row_of log = e ∙ ap (λ xs. map row_of log ++ rows_of xs) (drop_all at bytes end) ∙ append-nil (map row_of log) in
-    read_is_sound bytes log (rows_of (drop at bytes)) e small fault h (omega (arith, slice_get_within (rows_of bytes) h.at h.row h.there, ap length all, length-map log row_of))
+  pub log_read : length bytes ≤ at → IsLogText bytes log
+  log_read end = record {
+    count = sym (ap length (all_rows end) ∙ as_many r.rows log r.say);
+    each = λ k row line f g. row_here r.rows log r.say k row line (ap (λ rows. slice_get rows k) (sym (all_rows end)) ∙ f) g;
+  }
 
-pub first_syntax : (bytes : List ℕ) (log : List LogLine) (at : ℕ) (fault : Fault) → rows_of bytes ≡ map row_of log ++ rows_of (drop at bytes) → All HasSmallNumbers log → at < length bytes → (HasRow (drop at bytes) → ⊥)
-    → fault ≡ at_line LogSyntax Log (length log + 1) → IsFirstFault (HoldsInLog bytes) fault
-first_syntax bytes log at fault e small l none is =
-    let first = some_row (drop at bytes) (omega (arith, length-drop at bytes, l)) in
-    record {
-      holds = record {
-        at = length log;
-        row = first.0;
-        there = ap (λ rows. slice_get rows (length log)) e ∙ get_right (map row_of log) (rows_of (drop at bytes)) (length log) 0 (omega (arith, length-map log row_of)) ∙ first.1;
-        no_line = λ line line_is. none (has_row (drop at bytes) first.0 line first.1 line_is);
-        is = is;
-      };
-      least = λ g h before.
-          ⊎_elim (λ (m : h.at < length log). read_is_sound bytes log (rows_of (drop at bytes)) e small g h m)
-          (λ (n : length log ≤ h.at).
-          let lines : h.at + 1 < length log + 1 = syntax_before (h.at + 1) (length log + 1) (subst (λ (f : Fault). ComesBefore (at_line LogSyntax Log (h.at + 1)) f) is (subst (λ (f : Fault). ComesBefore f fault) h.is before)) in
-          omega (arith, n, lines))
-          (cases_lt h.at (length log));
-    }
+  pub no_syntax : length bytes ≤ at → (fault : Fault) → HoldsInLog bytes fault → ⊥
+  no_syntax end fault h = read_is_sound fault h (omega (arith, slice_get_within (rows_of bytes) h.at h.row h.there, ap length (all_rows end), as_many r.rows log r.say))
+
+  pub first_syntax : (fault : Fault) → at < length bytes → (HasRow (drop at bytes) → ⊥) → fault ≡ at_line LogSyntax Log (length log + 1) → IsFirstFault (HoldsInLog bytes) fault
+  first_syntax fault l none is =
+      let first = some_row (drop at bytes) (omega (arith, length-drop at bytes, l)) in
+      record {
+        holds = record {
+          at = length log;
+          row = first.0;
+          there = ap (λ rows. slice_get rows (length log)) r.is ∙ get_right r.rows (rows_of (drop at bytes)) (length log) 0 (omega (arith, as_many r.rows log r.say)) ∙ first.1;
+          no_line = λ line line_is. none (has_row (drop at bytes) first.0 line first.1 line_is);
+          is = is;
+        };
+        least = λ g h before.
+            ⊎_elim (λ (m : h.at < length log). read_is_sound g h m)
+            (λ (n : length log ≤ h.at).
+            let lines : h.at + 1 < length log + 1 = syntax_before (h.at + 1) (length log + 1) (subst (λ (f : Fault). ComesBefore (at_line LogSyntax Log (h.at + 1)) f) is (subst (λ (f : Fault). ComesBefore f fault) h.is before)) in
+            omega (arith, n, lines))
+            (cases_lt h.at (length log));
+      }

@@ -1,5 +1,5 @@
--- The text of a log of fails: a line for each, of four decimals that are parted by one blank.
-use Rattle.std.specs.Prelude.{◌≡◌, ℕ, ◌+◌, ◌≤◌, ◌==◌, if◌then◌else◌, List, [], ◌∷◌, ◌++◌, length, decimal, slice_get, Some}
+-- The text of a log of fails: a line for each, of four decimals with one blank between two.
+use Rattle.std.specs.Prelude.{◌≡◌, ◌⊎◌, ℕ, ◌+◌, ◌≤◌, ◌==◌, if◌then◌else◌, List, [], ◌∷◌, ◌++◌, length, decimal, slice_get, Some}
 use Rattle.std.specs.List.{flat_map}
 use Rattle.base_types.specs.Faults.{at_line}
 use Rattle.base_types.specs.declared.fault.Fault.{Fault}
@@ -18,11 +18,15 @@ pub record HasSmallNumbers (line : LogLine) : Type 0 where
   pub chain : line.chain ≤ most_number
   pub index : line.index ≤ most_number
 
--- the bytes of a line without its line feed: four decimals without a sign or a leading zero, parted by one blank
-abbrev pub row_of : LogLine → List ℕ
-row_of line = decimal line.pattern ++ 32 ∷ decimal line.scan ++ 32 ∷ decimal line.chain ++ 32 ∷ decimal line.index
+-- the numbers of a line, decimals without a sign or a leading zero, with these bytes between them
+abbrev pub parted : ℕ → ℕ → ℕ → LogLine → List ℕ
+parted first second third line = decimal line.pattern ++ first ∷ decimal line.scan ++ second ∷ decimal line.chain ++ third ∷ decimal line.index
 
--- the text of a log, each line with its line feed
+-- the bytes of a line as it is written, without its line feed: with spaces
+abbrev pub row_of : LogLine → List ℕ
+row_of line = parted 32 32 32 line
+
+-- the text of a log as it is written, each line with its line feed
 abbrev pub log_text : List LogLine → List ℕ
 log_text log = flat_map (λ line. row_of line ++ 10 ∷ []) log
 
@@ -36,9 +40,17 @@ abbrev pub rows_of : List ℕ → List (List ℕ)
 rows_of [] = []
 rows_of (byte ∷ bytes) = if byte == 10 then [] ∷ rows_of bytes else with_byte byte (rows_of bytes)
 
--- these bytes say this line
+-- a space or a tab
+abbrev pub IsBlank : ℕ → Type 0
+IsBlank byte = (byte ≡ 32) ⊎ (byte ≡ 9)
+
+-- these bytes say this line: one blank stands between two of its numbers
 pub record IsLogLine (row : List ℕ) (line : LogLine) : Type 0 where
-  pub is : row ≡ row_of line
+  pub first : ℕ
+  pub second : ℕ
+  pub third : ℕ
+  pub blanks : IsBlank first × IsBlank second × IsBlank third
+  pub is : row ≡ parted first second third line
   pub small : HasSmallNumbers line
 
 -- the text says these lines, one after the other

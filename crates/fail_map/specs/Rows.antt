@@ -2,7 +2,7 @@
 use Rattle.std.specs.Prelude.{◌≡◌, ℕ, ◌+◌, ◌-◌, ◌*◌, ◌<◌, ◌≤◌, ⊤, false, List, [], ◌∷◌, ◌++◌, length, drop, decimal}
 use Rattle.std.specs.Char.{is_ascii_digit}
 use Rattle.fail_map.specs.declared.line.LogLine.{LogLine}
-use Rattle.fail_map.specs.Logs.{most_number, HasSmallNumbers, row_of}
+use Rattle.fail_map.specs.Logs.{most_number, IsBlank, IsLogLine, rows_of}
 
 -- the number that digits say behind another one
 abbrev pub value_behind : ℕ → List ℕ → ℕ
@@ -28,8 +28,10 @@ pub record HasNumber (bytes : List ℕ) : Type 0 where
 
 -- and a blank before it
 pub record HasNumberBehind (bytes : List ℕ) : Type 0 where
+  pub blank : ℕ
+  pub is_blank : IsBlank blank
   pub rest : List ℕ
-  pub blank : bytes ≡ 32 ∷ rest
+  pub is : bytes ≡ blank ∷ rest
   pub number : HasNumber rest
 
 -- that decimal stands from a place on up to another one
@@ -46,7 +48,9 @@ pub record IsNumberBehind (bytes : List ℕ) (at number end : ℕ) : Type 0 wher
   pub within : end ≤ length bytes
   pub small : number ≤ most_number
   pub stops : StopsDigits (drop end bytes)
-  pub is : drop at bytes ≡ 32 ∷ decimal number ++ drop end bytes
+  pub blank : ℕ
+  pub is_blank : IsBlank blank
+  pub is : drop at bytes ≡ blank ∷ decimal number ++ drop end bytes
 
 -- a line feed stands in front, or nothing
 abbrev pub EndsRow : List ℕ → Type 0
@@ -56,15 +60,30 @@ EndsRow (byte ∷ bytes) = byte ≡ 10
 -- a line of a log stands in front
 pub record HasRow (bytes : List ℕ) : Type 0 where
   pub line : LogLine
+  pub row : List ℕ
+  pub says : IsLogLine row line
   pub tail : List ℕ
-  pub small : HasSmallNumbers line
   pub ends : EndsRow tail
-  pub is : bytes ≡ row_of line ++ tail
+  pub is : bytes ≡ row ++ tail
 
 -- that line stands from a place on up to another one
 pub record IsRowAt (bytes : List ℕ) (at : ℕ) (line : LogLine) (end : ℕ) : Type 0 where
   pub some : at < end
   pub within : end ≤ length bytes
-  pub small : HasSmallNumbers line
+  pub row : List ℕ
+  pub says : IsLogLine row line
   pub ends : EndsRow (drop end bytes)
-  pub is : drop at bytes ≡ row_of line ++ drop end bytes
+  pub is : drop at bytes ≡ row ++ drop end bytes
+
+-- these rows say these lines, one for one
+abbrev pub SayLines : List (List ℕ) → List LogLine → Type 0
+SayLines [] [] = ⊤
+SayLines [] (line ∷ log) = ⊥
+SayLines (row ∷ rows) [] = ⊥
+SayLines (row ∷ rows) (line ∷ log) = IsLogLine row line × SayLines rows log
+
+-- the rows up to a place say these lines
+pub record AreReadTo (bytes : List ℕ) (at : ℕ) (log : List LogLine) : Type 0 where
+  pub rows : List (List ℕ)
+  pub say : SayLines rows log
+  pub is : rows_of bytes ≡ rows ++ rows_of (drop at bytes)

@@ -1,9 +1,9 @@
 //! The text of a log of fails.
-ghost use Rattle.std.specs.Prelude.{◌≡◌, ℕ, ◌+◌, ◌-◌, ◌<◌, ◌≤◌, ◌^◌, length, take, drop, MatchOption, IfOk, OnOk, IsTrue, slice_index_or, true, false, ⊤};
+ghost use Rattle.std.specs.Prelude.{◌≡◌, ℕ, ◌+◌, ◌-◌, ◌<◌, ◌≤◌, ◌^◌, length, take, drop, MatchOption, IfOk, OnOk, IsTrue, ◌↔◌, slice_index_or, true, false, ⊤};
 ghost use Rattle.std.specs.Str.{all_ascii_digits};
 ghost use Rattle.base_types.specs.declared.fault.Fault.{Fault as GhostFault};
 ghost use Rattle.base_types.specs.FirstFault.{IfFault, IsFirstFault};
-ghost use Rattle.fail_map.specs.Logs.{most_number, IsLogText, HoldsInLog};
+ghost use Rattle.fail_map.specs.Logs.{most_number, IsBlank, IsLogText, HoldsInLog};
 ghost use Rattle.fail_map.specs.Rows.{value_of, StopsDigits, HasNumber, HasNumberBehind, IsNumberAt, IsNumberBehind, HasRow, IsRowAt};
 
 use crate::line::LogLine;
@@ -76,12 +76,19 @@ fn number_at(bytes: &[u8], at: usize) -> Option<(u64, usize)>
     Some((number, end))
 }
 
+/// Whether a byte may part two numbers: a space or a tab.
+fn is_blank(byte: u8) -> bool
+    ensures value { IsTrue result ↔ IsBlank byte }
+{
+    byte == b' ' || byte == b'\t'
+}
+
 /// The decimal behind a blank that stands at a place, and where it ends.
 fn number_behind(bytes: &[u8], at: usize) -> Option<(u64, usize)>
     requires within { at ≤ length bytes.now }
     ensures value { MatchOption result (HasNumberBehind (drop at bytes.now) → ⊥) (λ read. IsNumberBehind bytes.now at read.0 read.1) }
 {
-    if at < bytes.len() && bytes[at] == b' ' {
+    if at < bytes.len() && is_blank(bytes[at]) {
         number_at(bytes, at + 1)
     } else {
         None
@@ -110,8 +117,8 @@ fn row_at(bytes: &[u8], at: usize) -> Option<(LogLine, usize)>
 }
 
 /// The lines that the text of a log says; or its first fault: LogSyntax at the first line that
-/// isn't four decimals without a sign or a leading zero, of at most 2^63 - 1, parted by one blank;
-/// or want of memory. The last line may lack its line feed. The text is passed once.
+/// isn't four decimals without a sign or a leading zero, of at most 2^63 - 1, with one space or tab
+/// between two; or want of memory. The last line may lack its line feed. The text is passed once.
 pub fn read_log(alloc: Global, bytes: &[u8]) -> Result<Vec<LogLine>, ReadFault>
     requires small { length bytes.now < 2 ^ 32 }
     ensures value { IfOk result (λ log. IsLogText bytes.now log.items) }
