@@ -1,5 +1,6 @@
 //! A log mapped along two sets of patterns.
-ghost use Rattle.std.specs.Prelude.{◌≡◌, ◌≢◌, ◌⊎◌, ℕ, ◌+◌, ◌*◌, ◌^◌, ◌<◌, ◌≤◌, [], ◌∷◌, ◌++◌, List, length, map, replicate, slice_index_or, None, Some, IfOk, OnOk};
+ghost use Rattle.std.specs.Prelude.{◌≡◌, ◌≢◌, ◌⊎◌, ℕ, ◌+◌, ◌*◌, ◌^◌, ◌<◌, ◌≤◌, [], ◌∷◌, ◌++◌, List, length, map, replicate, slice_index_or, None, Some, IfOk, OnErr, OnOk};
+ghost use Rattle.std.specs.Vec.{vec_capacity};
 ghost use Rattle.base_types.specs.Faults.{at_line};
 ghost use Rattle.base_types.specs.declared.fault.FileKind.TheVariants.{Log};
 ghost use Rattle.base_types.specs.declared.fault.ReadFault.TheVariants.{Fault as fault};
@@ -74,16 +75,29 @@ fn count_at(counts: &[u64], pattern: usize) -> u64
     }
 }
 
-/// Sets the count of a Pattern; those of Patterns that weren't counted yet are 0.
-fn put_count(counts: &mut Vec<u64>, pattern: usize, count: u64) -> Result<(), NoMemory>
-    ensures here { OnOk result (slice_index_or counts.new.items pattern 0 ≡ count) }
-    ensures others { OnOk result ((k : ℕ) → k ≢ pattern → slice_index_or counts.new.items k 0 ≡ slice_index_or counts.old.items k 0) }
+/// Makes room for the counts up to that of a Pattern.
+fn reserve_count(counts: &mut Vec<u64>, pattern: u32) -> Result<(), NoMemory>
+    ensures unchanged { counts.new.items ≡ counts.old.items }
+    ensures room { OnOk result (length counts.new.items ≤ pattern → pattern < vec_capacity counts.new) }
+{
+    let needed = pattern as usize + 1;
+    if counts.len() < needed {
+        counts.reserve(needed - counts.len())?;
+    }
+    Ok(())
+}
+
+/// Sets the count of a Pattern, for which there is room; those of Patterns that weren't counted yet
+/// are 0.
+fn put_count(counts: &mut Vec<u64>, pattern: usize, count: u64)
+    requires room { length counts.old.items ≤ pattern → pattern < vec_capacity counts.old }
+    ensures here { slice_index_or counts.new.items pattern 0 ≡ count }
+    ensures others { (k : ℕ) → k ≢ pattern → slice_index_or counts.new.items k 0 ≡ slice_index_or counts.old.items k 0 }
 {
     while counts.len() <= pattern {
-        counts.push(0)?;
+        counts.push_reserved(0);
     }
     counts[pattern] = count;
-    Ok(())
 }
 
 /// The line that a line is carried back to, where it names a comparison of its scan call, of which
@@ -123,6 +137,7 @@ fn find_lines(
     requires within { stretch.end ≤ length lines.now }
     requires behind { (k : ℕ) → stretch.first ≤ k → k < stretch.end → stretch.before < (line_at lines.now k).scan }
     ensures long { length mapped.new ≡ length lines.now }
+    ensures unchanged { OnErr result (mapped.new ≡ mapped.old) }
     ensures others { OnOk result ((k : ℕ) → k < stretch.first ⊎ stretch.end ≤ k → mapped_at mapped.new k ≡ mapped_at mapped.old k) }
     ensures found { OnOk result ((k : ℕ) → stretch.first ≤ k → k < stretch.end → IsTried map.now.0 map.now.1 (call_of_round (round_calls b.now) stretch.before (line_at lines.now k)) (line_at lines.now k) (mapped_at mapped.old k) (mapped_at mapped.new k)) }
 {
@@ -215,8 +230,8 @@ impl LogMapping {
     /// Passes the next statement of the old patterns and that of the new ones, which are the same,
     /// and finds the lines whose scan calls they run: by division, whatever number a Loop has, and
     /// in time near linear in these lines and the scan calls that stand in the statements. Want of
-    /// memory is the only refusal, behind which the log is of no more use; more than 2^64 - 2 scan
-    /// calls of one Pattern count as it.
+    /// memory is the only refusal, and changes nothing; more than 2^64 - 2 scan calls of one Pattern
+    /// count as it.
     pub fn pass(
         &mut self,
         alloc: Global,
@@ -228,17 +243,20 @@ impl LogMapping {
         requires new_ready { IsReady map.now.1 b.now }
         requires same { AreSameStatements map.now.0 map.now.1 a.now b.now }
         ensures passed { OnOk result ((old new : List GhostStatement) (log : List GhostLine) → AreMappedSoFar map.now.0 map.now.1 old new log self.old → AreMappedSoFar map.now.0 map.now.1 (old ++ a.now ∷ []) (new ++ b.now ∷ []) log self.new) }
+        ensures unchanged { OnErr result (self.new ≡ self.old) }
     {
         let pattern = pattern_of(b);
         let before = count_at(self.counts.as_slice(), pattern as usize);
         let round = count_of(b) as u64;
         let behind = calls_behind(before, round, times_of(b))?;
+        // All that may lack memory comes before the first change.
+        reserve_count(&mut self.counts, pattern)?;
         let lines = self.lines.as_slice();
         let first = lines_before(lines, pattern as u64 + 1, before + 1);
         let end = lines_before(lines, pattern as u64 + 1, behind + 1);
         let stretch = Stretch { before, first, end };
         find_lines(alloc, map, a, b, stretch, lines, self.mapped.as_mut_slice())?;
-        put_count(&mut self.counts, pattern as usize, behind)?;
+        put_count(&mut self.counts, pattern as usize, behind);
         Ok(())
     }
 

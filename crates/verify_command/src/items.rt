@@ -1,7 +1,7 @@
 //! The statements of patterns in which nothing is wrong, one after the other.
-ghost use Rattle.std.specs.Prelude.{◌≡◌, None, IfOk};
+ghost use Rattle.std.specs.Prelude.{◌≡◌, None, IfOk, OnErr};
 ghost use Rattle.stil_reader.specs.Cursors.{IsReadableItem, Takes};
-ghost use Rattle.verify_command.specs.Steps.{TakesNext};
+ghost use Rattle.verify_command.specs.Steps.{Passes, TakesNext};
 
 use base_types::{NoMemory, ReadFault};
 use std::alloc::Global;
@@ -13,6 +13,7 @@ fn next_item(alloc: Global, patterns: &mut PatternCursor) -> Result<Option<Patte
     requires sound { patterns.old.fault ≡ None }
     ensures value { IfOk result (λ item. Takes patterns.old item patterns.new) }
     ensures readable { IfOk result (IsReadableItem patterns.old.head) }
+    ensures unchanged { OnErr result (patterns.new ≡ patterns.old) }
 {
     match patterns.next(alloc) {
         Ok(item) => Ok(item),
@@ -22,13 +23,15 @@ fn next_item(alloc: Global, patterns: &mut PatternCursor) -> Result<Option<Patte
 }
 
 /// Takes the next statement of patterns in which nothing is wrong; None where none is left. The names
-/// of the Patterns that open before it are passed. Want of memory is the only refusal.
+/// of the Patterns that open before it are passed. Want of memory is the only refusal, behind which
+/// all statements are left that were before, and some of these names may be passed.
 pub fn next_statement(
     alloc: Global,
     patterns: &mut PatternCursor,
 ) -> Result<Option<PatternStatement>, NoMemory>
     requires sound { patterns.old.fault ≡ None }
     ensures value { IfOk result (λ statement. TakesNext patterns.old statement patterns.new) }
+    ensures kept { OnErr result (Passes patterns.old patterns.new) }
 {
     while let Some(item) = next_item(alloc, patterns)? {
         if let PatternItem::Stated(statement) = item {

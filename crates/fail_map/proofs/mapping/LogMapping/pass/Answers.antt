@@ -47,8 +47,8 @@ returns c =
       long = c.find_lines.ensures.long;
       outside = c.in_ok-find_lines.ensures.others;
       tried = c.in_ok-find_lines.ensures.found;
-      here = c.in_ok-put_count.ensures.here;
-      others_stay = λ k ne. c.in_ok-put_count.ensures.others k ne ∙ ap (λ cs. get_or cs k 0) (sym c.as_slice.ensures.value);
+      here = c.put_count.ensures.here;
+      others_stay = λ k ne. c.put_count.ensures.others k ne ∙ ap (λ cs. get_or cs k 0) (c.reserve_count.ensures.unchanged ∙ sym c.as_slice.ensures.value);
     } in
     let inside : Progress = record { lines = c.self.inside.lines.items; mapped = c.self.inside.mapped.items; counts = c.self.inside.counts.items } in
     let pass' : IsPass old new b (pattern_of b) before behind first end inside.lines inside.mapped mapped' inside.counts counts'
@@ -62,4 +62,5 @@ returns c =
           let far' : AreMappedSoFar old new olds news log inside = subst (λ (s : Progress). AreMappedSoFar old new olds news log s) (sym c.self.view_is) far in
           subst (λ (ms : List (Option LogLine)). AreMappedSoFar old new (olds ++ c.args.a.now ∷ []) (news ++ b ∷ []) log (record { lines = inside.lines; mapped = ms; counts = counts' })) (sym back)
           (passed old new olds news log inside c.args.a.now b before behind first end mapped' counts' far' pass' c.requires.old_ready c.requires.new_ready c.requires.same);
+      unchanged = tt;
     }
