@@ -1,8 +1,10 @@
-//! Tries rows of tests whose call reads a STIL text: its tokens, its head, what the head declares beside a design or a netlist, and
-//! its patterns, whole and in pieces. Prints each row that answers otherwise than it says, and how many rows each file has.
+//! Tries rows of tests whose call reads STIL texts: tokens, heads, what these declare beside a design or a netlist, patterns, whole
+//! and in pieces, and two sets of patterns beside each other. Prints each row that answers otherwise than it says, and how many rows
+//! each file has.
 //!
 //! Floor: tests, on pattern_warnings, row_forms, cell_table, netlist_core, chain_trace, verilog_reader, def_reader,
-//! stil_types, stil_tokens, stil_head, stil_calls, stil_reader, stil_stream, head_checks, base_types and `anyhow`.
+//! stil_types, stil_tokens, stil_head, stil_calls, stil_reader, stil_stream, stil_tester, retarget, scan_verify,
+//! fail_map, head_checks, same_files, verify_command, base_types and `anyhow`.
 //! The words are the names of the files of rows, of which `row_forms` says the form.
 #![tactic(auto)]
 
@@ -11,6 +13,7 @@ ghost use Rattle.std.specs.Prelude.{◌<◌, ◌^◌, length};
 mod declared;
 mod heads;
 mod patterns;
+mod sets;
 
 use anyhow::Result;
 use base_types::{NoMemory, ReadFault};
@@ -66,6 +69,8 @@ fn answered(
     }
     match call {
         "declared chains" => Ok(Some(declared::chains(alloc, table, def, stil)?)),
+        "same patterns" => Ok(Some(sets::answered(alloc, texts, false)?)),
+        "mapped log" => Ok(Some(sets::answered(alloc, texts, true)?)),
         _ => of_text(alloc, call, text),
     }
 }
