@@ -2,15 +2,16 @@
 //! and in pieces, and two sets of patterns beside each other. Prints each row that answers otherwise than it says, and how many rows
 //! each file has.
 //!
-//! Floor: tests, on pattern_warnings, row_forms, cell_table, netlist_core, chain_trace, verilog_reader, def_reader,
-//! stil_types, stil_tokens, stil_head, stil_calls, stil_reader, stil_stream, stil_tester, retarget, scan_verify,
-//! fail_map, head_checks, same_files, verify_command, base_types and `anyhow`.
+//! Floor: tests, on pattern_warnings, row_forms, token_forms, cell_table, netlist_core, chain_trace, verilog_reader,
+//! def_reader, stil_types, stil_tokens, stil_syntax, stil_head, stil_calls, stil_reader, stil_stream, stil_tester,
+//! retarget, scan_verify, fail_map, head_checks, same_files, verify_command, base_types and `anyhow`.
 //! The words are the names of the files of rows, of which `row_forms` says the form.
 #![tactic(auto)]
 
 ghost use Rattle.std.specs.Prelude.{◌<◌, ◌^◌, length};
 
 mod declared;
+mod ends;
 mod heads;
 mod patterns;
 mod sets;
@@ -46,6 +47,8 @@ fn of_text(alloc: Global, call: &str, text: &[u8]) -> Result<Option<String>, Rea
         "stil head" => heads::head(alloc, false, text)?,
         "stil head places" => heads::head(alloc, true, text)?,
         "stil lengths" => declared::lengths(alloc, text)?,
+        "stil end" => ends::ends(alloc, text, false)?,
+        "stil ends" => ends::ends(alloc, text, true)?,
         "stil statement" => patterns::statement(alloc, text)?,
         "stil judged" => patterns::judged(alloc, text)?,
         "stil formed" => patterns::formed(alloc, text)?,
