@@ -49,7 +49,7 @@ fn run_words<D: Desk>(alloc: Global, words: &[Word], desk: &mut D) -> Result<(),
 /// Does what the words ask for, and answers the status: 0 done, 1 the words are of no written form, 2 refused by a
 /// fault, 3 an input failed, 4 an output or the console failed, 5 want of memory.
 ///
-/// All inputs are taken whole, but the patterns that `play` reads: these are played as they come, and each is taken once.
+/// All inputs are taken whole, but patterns that are played or written anew: these are taken as they come, each once.
 ///
 /// The words are those behind the program's name. Each slot of the desk is unopened, and where the words are of a
 /// written form, the desk allows the value of each file option at that option's slot, and the empty name at the
