@@ -1,6 +1,6 @@
 //! Tokens, numbers and faults of the texts, in one place: it hands on what the crates below hold.
 //!
-//! Floor: readers, on verilog_syntax, def_tokens, token_forms and base_types. No crate of the program stands on it.
+//! Floor: readers, on verilog_syntax, def_tokens and base_types. No crate of the program stands on it.
 #![tactic(auto)]
 
 pub use base_types::{
