@@ -141,7 +141,7 @@ module _ (r : PatternsRequest) (texts : List (Option (List ℕ))) (a b : Slots) 
         stil_begun = λ late. let held = begun files holds late in record {
           text = held.text;
           is = held.is;
-          prefix = subst (λ (s : SlotState). HoldsPrefix held.text (a OutStil) s) (sym out_since) held.prefix;
+          whole = subst (λ (s : SlotState). IsAppended held.text (a OutStil) s) (sym out_since) held.whole;
         };
       }
 
@@ -215,7 +215,7 @@ module _ (r : PatternsRequest) (texts : List (Option (List ℕ))) (a b : Slots) 
     writing_begun files holds late = record {
       text = f.bytes;
       is = (writing_is files holds).2;
-      prefix = all_held _ _ _ (appended_since _ (a OutStil) (b OutStil) (f.between OutStil) (b_out r texts a b unopened taken OutStil tt) f.put.appended);
+      whole = appended_since _ (a OutStil) (b OutStil) (f.between OutStil) (b_out r texts a b unopened taken OutStil tt) f.put.appended;
     }
 
     writing_said : (c : Slots) → HasPutLine (names_of request) f.fault f.between c → IsRefused request a c

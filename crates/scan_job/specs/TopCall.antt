@@ -70,11 +70,11 @@ pub record SameDesign (old new : Slots) : Type 0 where
 abbrev pub IsTextBefore : Request → (Slot → List ℕ) → Fault → List ℕ → Type 0
 IsTextBefore request files fault text = (command_of request).text_before files fault text
 
--- the STIL output holds a prefix of what stands before the refused statement
+-- the STIL output holds what stands before the refused statement, all of it and no more
 pub record HoldsTextBefore (request : Request) (files : Slot → List ℕ) (fault : Fault) (old new : Slots) : Type 0 where
   pub text : List ℕ
   pub is : IsTextBefore request files fault text
-  pub prefix : HoldsPrefix text (old OutStil) (new OutStil)
+  pub whole : IsAppended text (old OutStil) (new OutStil)
 
 -- the output files at a refusal: as they were, but for the STIL output where the fault was found while it was written
 pub record AreFilesRefused (request : Request) (files : Slot → List ℕ) (fault : Fault) (old new : Slots) : Type 0 where
