@@ -5,7 +5,7 @@ ghost use Rattle.desk_io.specs.declared.slot.Slot.{Slot};
 ghost use Rattle.desk_io.specs.declared.slot.Stage.TheVariants.{Unopened};
 ghost use Rattle.desk_io.specs.Number.{number};
 
-use crate::progress::Progress;
+use crate::progress::{Progress, shown_text};
 use desk_io::{Desk, Failed, SLOTS, Slot, Stage, Way};
 use std::fs::{File, Metadata};
 use std::io::{ErrorKind, Read, Write};
@@ -14,6 +14,9 @@ use std::{fs, io};
 
 /// How often a call is made anew where a signal interrupts it.
 const TURNS: usize = 1000;
+
+/// Where the figures and the notes go, as files.
+const STANDARD: [&str; 2] = ["/dev/stdout", "/dev/stderr"];
 
 /// Reads once more where a signal interrupted it.
 fn read_file(file: &mut File, room: &mut [u8]) -> io::Result<usize>
@@ -41,14 +44,24 @@ fn write_file<W: Write>(file: &mut W, piece: &[u8]) -> io::Result<usize>
     file.write(piece)
 }
 
+/// Whether it is a pipe or a device, or something else that has no text of its own.
+fn is_special(file: &File) -> bool {
+    match file.metadata() {
+        Ok(attributes) => !attributes.is_file(),
+        Err(_) => false,
+    }
+}
+
 /// Has the system put what was written on the disk, so that what it couldn't keep is told now and not lost. A pipe and
 /// a device have nothing to put there, which the system says by one of three errors.
 fn sync_file(file: &File) -> io::Result<()> {
     match file.sync_all() {
         Err(error) => match error.kind() {
-            ErrorKind::InvalidInput | ErrorKind::Unsupported | ErrorKind::ReadOnlyFilesystem => Ok(
-                (),
-            ),
+            ErrorKind::InvalidInput | ErrorKind::Unsupported | ErrorKind::ReadOnlyFilesystem
+                if is_special(file) =>
+            {
+                Ok(())
+            }
             _ => Err(error),
         },
         done => done,
@@ -105,13 +118,28 @@ impl FileDesk {
         }
     }
 
-    /// Opens an output, but not over a file that this run has opened, under whatever name: what is read of it would be lost.
+    /// Whether it is a file that this run has opened, under whatever name.
+    fn is_opened(&self, file: Option<Identity>) -> bool {
+        file.is_some() && self.opened.iter().any(|known| *known == file)
+    }
+
+    /// Opens an output, but not over a file that this run has opened, as what is read of it would be lost, nor over one to which
+    /// the figures or the notes go, as these would stand in its text.
     fn create(&self, name: &str) -> io::Result<File> {
         let file = identity_of(fs::metadata(&self.rt, name));
-        if file.is_some() && self.opened.iter().any(|known| *known == file) {
+        let is_standard = |place: &&str| identity_of(fs::metadata(&self.rt, *place)) == file;
+        if self.is_opened(file) || file.is_some() && STANDARD.iter().any(is_standard) {
             return Err(io::Error::from(ErrorKind::AlreadyExists));
         }
         fs::create(&self.rt, name)
+    }
+
+    /// Finds that the console isn't a file that this run has opened.
+    fn open_console(&self) -> io::Result<Option<File>> {
+        match self.is_opened(identity_of(fs::metadata(&self.rt, STANDARD[0]))) {
+            true => Err(io::Error::from(ErrorKind::AlreadyExists)),
+            false => Ok(None),
+        }
     }
 
     /// Takes away what was told of how far it is.
@@ -133,7 +161,7 @@ impl Desk for FileDesk {
     fn open(&mut self, slot: Slot, name: &str) -> Result<(), Failed> {
         let at = slot.number();
         let opened = match (slot, slot.way()) {
-            (Slot::Console, _) => Ok(None),
+            (Slot::Console, _) => self.open_console(),
             (_, Way::In(_)) => fs::open(&self.rt, name).map(Some),
             (_, Way::Out(_)) => self.create(name).map(Some),
         };
@@ -207,8 +235,10 @@ impl Desk for FileDesk {
 
     fn note(&mut self, line: &str) {
         self.progress.erase();
-        // What standard error doesn't take is lost, and that is nobody's fault.
-        let _told = self.rt.eprintln(line);
+        if let Some(line) = shown_text(self.rt.alloc(), line) {
+            // What standard error doesn't take is lost, and that is nobody's fault.
+            let _told = self.rt.eprintln(line.as_str());
+        }
     }
 
     fn searching(&self, done: u64, all: u64) {

@@ -11,9 +11,10 @@ use base_types::Word;
 use file_desk::FileDesk;
 use scan_job::run;
 use std::alloc::Global;
+use std::fs::File;
 use std::io::ErrorKind;
 use std::process::ExitCode;
-use std::{env, io};
+use std::{env, fs, io};
 use usage::USAGE;
 
 /// The status of words that are of no written form.
@@ -31,8 +32,16 @@ fn words_of(rt: &HostRuntime, alloc: Global) -> io::Result<Vec<Word>> {
     Ok(words)
 }
 
+/// Takes the descriptors 0 to 2 where the caller left them closed, as a file of the run that got one would hold notes. What
+/// takes them can't be written to, so that a run without standard output still fails at its console.
+fn take_standard(rt: &HostRuntime) -> [Option<File>; 3] {
+    let take = || fs::open(rt, "/dev/null").ok();
+    [take(), take(), take()]
+}
+
 fn main(rt: HostRuntime) -> ExitCode {
     let alloc = rt.alloc();
+    let standard = take_standard(&rt);
     let status = match words_of(&rt, alloc) {
         Ok(words) => {
             let mut desk = FileDesk::new(rt);
@@ -47,5 +56,6 @@ fn main(rt: HostRuntime) -> ExitCode {
         // Where the usage can't be written, the status says it.
         let _ = rt.eprintln(USAGE);
     }
+    drop(standard);
     ExitCode::from(status)
 }

@@ -43,10 +43,10 @@ impl Stream {
     }
 }
 
-/// The name of a file as it can stand in a line.
-fn shown_name(alloc: Global, name: &str) -> Option<String> {
+/// A text without what would move a terminal's cursor, so that it can stand in a line; none for want of memory.
+pub(crate) fn shown_text(alloc: Global, text: &str) -> Option<String> {
     let mut shown = String::new(alloc);
-    for c in name.chars() {
+    for c in text.chars() {
         if !c.is_control() {
             shown.push(c).ok()?;
         }
@@ -145,7 +145,7 @@ impl Progress {
         let (Some(file), Some(_)) = (file, self.next.get()) else {
             return;
         };
-        let Some(name) = shown_name(self.rt.alloc(), name) else {
+        let Some(name) = shown_text(self.rt.alloc(), name) else {
             return;
         };
         let (is_read, size) = match slot.way() {

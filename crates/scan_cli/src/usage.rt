@@ -24,4 +24,4 @@ pub(crate) const USAGE: &str = "usage: wrenpewter COMMAND OPTIONS
   rewire --verilog FILE --cell NAME --in-pin NAME --out-pin NAME --scan-in NAME --scan-out NAME --out-verilog FILE INSTANCE ..
       puts one scan chain of one cell kind into the order of the instances
 
-status: 0 done, 1 words of no such form, 2 refused, 3 an input failed, 4 an output failed, 5 want of memory";
+status: 0 done, 1 words of no such form, 2 refused, 3 an input failed, 4 an output or the console failed, 5 want of memory";
