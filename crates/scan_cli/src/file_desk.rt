@@ -58,10 +58,7 @@ fn sync_file(file: &File) -> io::Result<()> {
     match file.sync_all() {
         Err(error) => match error.kind() {
             ErrorKind::InvalidInput | ErrorKind::Unsupported | ErrorKind::ReadOnlyFilesystem
-                if is_special(file) =>
-            {
-                Ok(())
-            }
+                if is_special(file) => { Ok(()) }
             _ => Err(error),
         },
         done => done,
