@@ -1,5 +1,5 @@
-//! Tries desks, the words of commands, and runs in which each call of the desk fails in turn, and prints for each subject how
-//! many cases there were and those that are answered otherwise than they say.
+//! Tries desks, the words of commands, runs in which each call of the desk fails in turn, and runs on files that are cut behind
+//! each byte, and prints for each subject how many cases there were and those that are answered otherwise than they say.
 //!
 //! The runs read the files of three flops in `data/`, which holds what is to be written too. The subject `wrong` holds a case for
 //! each way in which a comparison can fail; each of them must be printed.
@@ -7,6 +7,7 @@
 //! Floor: tests, on row_forms, scan_job, scan_words, desk_io and base_types.
 #![tactic(auto)]
 
+mod cuts;
 mod desks;
 mod files;
 mod pieces;
@@ -50,5 +51,6 @@ fn main(rt: HostRuntime) -> io::Result<()> {
     print_cases(&rt, "words", words::words(alloc))?;
     print_cases(&rt, "runs", runs::runs(alloc, &flops))?;
     print_cases(&rt, "pieces", pieces::pieces(alloc, &flops))?;
+    print_cases(&rt, "cuts", cuts::cuts(alloc, &flops))?;
     print_cases(&rt, "wrong", wrong(alloc, &flops))
 }

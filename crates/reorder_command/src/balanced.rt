@@ -64,7 +64,7 @@ fn cut_names(
 }
 
 /// Orders the units within the chains of a plan, so that these are short, where its longest path is shorter than as read. Else the plan
-/// stays, so that a design that has nothing to gain is written as it is read.
+/// stays, so that where there is nothing to gain each chain keeps its order.
 fn order_within<P: Progress>(
     alloc: Global,
     files: &DesignFiles,

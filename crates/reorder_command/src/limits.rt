@@ -37,10 +37,10 @@ fn giving_partitions(
 /// A full chain as a user reads it: its name and what it may hold.
 fn full_chain(alloc: Global, chain: &ScanChainText, bound: u32) -> Result<String, NoMemory> {
     let name = String::from_utf8_lossy(alloc, chain.name.bytes())?;
-    if chain.has_max_bits {
+    if chain.max_bits > 0 {
         return Ok(format!(in alloc; " {name} (MAXBITS {bound})")?);
     }
-    Ok(format!(in alloc; " {name} ({bound} bits as read, no MAXBITS)")?)
+    Ok(format!(in alloc; " {name} ({bound} bits as read, no MAXBITS above 0)")?)
 }
 
 /// The chains on other paths that could take a unit of the paths of a set if they weren't full, the first ones by name; an empty text where

@@ -33,10 +33,14 @@ fn words_of(rt: &HostRuntime, alloc: Global) -> io::Result<Vec<Word>> {
 }
 
 /// Takes the descriptors 0 to 2 where the caller left them closed, as a file of the run that got one would hold notes. What
-/// takes them can't be written to, so that a run without standard output still fails at its console.
+/// takes them is a folder, which can neither be read nor written: a run without standard output fails at its console, and a
+/// closed descriptor that is named as a file fails too.
 fn take_standard(rt: &HostRuntime) -> [Option<File>; 3] {
-    let take = || fs::open(rt, "/dev/null").ok();
-    [take(), take(), take()]
+    let take = |place: &str| match fs::metadata(rt, place) {
+        Ok(_open) => None,
+        Err(_) => fs::open(rt, "/").ok(),
+    };
+    [take("/dev/stdin"), take("/dev/stdout"), take("/dev/stderr")]
 }
 
 fn main(rt: HostRuntime) -> ExitCode {

@@ -130,11 +130,26 @@ fn plan_taken<D: Desk>(
     Ok(ready_of(alloc, request, head.bytes(), reordered, input)?)
 }
 
+/// Whether a call of the desk failed as the patterns were put, behind which none is made.
+fn has_failed(put: &Result<PatternFigures, PutStop>) -> bool {
+    matches!(
+        put,
+        Err(PutStop::Output) | Err(PutStop::Input(StilStop::Read))
+    )
+}
+
 /// Tells the user what the patterns are warned of.
-fn tell_warnings<D: Desk>(warnings: &PatternWarnings, desk: &mut D)
+fn tell_warnings<D: Desk>(
+    put: &Result<PatternFigures, PutStop>,
+    warnings: &PatternWarnings,
+    desk: &mut D,
+)
     ensures slots { SameSlots (D.state desk.old) (D.state desk.new) }
     ensures names { SameNames (D.allows desk.old) (D.allows desk.new) }
 {
+    if has_failed(put) {
+        return;
+    }
     for line in warnings.lines() {
         desk.note(line.as_str());
     }
@@ -174,7 +189,7 @@ fn put_stil<D: Desk>(
         &mut input,
         desk,
     );
-    tell_warnings(&warnings, desk);
+    tell_warnings(&put, &warnings, desk);
     put
 }
 
