@@ -6,7 +6,8 @@ use std::fmt;
 /// The kinds of faults, in the order in which they are answered: of two that hold, the one with the lesser number.
 #[derive(Clone, Copy, Debug, PartialEq, Eq)]
 pub enum Kind {
-    /// The file has more bytes than its limit; of several the one that is taken first.
+    /// The file has more bytes than its limit, or the head of patterns that come in pieces doesn't show within it; of several the
+    /// one that is taken first.
     FileSize,
     /// The table is no TOML text.
     TableSyntax,
@@ -120,8 +121,8 @@ pub enum Kind {
     LongCompare,
     /// A string of a scan call is longer than 524288.
     TooManyShifts,
-    /// A statement of a Pattern, a statement at the top behind the head, or a Pattern up to its `{` has more than 67108864
-    /// bytes.
+    /// A statement of a Pattern, a statement at the top behind the head but a Pattern, a Pattern up to its `{`, or one without
+    /// a `{` has more than 67108864 bytes.
     StatementSize,
     /// With this statement the whole STIL has more than 4294967296 bytes.
     PatternSize,
