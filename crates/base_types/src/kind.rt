@@ -60,7 +60,7 @@ pub enum Kind {
     InstanceMissing,
     /// The instance's cell differs from the component's.
     CellDiffers,
-    /// The pins of this net that the Verilog connects too lie on two classes, or on a class on which pins of an earlier net lie.
+    /// The pins of this net that the Verilog connects too aren't all joined there, or are joined with those of an earlier net.
     NetDiffers,
     /// A statement of the head matches no form, or the head has no ScanStructures.
     StilSyntax,
