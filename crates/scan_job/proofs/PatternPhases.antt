@@ -24,7 +24,7 @@ use Rattle.scan_job.specs.Phases.{HasPutLine, HasFailedAtLine}
 use Rattle.scan_job.specs.Retargeting.{IsRetargetingFault}
 use Rattle.scan_job.specs.PatternPhases.{IsPutClosed, HasReadPatterns, AreOutputsFound, HasBegunStil, HasWrittenOut, HasFoundBefore, HasFoundWriting, HasFailedAtPatterns, HasRunOutAtPatterns, HasFailedAtOutput, HasFinishedPatterns}
 use Rattle.desk_io.proofs.Slots.{below_cases, input_or_output, not_both, slot_cases, at_slot, apart, early_turn}
-use Rattle.scan_job.proofs.Phases.{state_same, unused_apart, used_or_not, nothing_held, all_held, appended_since, prefix_since, risen_since, before_of, not_open_closed}
+use Rattle.scan_job.proofs.Phases.{state_same, unused_apart, used_or_not, nothing_held, all_held, appended_since, prefix_since, risen_since, none_of, before_of, not_open_closed}
 use Rattle.scan_job.proofs.PatternFrames.{last_used, stil_or_last, b_out, b_stil, of_files, run_fault, small_is, none_is, none_before, e_unused, e_out, e_design, e_count, in_count, e_closed, e_end, e_open}
 
 -- the closed output isn't open
@@ -70,7 +70,16 @@ module _ (r : PatternsRequest) (texts : List (Option (List ℕ))) (a b : Slots) 
         outputs = found.0;
         are = record { no_fault = none_before r texts a b unopened taken files holds found.0 found.1.are found.1.no_fault; texts = found.1.are };
         prefixes = prefixes_at c found.0 verilog def svg console (prefix_since _ (a OutStil) (b OutStil) (c OutStil) (b_out r texts a b unopened taken OutStil tt) found.2);
+        faultless = inr kept;
       }))
+    where
+      kept : (slot : Slot) → IsOutput slot → slot ≢ OutStil → c slot ≡ a slot
+      kept OutStil output ne = absurd (ne refl)
+      kept OutVerilog output ne = verilog
+      kept OutDef output ne = def
+      kept OutSvg output ne = svg
+      kept Console output ne = console
+      kept slot output ne = absurd output
 
   -- a call failed, or memory ran out, while the patterns were read and written
 
@@ -324,6 +333,7 @@ module _ (r : PatternsRequest) (texts : List (Option (List ℕ))) (a b : Slots) 
             prefixes = λ files holds. inr (inl (record {
               outputs = w.outputs;
               are = before_of request files w.outputs (outputs_are files holds);
+              faultless = inl (none_of request files w.outputs (outputs_are files holds));
               prefixes = λ slot output used. elim (stil_or_last r slot output used) [
                 | inl is ↦ at_slot (λ t. HoldsPrefix (output_at w.outputs t) (a t) (c t)) OutStil slot (sym is)
                     (all_held _ _ _ (subst (λ (state : SlotState). IsAppended w.outputs.stil (a OutStil) state) (sym stil_same) stil_appended))

@@ -397,6 +397,7 @@ module _ (request : Request) (texts : List (Option (List ℕ))) (a b c : Slots) 
         prefixes = λ files holds. inr (inl (record {
           outputs = p.outputs;
           are = before_of request files p.outputs (judged_outputs request texts a b taken whole files holds p.outputs p.judged);
+          faultless = inl (none_of request files p.outputs (judged_outputs request texts a b taken whole files holds p.outputs p.judged));
           prefixes = λ slot output used. elim (slot_cases slot at) [
             | inl e ↦ at_slot (λ t. HoldsPrefix (output_at p.outputs t) (a t) (c t)) at slot (sym e)
                 (prefix_since _ (a at) (s.between at) (c at) (here ∙ kept at s.output) s.prefix)

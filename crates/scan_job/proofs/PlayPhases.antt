@@ -26,7 +26,7 @@ use Rattle.scan_job.specs.Playing.{IsPlayed, IsPlayFault}
 use Rattle.scan_job.specs.PlayPhases.{HasReadStil, HasFailedAtStil, HasRunOutAtStil, HasFinishedPlay}
 use Rattle.desk_io.proofs.Slots.{input_or_output, slot_cases, at_slot, apart}
 use Rattle.scan_job.proofs.Sizes.{IsWhole, small_of, size_first}
-use Rattle.scan_job.proofs.Phases.{text_is, state_same, unused_apart, used_or_not, appended_since, prefix_since, risen_since, not_open_closed, not_open_unopened, Found, put_line, failed_at_line, failed_untouched, ran_out_untouched, before_of, here_kept, output_as_was, unused_as_was, count_as_was, found_closed}
+use Rattle.scan_job.proofs.Phases.{text_is, state_same, unused_apart, used_or_not, appended_since, prefix_since, risen_since, not_open_closed, not_open_unopened, Found, put_line, failed_at_line, failed_untouched, ran_out_untouched, none_of, before_of, here_kept, output_as_was, unused_as_was, count_as_was, found_closed}
 
 -- the table and the netlist are what is taken before the STIL slot is opened
 
@@ -342,6 +342,7 @@ module _ (r : PlayRequest) (texts : List (Option (List ℕ))) (a b : Slots) (uno
         prefixes = λ files holds. inr (inl (record {
           outputs = saying said;
           are = before_of request files (saying said) (outputs_are files holds said (played files holds said is));
+          faultless = inl (none_of request files (saying said) (outputs_are files holds said (played files holds said is)));
           prefixes = λ slot output used. at_slot (λ s. HoldsPrefix (output_at (saying said) s) (a s) (c s)) Console slot (sym (only_console slot output used))
               (prefix_since said (a Console) (e Console) (c Console) (out_kept Console tt) prefix);
         }));

@@ -148,7 +148,7 @@ module _ (words : List (List ℕ)) (old new : Slots) where
       refusal (Err OutputFailed) status is run two = absurd (omega arith)
 
       begun : HasDone request files old new → HasWritten request files old new
-      begun had = inr (inl (record { outputs = had.outputs; are = before_of request files had.outputs had.are; prefixes = λ slot output used. all_held _ _ _ (had.texts slot output used) }))
+      begun had = inr (inl (record { outputs = had.outputs; are = before_of request files had.outputs had.are; prefixes = λ slot output used. all_held _ _ _ (had.texts slot output used); faultless = inl (none_of request files had.outputs had.are) }))
 
       begun_refusing : HasRefused request files old new → HasWritten request files old new
       begun_refusing had = inr (inr (record { fault = had.fault; first = had.first; outputs = had.outputs; prefix = all_held _ _ _ had.line }))

@@ -13,7 +13,7 @@ use Rattle.desk_io.specs.Outputs.{output_at}
 use Rattle.scan_words.specs.declared.order.Order.{Order}
 use Rattle.scan_words.specs.Written.{Says}
 use Rattle.scan_job.specs.Requests.{Request, command_of, names_of}
-use Rattle.scan_job.specs.Faults.{IsRunFault, IsFoundWriting, fault_text}
+use Rattle.scan_job.specs.Faults.{IsRunFault, HasNoFault, IsFoundWriting, fault_text}
 use Rattle.scan_job.specs.Texts.{AreOutputsOf, AreOutputsBefore}
 
 -- what stands at each slot
@@ -60,6 +60,10 @@ AllRead request slots = (slot : Slot) → IsInput slot → IsUsed request slot �
 abbrev pub SameOutputs : Slots → Slots → Type 0
 SameOutputs old new = (slot : Slot) → IsOutput slot → new slot ≡ old slot
 
+-- no output slot but the STIL output changed
+abbrev pub SameButStil : Slots → Slots → Type 0
+SameButStil old new = (slot : Slot) → IsOutput slot → (slot ≡ OutStil → ⊥) → new slot ≡ old slot
+
 -- the Verilog, the DEF and the SVG output are as they were: unopened
 pub record SameDesign (old new : Slots) : Type 0 where
   pub verilog : new OutVerilog ≡ old OutVerilog
@@ -95,11 +99,13 @@ pub record HasDone (request : Request) (files : Slot → List ℕ) (old new : Sl
   pub are : AreOutputsOf request files outputs
   pub texts : (slot : Slot) → IsOutput slot → IsUsed request slot → IsAppended (output_at outputs slot) (old slot) (new slot)
 
--- no fault was found before the outputs were begun, and each output of the request holds a prefix of its text
+-- No fault was found before the outputs were begun, and each output of the request holds a prefix of its text; where the files have a fault,
+-- only the STIL output was begun.
 pub record HasBegun (request : Request) (files : Slot → List ℕ) (old new : Slots) : Type 0 where
   pub outputs : Outputs
   pub are : AreOutputsBefore request files outputs
   pub prefixes : (slot : Slot) → IsOutput slot → IsUsed request slot → HoldsPrefix (output_at outputs slot) (old slot) (new slot)
+  pub faultless : HasNoFault request files ⊎ SameButStil old new
 
 -- the files have a fault; the console holds a prefix of its line
 pub record HasBegunRefusing (request : Request) (files : Slot → List ℕ) (old new : Slots) : Type 0 where
