@@ -14,9 +14,9 @@ use Rattle.wire_cost.specs.declared.ends.Ends.{Ends}
 use Rattle.wire_cost.specs.Lengths.{ChainEnds, chain_ends, length_of}
 use Rattle.length_bound.specs.Certificates.{AreLeast, IsCertificate, total, value_of}
 use Rattle.length_bound.specs.Growth.{IsBelowOrders}
-use Rattle.head_checks.specs.Asked.{asked_by}
+use Rattle.head_chains.specs.Asked.{asked_by}
 use Rattle.traced_paths.specs.Traced.{ArePathsOf}
-use Rattle.traced_paths.specs.Numbers.{path_specs}
+use Rattle.path_numbers.specs.Numbers.{path_specs}
 use Rattle.design_elements.specs.Elements.{chain_specs}
 use Rattle.design_places.specs.Ends.{ends_of}
 use Rattle.design_files.specs.Files.{Texts, AreRead}

@@ -2,7 +2,8 @@
 //! from the texts of the cell table, the LEF, the Verilog and the DEF.
 //!
 //! Floor: top, on netlist_core, cell_table, lef_pins, def_reader, chain_trace, chain_rules, wire_cost, length_bound,
-//! design_elements, traced_paths, head_checks, design_places, stil_types, design_files, base_types and `itoa`.
+//! design_elements, traced_paths, design_places, stil_types, design_files, base_types, head_chains, path_numbers and
+//! `itoa`.
 //! Contract: `bound_text` gives the text that `specs/Bounds.antt` says, or the first fault of the files. Begin with `bound.rt`.
 #![tactic(auto)]
 

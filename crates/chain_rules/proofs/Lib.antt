@@ -24,7 +24,6 @@ pub mod Refused
 pub mod Faulty
 pub mod Belonging
 pub mod Indexed
-pub mod Totals
 pub mod Overlaps
 pub mod Spread
 pub mod Owned

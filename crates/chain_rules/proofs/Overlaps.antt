@@ -6,7 +6,7 @@ use Rattle.std.proofs.lemmas.List.Sorted.{sum_by-IsPermutation}
 use Rattle.std.proofs.lemmas.List.Elements.{All-head, All-tail}
 use Rattle.chain_rules.specs.declared.spans.Span.{Span}
 use Rattle.chain_rules.specs.Spans.{span_at, no_span, overlap, Overlap, MeetsOne, MeetsAnother, AreSorted}
-use Rattle.chain_rules.proofs.Totals.{sum_by-map, counted-cons, passes, fails, counted, both_counted, some_counted, other_counted}
+use Rattle.list_laws.proofs.Totals.{sum_by-map, counted-cons, passes, fails, counted, both_counted, some_counted, other_counted}
 
 overlap_is : (s t : Span) → overlap s t ≡ true → Overlap s t
 overlap_is s t e =

@@ -1,6 +1,6 @@
 //! Units and rules of the chains, and which plans are legal.
 //!
-//! Floor: planning, on base_types. Plain numbers alone: it knows no name, no netlist and no file.
+//! Floor: planning, on base_types and list_laws. Plain numbers alone: it knows no name, no netlist and no file.
 //! Contract: `units_of` gives the rules of `specs/Rules.antt`, or the first fault of `specs/ChainFaults.antt`; the tests of a plan are exact by
 //! `specs/Legality.antt`. Begin with `spec.rt` and `unit.rt`.
 #![tactic(auto)]

@@ -11,9 +11,9 @@ use Rattle.chain_rules.specs.Legality.{chain_at, bits_of}
 use Rattle.chain_rules.specs.Rules.{AreRulesOf}
 use Rattle.wire_cost.specs.declared.ends.Ends.{Ends}
 use Rattle.wire_cost.specs.Lengths.{chain_length_of, plan_length_of}
-use Rattle.head_checks.specs.Asked.{asked_by}
+use Rattle.head_chains.specs.Asked.{asked_by}
 use Rattle.traced_paths.specs.Traced.{ArePathsOf}
-use Rattle.traced_paths.specs.Numbers.{path_specs}
+use Rattle.path_numbers.specs.Numbers.{path_specs}
 use Rattle.design_elements.specs.Elements.{chain_specs}
 use Rattle.design_places.specs.Ends.{ends_of}
 use Rattle.design_files.specs.Files.{Texts, AreRead}

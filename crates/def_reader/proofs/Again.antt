@@ -4,24 +4,10 @@ use Rattle.std.proofs.lemmas.Bool.{cases_Bool}
 use Rattle.std.proofs.lemmas.List.{map-append}
 use Rattle.std.proofs.lemmas.List.Elements.{Contains-append_left, Contains-append_right, Contains-append_cases}
 use Rattle.def_reader.specs.Faults.{StandsAgain, names_in}
-use Rattle.def_reader.specs.Steps.{IsLeast, IsSeen, lesser, line_if}
-use Rattle.def_reader.proofs.LeastLines.{same_least, either, alone}
-
-pub nil_not : {X : Type 0} (front behind : List X) (y : X) → [] ≡ front ++ y ∷ behind → ⊥
-nil_not [] behind y e = absurd cc
-nil_not (f ∷ fs) behind y e = absurd cc
-
-pub split_last : {X : Type 0} (xs front behind : List X) (x y : X) → xs ++ x ∷ [] ≡ front ++ y ∷ behind → ((b : List X) × (xs ≡ front ++ y ∷ b)) ⊎ ((xs ≡ front) × (x ≡ y))
-split_last [] [] behind x y e = let same : x ≡ y = cc in inr (refl, same)
-split_last [] (f ∷ fs) behind x y e = let rest : [] ≡ fs ++ y ∷ behind = cc in absurd (nil_not fs behind y rest)
-split_last (a ∷ xs) [] behind x y e = let same : a ≡ y = cc in inl (xs, ap (λ z. z ∷ xs) same)
-split_last {X} (a ∷ xs) (f ∷ fs) behind x y e =
-    let same : a ≡ f = cc in
-    let rest : xs ++ x ∷ [] ≡ fs ++ y ∷ behind = cc in
-    elim (split_last xs fs behind x y rest) [
-      | inl w ↦ let more = w.1 in let whole : a ∷ xs ≡ f ∷ (fs ++ y ∷ w.0) = cc in inl (w.0, whole)
-      | inr w ↦ let front = w.0 in let whole : a ∷ xs ≡ f ∷ fs = cc in inr (whole, w.1)
-    ]
+use Rattle.list_laws.specs.Leasts.{IsLeast, lesser, found_if}
+use Rattle.list_laws.proofs.LeastLines.{same_least, either, alone}
+use Rattle.list_laws.proofs.RowsMore.{nil_not, split_last}
+use Rattle.def_reader.specs.Steps.{IsSeen}
 
 module _ {K : Type 0} (rows : List (K × ℕ)) (name : K) (line : ℕ) where
   to_last : (n : ℕ) → StandsAgain rows n ⊎ (Contains (names_in rows) name × (n ≡ line)) → StandsAgain (rows ++ (name, line) ∷ []) n
@@ -94,13 +80,13 @@ module _ {Q K : Type 0} (name : Q → K) (has now : Q → Bool) (same : Q → Bo
   again : not added ≡ has x
   again = not_not added (has x) fresh
 
-  least_more : IsLeast (StandsAgain (rows ++ (name x, line) ∷ [])) (lesser least (line_if (not added) line))
+  least_more : IsLeast (StandsAgain (rows ++ (name x, line) ∷ [])) (lesser least (found_if (not added) line))
   least_more =
       same_least (λ n. StandsAgain rows n ⊎ ((not added ≡ true) × (n ≡ line))) (StandsAgain (rows ++ (name x, line) ∷ [])) _
       (λ n h. to_last rows (name x) line n (elim h [ inl k ↦ inl k | inr k ↦ inr (seen.was x (sym again ∙ k.0), k.1) ]))
       (λ n h. elim (from_last rows (name x) line n h) [ inl k ↦ inl k | inr k ↦ inr (again ∙ seen.kept x k.0, k.1) ])
-      (either (StandsAgain rows) (λ n. (not added ≡ true) × (n ≡ line)) least (line_if (not added) line) seen.least (alone (not added) line))
+      (either (StandsAgain rows) (λ n. (not added ≡ true) × (n ≡ line)) least (found_if (not added) line) seen.least (alone (not added) line))
 
   -- one row more
-  pub seen_more : IsSeen name now (lesser least (line_if (not added) line)) (rows ++ (name x, line) ∷ [])
+  pub seen_more : IsSeen name now (lesser least (found_if (not added) line)) (rows ++ (name x, line) ∷ [])
   seen_more = record { was = was_more; kept = kept_more; least = least_more }

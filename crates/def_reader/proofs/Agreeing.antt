@@ -18,9 +18,10 @@ use Rattle.def_reader.specs.declared.design.Design.{Design}
 use Rattle.def_reader.specs.Designs.{cell_of}
 use Rattle.def_reader.specs.Agreement.{net_of_pin, Connects, AgreeOnNets, IsMissing, HasOtherCell, IsSplit, IsShared}
 use Rattle.def_reader.specs.Classes.{class_of, net_classes, is_split, has_class, IsBadNet, is_missing, differs, has_other_cell, FailsOn}
-use Rattle.def_reader.specs.Steps.{IsLeast}
-use Rattle.def_reader.proofs.LeastLines.{same_least}
-use Rattle.def_reader.proofs.Members.{contains_from, contains_to, flat_from, flat_to, split_two, two_split, both_from, both_to, split_at, at_middle, at_front}
+use Rattle.list_laws.specs.Leasts.{IsLeast}
+use Rattle.list_laws.proofs.LeastLines.{same_least}
+use Rattle.list_laws.proofs.Members.{contains_from, contains_to, flat_from, flat_to, split_at, at_middle, at_front}
+use Rattle.def_reader.proofs.Members.{split_two, two_split, both_from, both_to}
 use Rattle.def_reader.proofs.Within.{made_some, pin_within}
 
 none_is : {X : Type 0} (o : Option X) → is_none o ≡ true → o ≡ None

@@ -16,9 +16,9 @@ use Rattle.netlist_core.specs.declared.netlist.Netlist.{Netlist}
 use Rattle.def_reader.specs.declared.design.Design.{Design}
 use Rattle.def_reader.specs.Designs.{cell_of}
 use Rattle.def_reader.specs.Agreement.{AgreeOnNets, Agree, IsMissing, HasOtherCell, HoldsInAgreement, Missing, Differs, Split, Shared}
-use Rattle.def_reader.specs.Steps.{IsLeast}
+use Rattle.list_laws.specs.Leasts.{IsLeast}
 use Rattle.def_reader.proofs.Agreeing.{NetFault}
-use Rattle.def_reader.proofs.DesignFaults.{line_case}
+use Rattle.list_laws.proofs.LeastLines.{line_case}
 
 missing_line : (a b : ℕ) → a ≤ b → ComesBefore (at_line InstanceMissing Verilog b) (at_line InstanceMissing Verilog a) → ⊥
 missing_line a b le e = line_case a b (nat_cmp b a) Equal refl le refl e

@@ -11,8 +11,8 @@ use Rattle.def_reader.specs.declared.design.Component.{Component}
 use Rattle.def_reader.specs.declared.design.Design.{Design}
 use Rattle.def_reader.specs.Designs.{component_of, pin_of, net_of, chain_of, design_of}
 use Rattle.def_reader.specs.Faults.{StandsAgain, component_rows, pin_rows, net_rows, chain_rows, section_rows, connection_rows, TwiceAt, SameComponent, SamePin, SameNet, SameChain, SameSection, SameConnection}
-use Rattle.def_reader.specs.Steps.{IsLeast, lesser}
-use Rattle.def_reader.proofs.LeastLines.{same_least, either}
+use Rattle.list_laws.specs.Leasts.{IsLeast, lesser}
+use Rattle.list_laws.proofs.LeastLines.{same_least, either}
 
 abbrev Twice : List ℕ → DesignText → ℕ → Type 0
 Twice text t n =

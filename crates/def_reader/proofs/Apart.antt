@@ -8,8 +8,8 @@ use Rattle.std.proofs.lemmas.Option.{slice_get_within, get_or_from_slice_get, sl
 use Rattle.base_types.proofs.TruthValues.{bytes_are, bytes_same}
 use Rattle.def_reader.specs.Faults.{StandsAgain, names_in}
 use Rattle.def_reader.specs.NamedRows.{AreApart}
-use Rattle.def_reader.specs.Steps.{IsLeast}
-use Rattle.def_reader.proofs.Members.{split_at}
+use Rattle.list_laws.specs.Leasts.{IsLeast}
+use Rattle.list_laws.proofs.Members.{split_at}
 
 module _ {X : Type 0} (name : X → List ℕ) (line : X → ℕ) where
   abbrev row_of : X → List ℕ × ℕ

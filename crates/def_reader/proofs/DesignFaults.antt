@@ -1,8 +1,7 @@
 -- The faults of a DEF text: what is answered is the first of them, and where nothing is refused there is none.
-use Rattle.std.proofs.Common.{◌≡◌, ℕ, ◌≤◌, List, Some, None, Ordering, Less, Equal, Greater, refl, sym, ap, ◌∙◌, subst, arith}
+use Rattle.std.proofs.Common.{◌≡◌, ℕ, ◌≤◌, List, Some, None, Equal, refl, sym, ap, ◌∙◌, subst, arith}
 use Rattle.std.specs.Prelude.{Ok, Err}
-use Rattle.std.specs.Ordering.{nat_cmp, ordering_then}
-use Rattle.std.proofs.lemmas.Cmp.{ranked}
+use Rattle.std.specs.Ordering.{nat_cmp}
 use Rattle.base_types.specs.Lines.{line_at}
 use Rattle.base_types.specs.Faults.{at_line}
 use Rattle.base_types.specs.FirstFault.{ComesBefore, IsFirstFault, IfFault}
@@ -15,12 +14,8 @@ use Rattle.base_types.proofs.FirstFaults.{itself, later}
 use Rattle.def_syntax.specs.Designs.{IsDesignText, IsExactDesign, IsFirstFault as IsFirstOfForm}
 use Rattle.def_syntax.specs.declared.design.DesignText.{DesignText}
 use Rattle.def_reader.specs.Faults.{NumberAt, TwiceAt, HoldsInDesign, Form, Number, Twice}
-use Rattle.def_reader.specs.Steps.{IsLeast}
-
-pub line_case : (a b : ℕ) (r rest : Ordering) → r ≡ nat_cmp b a → a ≤ b → rest ≡ Equal → ordering_then r rest ≡ Less → ⊥
-line_case a b Less rest is le same e = let below = ranked b a Less is in omega arith
-line_case a b Equal rest is le same e = let both = sym same ∙ e in absurd cc
-line_case a b Greater rest is le same e = absurd cc
+use Rattle.list_laws.specs.Leasts.{IsLeast}
+use Rattle.list_laws.proofs.LeastLines.{line_case}
 
 -- a fault of a kind on a greater line doesn't come before
 number_line : (a b : ℕ) → a ≤ b → ComesBefore (at_line DefNumber Def b) (at_line DefNumber Def a) → ⊥

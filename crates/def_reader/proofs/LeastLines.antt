@@ -1,46 +1,12 @@
--- The least of lines.
-use Rattle.std.proofs.Common.{◌≡◌, ℕ, zero, suc, ◌+◌, ◌<◌, ◌≤◌, ◌⊎◌, inl, inr, Bool, true, false, min, List, [], ◌∷◌, ◌++◌, length, get_or, take, Option, Some, None, Contains, refl, sym, ap, ◌∙◌, subst, arith}
+-- The least lines of statements that fail a test.
+use Rattle.std.proofs.Common.{◌≡◌, ℕ, zero, suc, ◌+◌, ◌<◌, ◌≤◌, ◌⊎◌, inl, inr, Bool, true, List, [], ◌∷◌, ◌++◌, length, get_or, take, Option, None, Contains, refl, sym, ap, ◌∙◌, subst, arith}
 use Rattle.std.proofs.lemmas.List.{take_more, take_all}
 use Rattle.std.proofs.lemmas.List.Elements.{Contains-append_left, Contains-append_right, Contains-append_cases}
+use Rattle.list_laws.specs.Leasts.{IsLeast, lesser, found_if}
+use Rattle.list_laws.proofs.LeastLines.{same_least, either, alone}
 use Rattle.def_syntax.specs.declared.design.Located.{Located}
 use Rattle.def_syntax.specs.declared.design.DesignText.{DesignText}
 use Rattle.def_reader.specs.Faults.{FailsAt, are_no_units, has_far_component, has_far_pin, has_many_bits, NumberAt, BadUnits, FarComponent, FarPin, ManyBits}
-use Rattle.def_reader.specs.Steps.{IsLeast, lesser, line_if}
-
--- the same lines, said in another way
-pub same_least : (P R : ℕ → Type 0) (r : Option ℕ) → ((n : ℕ) → P n → R n) → ((n : ℕ) → R n → P n) → IsLeast P r → IsLeast R r
-same_least P R None there back least = λ n holds. least n (back n holds)
-same_least P R (Some m) there back least = (there m least.0, λ n holds. least.1 n (back n holds))
-
-either_less : (a b : ℕ) → (a ≤ b) ⊎ (b ≤ a) → ((min a b ≡ a) × (a ≤ b)) ⊎ ((min a b ≡ b) × (b ≤ a))
-either_less a b (inl le) = inl (omega arith, le)
-either_less a b (inr le) = inr (omega arith, le)
-
-pub order : (a b : ℕ) → (a ≤ b) ⊎ (b ≤ a)
-order zero b = inl (omega arith)
-order (suc a) zero = inr (omega arith)
-order (suc a) (suc b) = elim (order a b) [ inl le ↦ inl (omega arith) | inr le ↦ inr (omega arith) ]
-
-abbrev Either : (ℕ → Type 0) → (ℕ → Type 0) → ℕ → Type 0
-Either P Q n = P n ⊎ Q n
-
--- the lesser of two is the least of both
-pub either : (P Q : ℕ → Type 0) (a b : Option ℕ) → IsLeast P a → IsLeast Q b → IsLeast (λ n. P n ⊎ Q n) (lesser a b)
-either P Q None None p q = λ n holds. elim holds [ inl h ↦ p n h | inr h ↦ q n h ]
-either P Q None (Some b) p q = (inr q.0, λ n holds. elim holds [ inl h ↦ absurd (p n h) | inr h ↦ q.1 n h ])
-either P Q (Some a) None p q = (inl p.0, λ n holds. elim holds [ inl h ↦ p.1 n h | inr h ↦ absurd (q n h) ])
-either P Q (Some a) (Some b) p q =
-    elim (either_less a b (order a b)) [
-      | inl w ↦
-          (inl (subst P (sym w.0) p.0), λ n holds. elim holds [ inl h ↦ let le = p.1 n h in omega (arith, w.0) | inr h ↦ let le = q.1 n h in omega (arith, w.0) ])
-      | inr w ↦
-          (inr (subst Q (sym w.0) q.0), λ n holds. elim holds [ inl h ↦ let le = p.1 n h in omega (arith, w.0) | inr h ↦ let le = q.1 n h in omega (arith, w.0) ])
-    ]
-
--- a line that counts is the least of itself
-pub alone : (bad : Bool) (line : ℕ) → IsLeast (λ n. (bad ≡ true) × (n ≡ line)) (line_if bad line)
-alone true line = ((refl, refl), λ n h. omega (arith, h.1))
-alone false line = λ n h. absurd cc
 
 module _ {X : Type 0} (bad : X → Bool) (rows : List (Located X)) (row : Located X) where
   to_last : (n : ℕ) → FailsAt bad rows n ⊎ ((bad row.statement ≡ true) × (n ≡ row.line)) → FailsAt bad (rows ++ row ∷ []) n
@@ -60,17 +26,17 @@ module _ {X : Type 0} (bad : X → Bool) (rows : List (Located X)) (row : Locate
             inr (subst (λ (x : Located X). bad x.statement ≡ true) (sym same) h.fails, h.is ∙ ap (λ (x : Located X). x.line) (sym same))
       ]
 
-  pub with_last : (r : Option ℕ) → IsLeast (FailsAt bad rows) r → IsLeast (FailsAt bad (rows ++ row ∷ [])) (lesser r (line_if (bad row.statement) row.line))
+  pub with_last : (r : Option ℕ) → IsLeast (FailsAt bad rows) r → IsLeast (FailsAt bad (rows ++ row ∷ [])) (lesser r (found_if (bad row.statement) row.line))
   with_last r least =
       same_least (λ n. FailsAt bad rows n ⊎ ((bad row.statement ≡ true) × (n ≡ row.line))) (FailsAt bad (rows ++ row ∷ [])) _ to_last from_last
-      (either (FailsAt bad rows) (λ n. (bad row.statement ≡ true) × (n ≡ row.line)) r (line_if (bad row.statement) row.line) least (alone (bad row.statement) row.line))
+      (either (FailsAt bad rows) (λ n. (bad row.statement ≡ true) × (n ≡ row.line)) r (found_if (bad row.statement) row.line) least (alone (bad row.statement) row.line))
 
 -- one statement more is looked at
 pub fails_more : {X : Type 0} (bad : X → Bool) (rows : List (Located X)) (i : ℕ) (row : Located X) (r : Option ℕ) → i < length rows → row ≡ get_or rows i row → IsLeast (FailsAt bad (take i rows)) r
-    → IsLeast (FailsAt bad (take (i + 1) rows)) (lesser r (line_if (bad row.statement) row.line))
+    → IsLeast (FailsAt bad (take (i + 1) rows)) (lesser r (found_if (bad row.statement) row.line))
 fails_more {X} bad rows i row r lt is least =
     let more : take (i + 1) rows ≡ take i rows ++ row ∷ [] = take_more rows i row lt ∙ ap (λ (x : Located X). take i rows ++ x ∷ []) (sym is) in
-    subst (λ (l : List (Located X)). IsLeast (FailsAt bad l) (lesser r (line_if (bad row.statement) row.line))) (sym more) (with_last bad (take i rows) row r least)
+    subst (λ (l : List (Located X)). IsLeast (FailsAt bad l) (lesser r (found_if (bad row.statement) row.line))) (sym more) (with_last bad (take i rows) row r least)
 
 -- none is looked at
 pub fails_none : {X : Type 0} (bad : X → Bool) → IsLeast (FailsAt bad []) None

@@ -10,11 +10,9 @@ pub mod LeastLines
 pub mod Marks
 pub mod Members
 pub mod NetClasses
-pub mod Noted
 pub mod PinKeys
 pub mod Places
 pub mod PlainNames
-pub mod RowsMore
 pub mod SoundDesigns
 pub mod Told
 pub mod Within

@@ -9,8 +9,8 @@ use Rattle.netlist_core.specs.Joining.{AreClassesOf}
 use Rattle.def_reader.specs.declared.design.Net.{Net}
 use Rattle.def_reader.specs.Classes.{class_of, net_classes, has_in, HasClasses}
 use Rattle.def_reader.specs.Agreement.{net_of_pin}
-use Rattle.def_reader.proofs.Members.{contains_from}
-use Rattle.def_reader.proofs.RowsMore.{number_added}
+use Rattle.list_laws.proofs.Members.{contains_from}
+use Rattle.list_laws.proofs.RowsMore.{number_added}
 use Rattle.def_reader.proofs.Within.{made_some, pin_within}
 
 set_true : (marks : List Bool) (x q : ℕ) → x < length marks → has_in (set marks x true) q ≡ cond (eqb x q) true (has_in marks q)

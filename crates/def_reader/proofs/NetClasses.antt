@@ -7,10 +7,9 @@ use Rattle.std.proofs.lemmas.List.Elements.{Contains-append_left, Contains-appen
 use Rattle.netlist_core.specs.declared.netlist.Instance.{Instance}
 use Rattle.def_reader.specs.declared.design.Net.{Net}
 use Rattle.def_reader.specs.Classes.{is_split, has_class, has_in, HasClasses, is_bad_net, IsBadNet, FailsOn}
-use Rattle.def_reader.specs.Steps.{IsLeast, lesser, line_if}
-use Rattle.def_reader.proofs.LeastLines.{same_least, either, alone}
-use Rattle.def_reader.proofs.Again.{split_last, nil_not}
-use Rattle.def_reader.proofs.RowsMore.{take_next}
+use Rattle.list_laws.specs.Leasts.{IsLeast, lesser, found_if}
+use Rattle.list_laws.proofs.LeastLines.{same_least, either, alone}
+use Rattle.list_laws.proofs.RowsMore.{split_last, nil_not, take_next}
 
 module _ (cls : Net → List ℕ) (nets : List Net) (net : Net) where
   to_last : (n : ℕ) → IsBadNet cls nets n ⊎ ((is_bad_net (flat_map cls nets) (cls net) ≡ true) × (n ≡ net.line)) → IsBadNet cls (nets ++ net ∷ []) n
@@ -35,17 +34,17 @@ module _ (cls : Net → List ℕ) (nets : List Net) (net : Net) where
             )
       ]
 
-  pub bad_last : (r : Option ℕ) → IsLeast (IsBadNet cls nets) r → IsLeast (IsBadNet cls (nets ++ net ∷ [])) (lesser r (line_if (is_bad_net (flat_map cls nets) (cls net)) net.line))
+  pub bad_last : (r : Option ℕ) → IsLeast (IsBadNet cls nets) r → IsLeast (IsBadNet cls (nets ++ net ∷ [])) (lesser r (found_if (is_bad_net (flat_map cls nets) (cls net)) net.line))
   bad_last r least =
       same_least (λ n. IsBadNet cls nets n ⊎ ((is_bad_net (flat_map cls nets) (cls net) ≡ true) × (n ≡ net.line))) (IsBadNet cls (nets ++ net ∷ [])) _ to_last from_last
-      (either (IsBadNet cls nets) (λ n. (is_bad_net (flat_map cls nets) (cls net) ≡ true) × (n ≡ net.line)) r (line_if (is_bad_net (flat_map cls nets) (cls net)) net.line) least
+      (either (IsBadNet cls nets) (λ n. (is_bad_net (flat_map cls nets) (cls net) ≡ true) × (n ≡ net.line)) r (found_if (is_bad_net (flat_map cls nets) (cls net)) net.line) least
       (alone (is_bad_net (flat_map cls nets) (cls net)) net.line))
 
 pub bad_next : (cls : Net → List ℕ) (nets : List Net) (i : ℕ) (net : Net) (r : Option ℕ) (bad : Bool) → i < length nets → net ≡ get_or nets i net → bad ≡ is_bad_net (flat_map cls (take i nets)) (cls net)
-    → IsLeast (IsBadNet cls (take i nets)) r → IsLeast (IsBadNet cls (take (i + 1) nets)) (lesser r (line_if bad net.line))
+    → IsLeast (IsBadNet cls (take i nets)) r → IsLeast (IsBadNet cls (take (i + 1) nets)) (lesser r (found_if bad net.line))
 bad_next cls nets i net r bad lt is same least =
-    subst (λ (b : Bool). IsLeast (IsBadNet cls (take (i + 1) nets)) (lesser r (line_if b net.line))) (sym same)
-    (subst (λ (l : List Net). IsLeast (IsBadNet cls l) (lesser r (line_if (is_bad_net (flat_map cls (take i nets)) (cls net)) net.line))) (sym (take_next nets i net lt is)) (bad_last cls (take i nets) net r least))
+    subst (λ (b : Bool). IsLeast (IsBadNet cls (take (i + 1) nets)) (lesser r (found_if b net.line))) (sym same)
+    (subst (λ (l : List Net). IsLeast (IsBadNet cls l) (lesser r (found_if (is_bad_net (flat_map cls (take i nets)) (cls net)) net.line))) (sym (take_next nets i net lt is)) (bad_last cls (take i nets) net r least))
 
 pub bad_none : (cls : Net → List ℕ) → IsLeast (IsBadNet cls []) None
 bad_none cls = λ n h. nil_not h.front h.behind h.net h.is
@@ -78,15 +77,15 @@ module _ (bad : Instance → Bool) (rows : List Instance) (row : Instance) where
             let same = only_end h.row last in inr (subst (λ (x : Instance). bad x ≡ true) (sym same) h.fails, h.is ∙ ap (λ (x : Instance). x.line) (sym same))
       ]
 
-  pub fails_last : (r : Option ℕ) → IsLeast (FailsOn bad rows) r → IsLeast (FailsOn bad (rows ++ row ∷ [])) (lesser r (line_if (bad row) row.line))
+  pub fails_last : (r : Option ℕ) → IsLeast (FailsOn bad rows) r → IsLeast (FailsOn bad (rows ++ row ∷ [])) (lesser r (found_if (bad row) row.line))
   fails_last r least =
       same_least (λ n. FailsOn bad rows n ⊎ ((bad row ≡ true) × (n ≡ row.line))) (FailsOn bad (rows ++ row ∷ [])) _ to_end from_end
-      (either (FailsOn bad rows) (λ n. (bad row ≡ true) × (n ≡ row.line)) r (line_if (bad row) row.line) least (alone (bad row) row.line))
+      (either (FailsOn bad rows) (λ n. (bad row ≡ true) × (n ≡ row.line)) r (found_if (bad row) row.line) least (alone (bad row) row.line))
 
 pub fails_next : (bad : Instance → Bool) (rows : List Instance) (i : ℕ) (row : Instance) (r : Option ℕ) → i < length rows → row ≡ get_or rows i row → IsLeast (FailsOn bad (take i rows)) r
-    → IsLeast (FailsOn bad (take (i + 1) rows)) (lesser r (line_if (bad row) row.line))
+    → IsLeast (FailsOn bad (take (i + 1) rows)) (lesser r (found_if (bad row) row.line))
 fails_next bad rows i row r lt is least =
-    subst (λ (l : List Instance). IsLeast (FailsOn bad l) (lesser r (line_if (bad row) row.line))) (sym (take_next rows i row lt is)) (fails_last bad (take i rows) row r least)
+    subst (λ (l : List Instance). IsLeast (FailsOn bad l) (lesser r (found_if (bad row) row.line))) (sym (take_next rows i row lt is)) (fails_last bad (take i rows) row r least)
 
 pub fails_empty : (bad : Instance → Bool) → IsLeast (FailsOn bad []) None
 fails_empty bad = λ n h. absurd (omega (arith, h.there.1))
@@ -96,9 +95,9 @@ fails_whole bad rows i r le least = subst (λ (l : List Instance). IsLeast (Fail
 
 -- by the answer of a test
 pub fails_by : (bad : Instance → Bool) (rows : List Instance) (i : ℕ) (row : Instance) (r : Option ℕ) (now : Bool) → i < length rows → row ≡ get_or rows i row → now ≡ bad row → IsLeast (FailsOn bad (take i rows)) r
-    → IsLeast (FailsOn bad (take (i + 1) rows)) (lesser r (line_if now row.line))
+    → IsLeast (FailsOn bad (take (i + 1) rows)) (lesser r (found_if now row.line))
 fails_by bad rows i row r now lt is same least =
-    subst (λ (b : Bool). IsLeast (FailsOn bad (take (i + 1) rows)) (lesser r (line_if b row.line))) (sym same) (fails_next bad rows i row r lt is least)
+    subst (λ (b : Bool). IsLeast (FailsOn bad (take (i + 1) rows)) (lesser r (found_if b row.line))) (sym same) (fails_next bad rows i row r lt is least)
 
 pub none_mapped : (o : Option (Bor (List ℕ))) → is_none o ≡ is_none (option_map (λ x. x.now) o)
 none_mapped None = refl

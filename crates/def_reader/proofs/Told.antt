@@ -4,7 +4,8 @@ use Rattle.std.proofs.lemmas.List.{map-append}
 use Rattle.std.proofs.lemmas.List.Elements.{Contains-append_cases}
 use Rattle.def_reader.specs.Faults.{names_in}
 use Rattle.def_reader.specs.Hashes.{AreTold}
-use Rattle.def_reader.proofs.Again.{nil_not, from_last}
+use Rattle.list_laws.proofs.RowsMore.{nil_not}
+use Rattle.def_reader.proofs.Again.{from_last}
 
 module _ {K : Type 0} (Old New : K → Type 0) (rows : List (K × ℕ)) (told : AreTold Old rows) (kept : (k : K) → Old k → New k) where
   -- what was known still is

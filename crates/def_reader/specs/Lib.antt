@@ -6,7 +6,6 @@ pub mod Faults
 pub mod Hashes
 pub mod NamedRows
 pub mod Numbers
-pub mod Places
 pub mod SeenConnections
 pub mod Sound
 pub mod Steps

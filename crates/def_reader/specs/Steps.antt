@@ -1,27 +1,13 @@
 -- What the checks know on their way over the statements: the least line so far, and what has been seen.
-use Rattle.std.specs.Prelude.{◌≡◌, ℕ, ◌≤◌, Bool, true, ◌&&◌, min, if◌then◌else◌, List, Option, Some, None, Contains}
+use Rattle.std.specs.Prelude.{◌≡◌, ℕ, Bool, true, ◌&&◌, List, Option, Some, None, Contains}
 use Rattle.std.specs.Borrow.{Bor}
 use Rattle.std.specs.HashSet.{HashSet, contains}
 use Rattle.std.specs.Option.{option_eq}
 use Rattle.std.specs.Str.{bytes_eq}
+use Rattle.list_laws.specs.Leasts.{IsLeast}
 use Rattle.def_reader.specs.declared.design.NetPin.{NetPin}
 use Rattle.def_reader.specs.declared.design.NetPin.TheVariants as net_pins
 use Rattle.def_reader.specs.Faults.{StandsAgain, names_in}
-
--- the least of the numbers of which this holds, or none
-abbrev pub IsLeast : (ℕ → Type 0) → Option ℕ → Type 0
-IsLeast P None = (n : ℕ) → P n → ⊥
-IsLeast P (Some m) = P m × ((n : ℕ) → P n → m ≤ n)
-
--- the lesser of two lines, as far as there are any
-abbrev pub lesser : Option ℕ → Option ℕ → Option ℕ
-lesser None b = b
-lesser (Some a) None = Some a
-lesser (Some a) (Some b) = Some (min a b)
-
--- the line, where it counts
-abbrev pub line_if : Bool → ℕ → Option ℕ
-line_if bad line = if bad then Some line else None
 
 -- a set that knows which names the rows so far have, and the least line at which one of them stood again
 pub record IsSeen {Q K : Type 0} (name : Q → K) (has : Q → Bool) (found : Option ℕ) (rows : List (K × ℕ)) : Type 0 where

@@ -10,15 +10,14 @@ ghost use Rattle.netlist_core.specs.Netlists.{net_at, IsNetlist};
 ghost use Rattle.netlist_core.specs.Joining.{AreClassesOf};
 ghost use Rattle.def_reader.specs.Agreement.{instance_named, port_named, net_of_pin, Agree, HoldsInAgreement};
 ghost use Rattle.def_reader.specs.Classes.{class_of, net_classes, is_split, has_in, HasClasses, is_missing, differs, has_other_cell, FailsOn, IsBadNet};
-ghost use Rattle.def_reader.specs.Steps.{IsLeast};
+ghost use Rattle.list_laws.specs.Leasts.{IsLeast};
 
 use crate::cells::cell_of;
 use crate::design::{Component, Design, Net, NetPin};
-use crate::least::{lesser, line_if};
 use crate::named_rows::{ByName, NamedRows};
-use crate::ports::Ports;
 use base_types::{Fault, FileKind, Kind, Name, NoMemory, ReadFault};
-use netlist_core::{Classes, Instance, NetId, Netlist, net_of};
+use list_laws::{lesser, line_if};
+use netlist_core::{Classes, Instance, NetId, Netlist, Ports, net_of};
 use std::alloc::Global;
 use std::marker::Model;
 

@@ -3,14 +3,15 @@ ghost use Rattle.std.specs.Prelude.{◌≡◌, ◌∷◌, ◌++◌, ◌-◌, ◌
 ghost use Rattle.def_reader.specs.declared.design.NetPin.{NetPin as ghost_pin};
 ghost use Rattle.def_reader.specs.Faults.{StandsAgain, net_rows, connections_of, connection_rows};
 ghost use Rattle.def_reader.specs.Hashes.{AreTold, IsNameHeld, IsPinHeld};
-ghost use Rattle.def_reader.specs.Steps.{IsLeast, pin_of_key};
+ghost use Rattle.list_laws.specs.Leasts.{IsLeast};
+ghost use Rattle.def_reader.specs.Steps.{pin_of_key};
 ghost use Rattle.def_reader.specs.SeenConnections.{IsSeenPins};
 
 use crate::design::{Net, NetPin};
 use crate::hashes::{Hashes, name_hash, pin_hash};
 use crate::index::Index;
-use crate::least::{lesser, line_if};
 use base_types::NoMemory;
+use list_laws::{lesser, line_if};
 use std::alloc::Global;
 use std::collections::HashSet;
 

@@ -4,11 +4,11 @@ ghost use Rattle.std.specs.List.{position};
 ghost use Rattle.std.specs.Str.{bytes_eq};
 ghost use Rattle.def_reader.specs.Faults.{StandsAgain};
 ghost use Rattle.def_reader.specs.NamedRows.{key_of, bucket_of, Leads, AreEntered, IsIndexOf};
-ghost use Rattle.def_reader.specs.Steps.{IsLeast};
+ghost use Rattle.list_laws.specs.Leasts.{IsLeast};
 
-use crate::least::{lesser, line_if};
 use crate::named::Named;
 use base_types::NoMemory;
+use list_laws::{lesser, line_if};
 use std::alloc::Global;
 use std::cell::Cell;
 use std::hash::{DefaultHasher, FoldHasher, Hasher};

@@ -3,14 +3,14 @@ ghost use Rattle.std.specs.Prelude.{◌≡◌, Bool, [], ◌∷◌};
 ghost use Rattle.std.specs.List.{list_any};
 ghost use Rattle.def_reader.specs.Designs.{max_bits_in};
 ghost use Rattle.def_reader.specs.Faults.{are_no_units, is_far, has_far_component, has_far_pin, are_many, have_many, has_many, has_many_bits, FailsAt, NumberAt};
-ghost use Rattle.def_reader.specs.Steps.{IsLeast};
+ghost use Rattle.list_laws.specs.Leasts.{IsLeast};
 
 use crate::convert::point_of;
-use crate::least::{lesser, line_if};
 use crate::numbers::{bits, units};
 use def_syntax::{
     Chain, Component, DesignPin, DesignText, Element, ElementList, Located, Placement, Units,
 };
+use list_laws::{lesser, line_if};
 use token_forms::TokenText;
 
 /// What has numbers that may lie beyond their limits.

@@ -3,7 +3,7 @@ ghost use Rattle.std.specs.Prelude.{◌≡◌, map, option_map, slice_get, IfOk}
 ghost use Rattle.std.specs.List.{find, position};
 ghost use Rattle.std.specs.Str.{bytes_eq};
 ghost use Rattle.def_reader.specs.Faults.{StandsAgain};
-ghost use Rattle.def_reader.specs.Steps.{IsLeast};
+ghost use Rattle.list_laws.specs.Leasts.{IsLeast};
 
 use crate::index::Index;
 use crate::named::Named;
@@ -83,9 +83,6 @@ pub struct ByName<'r, T: Named> {
 }
 
 impl<'r, T: Named> Model for ByName<'r, T> {
-    ghost use Rattle.std.specs.Prelude.{List};
-    ghost use Rattle.def_reader.specs.NamedRows.{IsIndexOf};
-
     ghost Value = { List T };
 
     ghost view = { λ n. n.rows.now };

@@ -13,7 +13,7 @@ ghost use Rattle.def_reader.specs.Designs.{is_chains, chains_span, design_of};
 ghost use Rattle.def_reader.specs.Faults.{StandsAgain, component_rows, pin_rows, TwiceAt, HoldsInDesign};
 ghost use Rattle.def_reader.specs.Denoted.{DenotesDesign};
 ghost use Rattle.def_reader.specs.Sound.{IsSound};
-ghost use Rattle.def_reader.specs.Steps.{IsLeast};
+ghost use Rattle.list_laws.specs.Leasts.{IsLeast};
 
 use crate::cells::Cells;
 use crate::chains::chains_of;
@@ -22,12 +22,12 @@ use crate::convert::{components_of, nets_of, pins_of};
 use crate::design::Design;
 use crate::index::Index;
 use crate::judge::bad_number;
-use crate::least::lesser;
 use crate::named_rows::NamedRows;
 use crate::numbers::units;
 use base_types::{Fault, FileKind, Kind, NoMemory, ReadFault, Rows, Span};
 use cell_table::CellTable;
 use def_syntax::{DesignText, Section, SectionKind, read_design_text};
+use list_laws::lesser;
 use std::alloc::Global;
 
 fn is_chains(kind: SectionKind) -> bool

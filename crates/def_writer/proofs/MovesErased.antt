@@ -29,9 +29,9 @@ use Rattle.net_edit.specs.Rearranged.{AreRearranged}
 use Rattle.net_edit.proofs.Links.{in_steps, has_get}
 use Rattle.net_edit.proofs.NewEdits.{is_moved, moved_not}
 use Rattle.plan_paths.specs.NewPaths.{absent_path, path_in, new_path, new_paths}
-use Rattle.plan_paths.proofs.Places.{range_in}
+use Rattle.path_links.proofs.NoTwice.{range_in}
 use Rattle.plan_paths.proofs.Arranged.{last_steps, spec_free}
-use Rattle.traced_paths.specs.Numbers.{path_specs, is_free_output}
+use Rattle.path_numbers.specs.Numbers.{path_specs, is_free_output}
 use Rattle.traced_paths.specs.Traced.{steps_of}
 use Rattle.def_reader.specs.declared.design.NetPin.{NetPin}
 use Rattle.def_reader.specs.declared.design.NetPin.TheVariants.{Cell, Port}

@@ -23,10 +23,12 @@ use Rattle.path_links.proofs.PathLists.{Has, has, flat_from, flat_has, filter_fr
 use Rattle.net_edit.proofs.Links.{has_get}
 use Rattle.plan_paths.specs.NewPaths.{Site, run_places, step_in}
 use Rattle.plan_paths.specs.Numbered.{PathNumbers}
-use Rattle.plan_paths.proofs.Places.{map_has, InRun, run_in, run_has, IsPlaceOf}
+use Rattle.path_links.proofs.NoTwice.{map_has}
+use Rattle.plan_paths.proofs.Places.{InRun, run_in, run_has, IsPlaceOf}
 use Rattle.plan_paths.proofs.UnitRuns.{read, read_units, read_in, spec_in, all_mapped}
 use Rattle.plan_paths.proofs.Arranged.{runs, specs, count, place_step, spec_step}
-use Rattle.traced_paths.specs.Numbers.{path_specs, step_spec, is_free_output, all_bits}
+use Rattle.path_numbers.specs.Numbers.{path_specs, step_spec, is_free_output}
+use Rattle.traced_paths.specs.Bits.{all_bits}
 use Rattle.traced_paths.specs.Traced.{steps_of, NameEntries}
 use Rattle.def_reader.specs.declared.design.EndText.{EndText}
 use Rattle.def_reader.specs.declared.design.EndText.TheVariants as end_texts

@@ -5,10 +5,9 @@ use Rattle.std.specs.Option.{option_or}
 use Rattle.std.proofs.lemmas.List.{get_or_default}
 use Rattle.std.proofs.lemmas.List.Folds.{list_any-append, find-append}
 use Rattle.base_types.proofs.TruthValues.{or_false, or_assoc}
-use Rattle.def_reader.proofs.RowsMore.{take_next}
+use Rattle.list_laws.proofs.RowsMore.{take_next, flat_next}
 use Rattle.chain_trace.specs.declared.path.Step.{Step}
 use Rattle.chain_trace.specs.declared.path.Path.{Path}
-use Rattle.def_reader.proofs.RowsMore.{flat_next}
 use Rattle.traced_paths.specs.Traced.{steps_of}
 
 or_cond : (a b : Bool) → cond b true a ≡ (a || b)

@@ -21,7 +21,7 @@ use Rattle.chain_trace.specs.Paths.{scan_path_at, out_pin_at}
 use Rattle.chain_trace.specs.Parities.{NamesEntry}
 use Rattle.path_links.proofs.PathLists.{Has, contains, From, flat_from}
 use Rattle.net_edit.proofs.NewAssigns.{index_has}
-use Rattle.traced_paths.specs.Numbers.{step_bits, path_bits, all_bits}
+use Rattle.traced_paths.specs.Bits.{step_bits, path_bits, all_bits}
 use Rattle.traced_paths.specs.Traced.{steps_of, NameEntries}
 use Rattle.def_reader.specs.declared.design.Component.{Component}
 use Rattle.def_reader.specs.declared.design.NetPin.{NetPin}

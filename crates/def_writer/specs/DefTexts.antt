@@ -13,7 +13,7 @@ use Rattle.chain_rules.specs.declared.unit.Rules.{Rules}
 use Rattle.chain_rules.specs.declared.plan.Plan.{Plan}
 use Rattle.plan_paths.specs.NewPaths.{new_paths}
 use Rattle.traced_paths.specs.Traced.{steps_of}
-use Rattle.traced_paths.specs.Numbers.{is_free_output}
+use Rattle.path_numbers.specs.Numbers.{is_free_output}
 use Rattle.net_edit.specs.Agreement.{AreMoved}
 use Rattle.def_reader.specs.declared.design.Component.{Component}
 use Rattle.def_reader.specs.declared.design.NetPin.{NetPin}

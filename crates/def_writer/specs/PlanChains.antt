@@ -19,7 +19,7 @@ use Rattle.chain_rules.specs.declared.plan.Plan.{Plan}
 use Rattle.chain_rules.specs.Legality.{unit_at, chain_at}
 use Rattle.chain_rules.specs.Stretches.{spec_at}
 use Rattle.plan_paths.specs.NewPaths.{run_places, step_in}
-use Rattle.traced_paths.specs.Numbers.{step_bits}
+use Rattle.traced_paths.specs.Bits.{step_bits}
 use Rattle.traced_paths.specs.Traced.{steps_of}
 use Rattle.def_writer.specs.Placing.{instance_name}
 use Rattle.def_edit.specs.declared.chains.NewElement.{NewElement}

@@ -2,7 +2,7 @@
 ghost use Rattle.std.specs.Prelude.{◌≡◌, ◌++◌, map, slice_get, IfOk, OnOk};
 ghost use Rattle.chain_trace.specs.Paths.{scan_path_at, out_pin_at};
 ghost use Rattle.def_writer.specs.Placing.{instance_name};
-ghost use Rattle.traced_paths.specs.Numbers.{step_bits};
+ghost use Rattle.traced_paths.specs.Bits.{step_bits};
 ghost use Rattle.def_writer.specs.PlanChains.{input_name, output_name, left_by, start_pin, stop_pin, element_of};
 
 use crate::traced::Traced;

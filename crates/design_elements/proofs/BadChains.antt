@@ -2,10 +2,9 @@
 use Rattle.std.proofs.Common.{◌≡◌, ℕ, ◌+◌, ◌<◌, ◌≤◌, ◌⊎◌, inl, inr, Bool, true, List, [], ◌∷◌, ◌++◌, length, get_or, take, Option, None, refl, sym, ap, ◌∙◌, subst, append_assoc}
 use Rattle.std.proofs.lemmas.List.{take_all}
 use Rattle.def_reader.specs.declared.design.ScanChainText.{ScanChainText}
-use Rattle.def_reader.specs.Steps.{IsLeast, lesser, line_if}
-use Rattle.def_reader.proofs.LeastLines.{same_least, either, alone}
-use Rattle.def_reader.proofs.Again.{split_last, nil_not}
-use Rattle.def_reader.proofs.RowsMore.{take_next}
+use Rattle.list_laws.specs.Leasts.{IsLeast, lesser, found_if}
+use Rattle.list_laws.proofs.LeastLines.{same_least, either, alone}
+use Rattle.list_laws.proofs.RowsMore.{split_last, nil_not, take_next}
 use Rattle.design_elements.specs.Judging.{IsBadChain}
 
 module _ (bad : List ScanChainText → ScanChainText → Bool) (chains : List ScanChainText) (chain : ScanChainText) where
@@ -31,17 +30,17 @@ module _ (bad : List ScanChainText → ScanChainText → Bool) (chains : List Sc
             )
       ]
 
-  bad_last : (r : Option ℕ) → IsLeast (IsBadChain bad chains) r → IsLeast (IsBadChain bad (chains ++ chain ∷ [])) (lesser r (line_if (bad chains chain) chain.line))
+  bad_last : (r : Option ℕ) → IsLeast (IsBadChain bad chains) r → IsLeast (IsBadChain bad (chains ++ chain ∷ [])) (lesser r (found_if (bad chains chain) chain.line))
   bad_last r least =
       same_least (λ n. IsBadChain bad chains n ⊎ ((bad chains chain ≡ true) × (n ≡ chain.line))) (IsBadChain bad (chains ++ chain ∷ [])) _ to_last from_last
-      (either (IsBadChain bad chains) (λ n. (bad chains chain ≡ true) × (n ≡ chain.line)) r (line_if (bad chains chain) chain.line) least (alone (bad chains chain) chain.line))
+      (either (IsBadChain bad chains) (λ n. (bad chains chain ≡ true) × (n ≡ chain.line)) r (found_if (bad chains chain) chain.line) least (alone (bad chains chain) chain.line))
 
 -- one chain more is looked at
 pub bad_next : (bad : List ScanChainText → ScanChainText → Bool) (chains : List ScanChainText) (i : ℕ) (chain : ScanChainText) (r : Option ℕ) (b : Bool) → i < length chains → chain ≡ get_or chains i chain → b ≡ bad (take i chains) chain
-    → IsLeast (IsBadChain bad (take i chains)) r → IsLeast (IsBadChain bad (take (i + 1) chains)) (lesser r (line_if b chain.line))
+    → IsLeast (IsBadChain bad (take i chains)) r → IsLeast (IsBadChain bad (take (i + 1) chains)) (lesser r (found_if b chain.line))
 bad_next bad chains i chain r b lt is same least =
-    subst (λ (t : Bool). IsLeast (IsBadChain bad (take (i + 1) chains)) (lesser r (line_if t chain.line))) (sym same)
-    (subst (λ (l : List ScanChainText). IsLeast (IsBadChain bad l) (lesser r (line_if (bad (take i chains) chain) chain.line))) (sym (take_next chains i chain lt is)) (bad_last bad (take i chains) chain r least))
+    subst (λ (t : Bool). IsLeast (IsBadChain bad (take (i + 1) chains)) (lesser r (found_if t chain.line))) (sym same)
+    (subst (λ (l : List ScanChainText). IsLeast (IsBadChain bad l) (lesser r (found_if (bad (take i chains) chain) chain.line))) (sym (take_next chains i chain lt is)) (bad_last bad (take i chains) chain r least))
 
 -- none is looked at
 pub bad_none : (bad : List ScanChainText → ScanChainText → Bool) → IsLeast (IsBadChain bad []) None

@@ -4,7 +4,7 @@ use Rattle.netlist_core.specs.declared.netlist.Netlist.{Netlist}
 use Rattle.cell_table.specs.Cells.{Cells}
 use Rattle.def_reader.specs.declared.design.ScanChainText.{ScanChainText}
 use Rattle.def_reader.specs.declared.design.Design.{Design}
-use Rattle.def_reader.proofs.RowsMore.{take_next}
+use Rattle.list_laws.proofs.RowsMore.{take_next}
 use Rattle.chain_rules.specs.declared.spec.ChainSpec.{ChainSpec}
 use Rattle.design_elements.specs.Elements.{chain_spec, specs_from}
 

@@ -3,7 +3,7 @@ use Rattle.std.proofs.Common.{◌≡◌, ℕ, ◌+◌, ◌<◌, min, nat_lt, eqb
 use Rattle.std.proofs.lemmas.Bool.Decides.{nat_tests}
 use Rattle.std.proofs.lemmas.List.Sums.{sum_by-append}
 use Rattle.def_reader.specs.declared.design.ScanChainText.{ScanChainText}
-use Rattle.def_reader.proofs.RowsMore.{take_next}
+use Rattle.list_laws.proofs.RowsMore.{take_next}
 use Rattle.design_elements.specs.CellPins.{elements_of}
 use Rattle.design_elements.specs.Faults.{element_count}
 

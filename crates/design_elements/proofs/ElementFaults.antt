@@ -8,7 +8,7 @@ use Rattle.def_reader.specs.declared.design.Component.{Component}
 use Rattle.def_reader.specs.declared.design.ScanChainText.{ScanChainText}
 use Rattle.def_reader.specs.declared.design.Design.{Design}
 use Rattle.def_reader.specs.Faults.{StandsAgain}
-use Rattle.def_reader.specs.Steps.{IsLeast}
+use Rattle.list_laws.specs.Leasts.{IsLeast}
 use Rattle.design_elements.specs.declared.judge.Judgement.TheVariants as judgements
 use Rattle.design_elements.specs.CellPins.{elements_of, cells_of}
 use Rattle.design_elements.specs.Faults.{is_unknown, is_unplaced, has_no_path, has_no_macro, has_other_bits, FailsIn, all_rows, element_count, AreTooMany, HoldsInElements, Unknown, Twice, Unplaced, Pin, Bits, Macro, TooMany}

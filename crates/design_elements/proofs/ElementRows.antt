@@ -11,7 +11,7 @@ use Rattle.def_reader.specs.declared.design.Component.{Component}
 use Rattle.def_reader.specs.declared.design.Element.{Element}
 use Rattle.def_reader.specs.declared.design.ElementList.{ElementList}
 use Rattle.def_reader.specs.Sound.{elements_in}
-use Rattle.def_reader.proofs.RowsMore.{filter_next, flat_next}
+use Rattle.list_laws.proofs.RowsMore.{filter_next, flat_next}
 use Rattle.design_elements.specs.CellPins.{CellPins, pins_of, path_number}
 use Rattle.design_elements.specs.Seen.{ElementKey, same_element, element_at, row_of}
 

@@ -9,8 +9,8 @@ use Rattle.def_reader.specs.declared.design.EndText.{EndText}
 use Rattle.def_reader.specs.declared.design.EndText.TheVariants.{Port, Cell}
 use Rattle.def_reader.specs.declared.design.ScanChainText.{ScanChainText}
 use Rattle.def_reader.specs.Sound.{elements_in}
-use Rattle.def_reader.specs.Steps.{IsLeast}
-use Rattle.def_reader.proofs.LeastLines.{same_least}
+use Rattle.list_laws.specs.Leasts.{IsLeast}
+use Rattle.list_laws.proofs.LeastLines.{same_least}
 use Rattle.design_elements.specs.CellPins.{CellPins, pins_of, start_pins, stop_pins, elements_of, cells_of}
 use Rattle.design_elements.specs.Faults.{FailsIn, AreTooMany, element_count}
 use Rattle.design_elements.specs.Judging.{IsBadChain}

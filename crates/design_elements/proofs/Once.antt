@@ -17,7 +17,7 @@ use Rattle.def_reader.specs.declared.design.Element.{Element}
 use Rattle.def_reader.specs.declared.design.ScanChainText.{ScanChainText}
 use Rattle.def_reader.specs.declared.design.Design.{Design}
 use Rattle.def_reader.specs.Faults.{StandsAgain}
-use Rattle.def_reader.proofs.Members.{contains_to, flat_to}
+use Rattle.list_laws.proofs.Members.{contains_to, flat_to}
 use Rattle.chain_rules.specs.declared.spec.StepSpec.{StepSpec}
 use Rattle.chain_rules.specs.declared.spec.PathSpec.{PathSpec}
 use Rattle.chain_rules.specs.declared.spec.ElementSpec.{ElementSpec}

@@ -15,7 +15,7 @@ use Rattle.def_reader.specs.declared.design.ElementList.TheVariants as texts
 use Rattle.def_reader.specs.declared.design.EndText.TheVariants as end_texts
 use Rattle.def_reader.specs.declared.design.ScanChainText.{ScanChainText}
 use Rattle.def_reader.specs.declared.design.Design.{Design}
-use Rattle.def_reader.proofs.LeastLines.{order}
+use Rattle.list_laws.proofs.LeastLines.{order}
 use Rattle.def_reader.specs.Sound.{IsSound, HasLists, elements_in as texts_in}
 use Rattle.chain_rules.specs.declared.spec.ElementSpec.{ElementSpec}
 use Rattle.chain_rules.specs.declared.spec.ChainSpec.{ChainSpec}

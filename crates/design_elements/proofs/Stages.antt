@@ -8,8 +8,8 @@ use Rattle.base_types.specs.declared.fault.Fault.{Fault}
 use Rattle.base_types.specs.declared.fault.FileKind.TheVariants.{Def}
 use Rattle.base_types.specs.declared.kind.Kind.{Kind}
 use Rattle.base_types.proofs.FirstFaults.{later}
-use Rattle.def_reader.specs.Steps.{IsLeast}
-use Rattle.def_reader.proofs.DesignFaults.{line_case}
+use Rattle.list_laws.specs.Leasts.{IsLeast}
+use Rattle.list_laws.proofs.LeastLines.{line_case}
 use Rattle.design_elements.specs.FirstOf.{fault_or, IsFirstIn}
 
 -- a fault of the kind, on a line of which this holds

@@ -2,12 +2,13 @@
 ghost use Rattle.std.specs.Prelude.{◌≡◌, ◌+◌, ◌<◌, nat_lt, min, length, [], ◌∷◌, ◌++◌};
 ghost use Rattle.std.specs.List.{flat_map};
 ghost use Rattle.def_reader.specs.Sound.{elements_in};
-ghost use Rattle.def_reader.specs.Steps.{IsLeast};
+ghost use Rattle.list_laws.specs.Leasts.{IsLeast};
 ghost use Rattle.design_elements.specs.Faults.{element_count};
 ghost use Rattle.design_elements.specs.Judging.{IsBadChain};
 
 use crate::pins::elements_in;
-use def_reader::{ElementList, ScanChainText, lesser, line_if};
+use def_reader::{ElementList, ScanChainText};
+use list_laws::{lesser, line_if};
 
 /// Beyond so many elements a count stays as it is.
 const ENOUGH: usize = 65_537;

@@ -2,15 +2,16 @@
 ghost use Rattle.std.specs.Prelude.{◌≡◌};
 ghost use Rattle.std.specs.List.{list_any};
 ghost use Rattle.def_reader.specs.Sound.{elements_in};
-ghost use Rattle.def_reader.specs.Steps.{IsLeast};
+ghost use Rattle.list_laws.specs.Leasts.{IsLeast};
 ghost use Rattle.design_elements.specs.CellPins.{start_pins, stop_pins};
 ghost use Rattle.design_elements.specs.Faults.{is_unplaced, has_other_bits, has_no_macro};
 ghost use Rattle.design_elements.specs.Judging.{pins_at, pins_fail, element_fails, chain_fails, IsBadChain};
 
 use crate::cells::Cells;
 use crate::pins::{Pins, elements_in, pins_of};
-use def_reader::{Element, ElementList, EndText, ScanChainText, lesser, line_if};
+use def_reader::{Element, ElementList, EndText, ScanChainText};
 use lef_pins::Macros;
+use list_laws::{lesser, line_if};
 
 /// What is judged of what a chain names.
 #[derive(Clone, Copy)]

@@ -1,6 +1,6 @@
 //! The chains of a design as numbers, or the first fault of what they name (LEF/DEF 5.8, SCANCHAINS).
 //!
-//! Floor: paths, on netlist_core, cell_table, lef_pins, def_reader, chain_rules and base_types.
+//! Floor: paths, on netlist_core, cell_table, lef_pins, def_reader, chain_rules, base_types and list_laws.
 //! Contract: `elements_of` gives the chains of `specs/Elements.antt`, and refuses exactly as `specs/Faults.antt` says. Begin with
 //! `elements.rt`.
 #![tactic(auto)]

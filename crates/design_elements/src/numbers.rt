@@ -5,8 +5,8 @@ ghost use Rattle.def_reader.specs.Agreement.{port_named};
 ghost use Rattle.design_elements.specs.Elements.{instance_number, port_number};
 
 use base_types::NoMemory;
-use def_reader::{ByName, Ports};
-use netlist_core::{Instance, Netlist};
+use def_reader::ByName;
+use netlist_core::{Instance, Netlist, Ports};
 use std::alloc::Global;
 use std::marker::Model;
 

@@ -4,7 +4,8 @@ ghost use Rattle.design_elements.specs.Elements.{partition_number};
 ghost use Rattle.design_elements.specs.Firsts.{AreFirsts};
 
 use base_types::{Name, NoMemory};
-use def_reader::{ScanChainText, add_place};
+use def_reader::ScanChainText;
+use netlist_core::add_place;
 use std::alloc::Global;
 use std::collections::HashMap;
 use std::marker::Model;

@@ -3,14 +3,15 @@ ghost use Rattle.std.specs.Prelude.{◌≡◌, ◌∷◌, ◌++◌, [], ℕ, Lis
 ghost use Rattle.std.specs.List.{filter_map, flat_map, cons_option};
 ghost use Rattle.def_reader.specs.Faults.{StandsAgain};
 ghost use Rattle.def_reader.specs.Sound.{elements_in};
-ghost use Rattle.def_reader.specs.Steps.{IsLeast};
+ghost use Rattle.list_laws.specs.Leasts.{IsLeast};
 ghost use Rattle.design_elements.specs.Faults.{element_rows, all_rows};
 ghost use Rattle.design_elements.specs.Seen.{IsSeenElements, row_of};
 
 use crate::cells::Cells;
 use crate::pins::{elements_in, pins_of};
 use base_types::NoMemory;
-use def_reader::{Element, ElementList, ScanChainText, lesser, line_if};
+use def_reader::{Element, ElementList, ScanChainText};
+use list_laws::{lesser, line_if};
 use std::alloc::Global;
 use std::collections::HashSet;
 

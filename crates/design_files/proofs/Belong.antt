@@ -29,7 +29,7 @@ use Rattle.chain_rules.proofs.Distinct.{Contains-concat}
 use Rattle.def_reader.specs.declared.design.Design.{Design}
 use Rattle.wire_cost.specs.Lengths.{AreWithin, IsPlanAt}
 use Rattle.traced_paths.specs.Traced.{NameEntries}
-use Rattle.traced_paths.specs.Numbers.{path_specs, path_spec}
+use Rattle.path_numbers.specs.Numbers.{path_specs, path_spec}
 use Rattle.design_elements.specs.Elements.{chain_specs}
 use Rattle.design_elements.specs.Laws.{AreOfInstances, ElementsLaw, OnceLaw, FewElementsLaw, FewChainsLaw}
 use Rattle.design_places.specs.Ends.{source_on, sink_on, point_or_origin}

@@ -17,12 +17,12 @@ use Rattle.def_reader.specs.Faults.{HoldsInDesign}
 use Rattle.def_reader.specs.Denoted.{DenotesDesign}
 use Rattle.def_reader.specs.Agreement.{HoldsInAgreement}
 use Rattle.chain_trace.specs.declared.path.Path.{Path}
-use Rattle.head_checks.specs.Asked.{asked_by, file_of}
+use Rattle.head_chains.specs.Asked.{asked_by, file_of}
 use Rattle.traced_paths.specs.Traced.{ArePathsOf, HoldsInPaths}
-use Rattle.traced_paths.specs.Numbers.{all_bits, HaveTooManyBits}
+use Rattle.traced_paths.specs.Bits.{all_bits, HaveTooManyBits}
 use Rattle.design_elements.specs.Faults.{HoldsInElements}
 use Rattle.design_places.specs.NetPins.{HoldsInNets}
-use Rattle.head_checks.specs.Heads.{HoldsInChains}
+use Rattle.head_chains.specs.Chains.{HoldsInChains}
 use Rattle.stil_types.specs.declared.head.StilHead.{StilHead}
 use Rattle.stil_head.specs.Faults.{HoldsInHead}
 use Rattle.design_files.specs.Files.{Texts}

@@ -21,7 +21,8 @@ use Rattle.chain_rules.specs.ChainFaults.{IsFaulty}
 use Rattle.traced_paths.specs.Traced.{HoldsInPaths, OfPort, OfCount, OfTrace, OfCell}
 use Rattle.design_elements.specs.Faults.{HoldsInElements, Unknown, Twice as ElementTwice, Unplaced, Pin, Bits, Macro as NoMacro, TooMany}
 use Rattle.design_places.specs.NetPins.{HoldsInNets, InPin, OutPin, AtPort}
-use Rattle.head_checks.specs.Heads.{HoldsInHeads, OfPort as OfScanIn, OfLength, OfInversion, OfCells, HoldsInChains, Undeclared}
+use Rattle.head_checks.specs.Heads.{HoldsInHeads, OfPort as OfScanIn, OfLength, OfInversion, OfCells}
+use Rattle.head_chains.specs.Chains.{HoldsInChains, Undeclared}
 use Rattle.stil_types.specs.declared.head.StilHead.{StilHead}
 use Rattle.stil_head.specs.Ends.{head_text}
 use Rattle.stil_head.specs.Faults.{HoldsInHead, HoldsInText, Syntax as HeadSyntax, Twice as HeadTwice, Barred}

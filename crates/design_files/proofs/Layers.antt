@@ -13,7 +13,8 @@ use Rattle.def_reader.specs.declared.design.Design.{Design}
 use Rattle.def_reader.specs.Faults.{HoldsInDesign}
 use Rattle.chain_trace.specs.declared.path.Path.{Path}
 use Rattle.chain_rules.specs.ChainFaults.{IsRefusal}
-use Rattle.traced_paths.specs.Numbers.{path_specs, HaveTooManyBits}
+use Rattle.path_numbers.specs.Numbers.{path_specs}
+use Rattle.traced_paths.specs.Bits.{HaveTooManyBits}
 use Rattle.design_elements.specs.Elements.{chain_specs}
 use Rattle.design_places.specs.NetPins.{HoldsInNets}
 use Rattle.design_places.specs.Ends.{HoldsInPlaces}

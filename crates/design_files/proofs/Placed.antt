@@ -18,7 +18,8 @@ use Rattle.chain_rules.specs.declared.spec.StepSpec.{StepSpec}
 use Rattle.chain_rules.specs.Stretches.{path_at, step_at, no_path as no_spec, no_step as no_step_spec, IsOf, IsPlace, StepsOnce}
 use Rattle.def_reader.specs.declared.design.Design.{Design}
 use Rattle.traced_paths.specs.Traced.{steps_of}
-use Rattle.traced_paths.specs.Numbers.{step_bits, path_bits, all_bits, step_spec, path_spec, path_specs}
+use Rattle.traced_paths.specs.Bits.{step_bits, path_bits, all_bits}
+use Rattle.path_numbers.specs.Numbers.{step_spec, path_spec, path_specs}
 
 -- a path without steps, and a step, read where a number is none's
 abbrev pub no_path : Path

@@ -15,14 +15,16 @@ use Rattle.def_reader.specs.Denoted.{DenotesDesign}
 use Rattle.def_reader.specs.Agreement.{HoldsInAgreement}
 use Rattle.chain_trace.specs.declared.path.Path.{Path}
 use Rattle.chain_rules.specs.ChainFaults.{IsRefusal}
-use Rattle.head_checks.specs.Asked.{asked_by, file_of}
+use Rattle.head_chains.specs.Asked.{asked_by, file_of}
 use Rattle.traced_paths.specs.Traced.{ArePathsOf, HoldsInPaths}
-use Rattle.traced_paths.specs.Numbers.{path_specs, HaveTooManyBits}
+use Rattle.path_numbers.specs.Numbers.{path_specs}
+use Rattle.traced_paths.specs.Bits.{HaveTooManyBits}
 use Rattle.design_elements.specs.Elements.{chain_specs}
 use Rattle.design_elements.specs.Faults.{HoldsInElements}
 use Rattle.design_places.specs.NetPins.{HoldsInNets}
 use Rattle.design_places.specs.Ends.{HoldsInPlaces}
-use Rattle.head_checks.specs.Heads.{HoldsInHeads, HoldsInChains}
+use Rattle.head_checks.specs.Heads.{HoldsInHeads}
+use Rattle.head_chains.specs.Chains.{HoldsInChains}
 use Rattle.stil_types.specs.declared.head.StilHead.{StilHead}
 use Rattle.stil_head.specs.Faults.{HoldsInHead}
 use Rattle.design_files.specs.Files.{Texts, AreRead, IsHeadIn}

@@ -15,7 +15,8 @@ use Rattle.wire_cost.specs.declared.ends.Ends.{Ends}
 use Rattle.wire_cost.specs.Lengths.{IsPlanAt}
 use Rattle.traced_paths.specs.Asked.{Asked}
 use Rattle.traced_paths.specs.Traced.{ArePathsOf, NameEntries}
-use Rattle.traced_paths.specs.Numbers.{all_bits, path_specs, step_count}
+use Rattle.traced_paths.specs.Bits.{all_bits}
+use Rattle.path_numbers.specs.Numbers.{path_specs, step_count}
 use Rattle.design_elements.specs.Elements.{chain_specs}
 use Rattle.design_elements.specs.Faults.{HoldsInElements}
 use Rattle.design_places.specs.Ends.{ends_of}

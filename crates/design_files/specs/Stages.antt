@@ -23,16 +23,18 @@ use Rattle.chain_rules.specs.declared.spec.PathSpec.{PathSpec}
 use Rattle.chain_rules.specs.declared.spec.ChainSpec.{ChainSpec}
 use Rattle.chain_rules.specs.ChainFaults.{IsRefusal}
 use Rattle.chain_rules.specs.Legality.{IsLegal}
-use Rattle.head_checks.specs.Asked.{asked_by, file_of}
+use Rattle.head_chains.specs.Asked.{asked_by, file_of}
 use Rattle.traced_paths.specs.Traced.{ArePathsOf, NameEntries, HoldsInPaths}
-use Rattle.traced_paths.specs.Numbers.{all_bits, path_specs}
+use Rattle.traced_paths.specs.Bits.{all_bits}
+use Rattle.path_numbers.specs.Numbers.{path_specs}
 use Rattle.design_elements.specs.Elements.{chain_specs}
 use Rattle.design_elements.specs.Faults.{HoldsInElements}
 use Rattle.design_places.specs.NetPins.{HoldsInNets}
 use Rattle.design_places.specs.Ends.{HoldsInPlaces, ends_of}
 use Rattle.chain_rules.specs.Rules.{AreRulesOf}
 use Rattle.wire_cost.specs.Lengths.{ArePlaced, IsPlanAt}
-use Rattle.head_checks.specs.Heads.{HoldsInHeads, HoldsInChains}
+use Rattle.head_checks.specs.Heads.{HoldsInHeads}
+use Rattle.head_chains.specs.Chains.{HoldsInChains}
 use Rattle.stil_types.specs.declared.head.StilHead.{StilHead}
 use Rattle.stil_head.specs.Faults.{HoldsInHead}
 use Rattle.design_files.specs.declared.read.DesignFiles.{DesignFiles}

@@ -2,14 +2,14 @@
 ghost use Rattle.std.specs.Prelude.{◌≡◌, ◌<◌, ◌^◌, length, option_map, IfOk, IfSome, IsSomeAnd};
 ghost use Rattle.base_types.specs.declared.fault.Fault.{Fault as ghost_fault};
 ghost use Rattle.base_types.specs.FirstFault.{IfFault};
-ghost use Rattle.head_checks.specs.Heads.{HoldsInChains};
+ghost use Rattle.head_chains.specs.Chains.{HoldsInChains};
 ghost use Rattle.design_files.specs.Files.{Texts};
 ghost use Rattle.design_files.specs.Faults.{IsFilesFault};
 ghost use Rattle.design_files.specs.Stages.{AreKnown, IsHeadKnown, DoAgree};
 
 use crate::files::Files;
 use base_types::ReadFault;
-use head_checks::check_chains;
+use head_chains::check_chains;
 use std::alloc::Global;
 use stil_head::read_head;
 use stil_types::StilHead;

@@ -2,7 +2,7 @@
 //!
 //! Floor: paths, on netlist_core, cell_table, lef_pins, verilog_checks, verilog_reader, def_syntax, def_reader,
 //! chain_trace, chain_rules, wire_cost, design_elements, traced_paths, design_places, head_checks, stil_types,
-//! stil_head and base_types.
+//! stil_head, base_types, head_chains and path_numbers.
 //! Contract: `read_design_files` gives what `specs/Stages.antt` says of the files, or the first fault of `specs/Faults.antt`.
 #![tactic(auto)]
 

@@ -6,7 +6,7 @@ ghost use Rattle.chain_rules.specs.Stretches.{AreChainSpecs};
 ghost use Rattle.chain_rules.specs.Legality.{IsLegal};
 ghost use Rattle.chain_rules.specs.Rules.{AreRulesOf};
 ghost use Rattle.wire_cost.specs.Lengths.{ArePlaced, IsPlanAt};
-ghost use Rattle.traced_paths.specs.Numbers.{path_specs};
+ghost use Rattle.path_numbers.specs.Numbers.{path_specs};
 ghost use Rattle.head_checks.specs.Heads.{HoldsInHeads};
 ghost use Rattle.design_elements.specs.Elements.{chain_specs};
 ghost use Rattle.design_places.specs.Ends.{HoldsInPlaces, ends_of};
@@ -19,8 +19,9 @@ use base_types::{Fault, Kind, ReadFault};
 use chain_rules::{PathSpec, Rules, units_of};
 use design_places::{check_nets, check_places, ends_of};
 use head_checks::check_heads;
+use path_numbers::path_specs;
 use std::alloc::Global;
-use traced_paths::{check_bits, path_specs};
+use traced_paths::check_bits;
 use wire_cost::Ends;
 
 /// Whether the cells of the paths are placed.

@@ -2,8 +2,8 @@
 use Rattle.std.proofs.Common.{◌≡◌, ℕ, zero, suc, ◌+◌, ◌<◌, ◌≤◌, ◌⊎◌, inl, inr, Bool, true, false, List, [], ◌∷◌, ◌++◌, length, get_or, take, Option, Some, None, Contains, refl, sym, subst, arith}
 use Rattle.std.proofs.lemmas.List.{take_more, take_all}
 use Rattle.std.proofs.lemmas.List.Elements.{Contains-append_left, Contains-append_right, Contains-append_cases}
-use Rattle.def_reader.specs.Steps.{IsLeast, lesser}
-use Rattle.def_reader.proofs.LeastLines.{same_least, either}
+use Rattle.list_laws.specs.Leasts.{IsLeast, lesser}
+use Rattle.list_laws.proofs.LeastLines.{same_least, either}
 use Rattle.design_places.specs.Lines.{ForOne, FailsAt}
 
 -- a line that counts, and none where it doesn't

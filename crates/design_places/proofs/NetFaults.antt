@@ -11,8 +11,8 @@ use Rattle.netlist_core.specs.declared.netlist.NetId.{NetId}
 use Rattle.chain_trace.specs.declared.path.Path.{Path}
 use Rattle.chain_trace.specs.declared.path.Sink.TheVariants as sinks
 use Rattle.chain_trace.specs.Faults.{sink_line}
-use Rattle.def_reader.specs.Steps.{IsLeast}
-use Rattle.def_reader.proofs.DesignFaults.{line_case}
+use Rattle.list_laws.specs.Leasts.{IsLeast}
+use Rattle.list_laws.proofs.LeastLines.{line_case}
 use Rattle.design_places.specs.NetPins.{lacks_port, HoldsInNets, InPin, OutPin, AtPort}
 use Rattle.design_places.specs.Lines.{ForOne, Traced, PathLacks}
 

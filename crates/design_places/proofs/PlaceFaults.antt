@@ -13,8 +13,8 @@ use Rattle.lef_pins.specs.Macros.{NamedMacros}
 use Rattle.chain_trace.specs.Faults.{line_of_instance}
 use Rattle.chain_trace.specs.declared.path.Path.{Path}
 use Rattle.def_reader.specs.declared.design.Design.{Design}
-use Rattle.def_reader.specs.Steps.{IsLeast}
-use Rattle.def_reader.proofs.DesignFaults.{line_case}
+use Rattle.list_laws.specs.Leasts.{IsLeast}
+use Rattle.list_laws.proofs.LeastLines.{line_case}
 use Rattle.design_places.specs.Ends.{HoldsInPlaces}
 use Rattle.design_places.specs.Lines.{ForOne, GoesNowhere}
 

@@ -1,8 +1,8 @@
 //! Traced paths in a placed design: whether their pins stand in its nets and their cells are placed, and where units and chains begin
 //! and end (LEF/DEF 5.8).
 //!
-//! Floor: paths, on netlist_core, cell_table, chain_trace, def_tokens, lef_pins, def_reader, chain_rules, wire_cost and
-//! base_types.
+//! Floor: paths, on netlist_core, cell_table, chain_trace, def_tokens, lef_pins, def_reader, chain_rules, wire_cost,
+//! base_types and list_laws.
 //! Contract: `check_nets` refuses exactly as `specs/NetPins.antt` says, `check_places` and `ends_of` answer by `specs/Ends.antt`. Begin
 //! with `ends.rt`.
 #![tactic(auto)]

@@ -2,7 +2,7 @@
 ghost use Rattle.std.specs.Prelude.{◌≡◌, option_map, Some, IfOk, OnOk, slice_get};
 ghost use Rattle.base_types.specs.declared.fault.Fault.{Fault};
 ghost use Rattle.base_types.specs.FirstFault.{IfFault, IsFirstFault};
-ghost use Rattle.def_reader.specs.Steps.{IsLeast};
+ghost use Rattle.list_laws.specs.Leasts.{IsLeast};
 ghost use Rattle.design_places.specs.NetPins.{is_alone, lacks_in_net, lacks_out_net, names_other, lacks_port, HoldsInNets};
 ghost use Rattle.design_places.specs.Lines.{ForOne, StepLacks, PortLacks, PathLacks};
 
@@ -12,7 +12,8 @@ use crate::lines::{in_verilog, step_line};
 use base_types::{Kind, Name, NoMemory, ReadFault};
 use cell_table::CellTable;
 use chain_trace::{Path, Sink, Step, out_pin, plain_of, scan_path, sink_line};
-use def_reader::{Design, DesignPin, Net, lesser};
+use def_reader::{Design, DesignPin, Net};
+use list_laws::lesser;
 use netlist_core::{NetId, Netlist};
 use std::alloc::Global;
 use std::collections::HashSet;

@@ -2,7 +2,7 @@
 ghost use Rattle.std.specs.Prelude.{◌≡◌, OnOk};
 ghost use Rattle.base_types.specs.declared.fault.Fault.{Fault};
 ghost use Rattle.base_types.specs.FirstFault.{IfFault, IsFirstFault};
-ghost use Rattle.def_reader.specs.Steps.{IsLeast};
+ghost use Rattle.list_laws.specs.Leasts.{IsLeast};
 ghost use Rattle.design_places.specs.Ends.{HoldsInPlaces};
 ghost use Rattle.design_places.specs.Lines.{ForOne, nowhere_in, IsNowhere, GoesNowhere};
 
@@ -12,8 +12,9 @@ use crate::lines::{in_verilog, step_line};
 use base_types::{Kind, ReadFault};
 use cell_table::CellTable;
 use chain_trace::{Path, Step};
-use def_reader::{Design, lesser};
+use def_reader::Design;
 use lef_pins::Macros;
+use list_laws::lesser;
 use netlist_core::Netlist;
 use std::alloc::Global;
 

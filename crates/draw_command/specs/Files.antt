@@ -4,9 +4,9 @@ use Rattle.netlist_core.specs.declared.netlist.Netlist.{Netlist}
 use Rattle.cell_table.specs.Cells.{Cells}
 use Rattle.chain_trace.specs.declared.path.Path.{Path}
 use Rattle.chain_rules.specs.Rules.{AreRulesOf}
-use Rattle.head_checks.specs.Asked.{asked_by}
+use Rattle.head_chains.specs.Asked.{asked_by}
 use Rattle.traced_paths.specs.Traced.{ArePathsOf}
-use Rattle.traced_paths.specs.Numbers.{path_specs}
+use Rattle.path_numbers.specs.Numbers.{path_specs}
 use Rattle.design_elements.specs.Elements.{chain_specs}
 use Rattle.lef_pins.specs.Macros.{NamedMacros}
 use Rattle.def_reader.specs.declared.design.Design.{Design}

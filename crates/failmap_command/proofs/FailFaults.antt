@@ -6,8 +6,8 @@ use Rattle.base_types.specs.declared.kind.Kind.TheVariants.{NotSame}
 use Rattle.base_types.specs.Faults.{number_of, at_line}
 use Rattle.base_types.specs.FirstFault.{ComesBefore, IsFirstFault}
 use Rattle.base_types.proofs.FirstFaults.{later, first_of}
-use Rattle.play_command.specs.Faults.{HoldsInPlay, Before, OfPatterns}
-use Rattle.play_command.proofs.PatternKinds.{before_early, pattern_late}
+use Rattle.declared_chains.specs.Faults.{HoldsInPlay, Before, OfPatterns}
+use Rattle.declared_chains.proofs.PatternKinds.{before_early, pattern_late}
 use Rattle.stil_tester.specs.Meaning.{Patterns}
 use Rattle.same_files.specs.Sets.{FileSet, IsFileSet}
 use Rattle.same_files.specs.Same.{AreSameFiles}

@@ -4,7 +4,7 @@ ghost use Rattle.base_types.specs.declared.fault.Fault.{Fault};
 ghost use Rattle.base_types.specs.FirstFault.{IfFault, IsFirstFault};
 ghost use Rattle.stil_tester.specs.Meaning.{AllAlike, AllShowSame};
 ghost use Rattle.stil_written.specs.Readings.{reading};
-ghost use Rattle.play_command.specs.Progress.{Fits};
+ghost use Rattle.declared_chains.specs.Files.{Fits};
 ghost use Rattle.same_files.specs.Sets.{ArePatternsOf, meant_by};
 ghost use Rattle.verify_command.specs.Steps.{AreSameSets};
 ghost use Rattle.fail_map.specs.declared.line.LogLine.{LogLine as GhostLine};

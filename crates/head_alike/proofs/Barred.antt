@@ -13,7 +13,7 @@ use Rattle.stil_blocks.specs.Statements.{start_of, has_word, behind_word, statem
 use Rattle.stil_blocks.specs.Callees.{begins_shift, holds_shift}
 use Rattle.stil_head.specs.declared.shift.InShift.{InShift}
 use Rattle.stil_head.specs.declared.shift.InShift.TheVariants.{Outside, Before, Inside}
-use Rattle.stil_head.specs.Leasts.{place_if}
+use Rattle.list_laws.specs.Leasts.{place_if}
 use Rattle.stil_head.specs.Unsupported.{top_words, begins_unlisted, is_unlisted, name_passes, names_one, calls_scan, is_barred, places_at, later_shifts, inner_shifts, assigns_behind, is_mark, has_mark, shift_at, shift_behind, is_outside, has_outer_mark, outer_marks, is_odd_shift, odd_shifts, scan_places, body_places, bodies_places, callee_places, later_places}
 use Rattle.head_alike.specs.Steps.{Step, Keep, Anew, olds, news, AreSteps}
 use Rattle.head_alike.proofs.Names.{behind_both}

@@ -15,7 +15,7 @@ use Rattle.stil_blocks.specs.declared.callee.ReadCallee.{ReadCallee}
 use Rattle.stil_blocks.specs.Statements.{statements_of, start_of, begins_word, has_word, behind_word, statements_in}
 use Rattle.stil_blocks.specs.Chains.{listed, structure_chains, chains_of, chain_in}
 use Rattle.stil_blocks.specs.Callees.{callee_at, block_callees, callees_of, names_within, statement_keywords, keywords_of}
-use Rattle.stil_head.specs.Leasts.{place_if}
+use Rattle.list_laws.specs.Leasts.{place_if}
 use Rattle.stil_head.specs.Faults.{ends_or_opens, begins_stil, is_stil, first_places, statement_faults, syntax_in, syntax_places}
 use Rattle.stil_head.specs.Twice.{again_in, chain_row, port_rows, callee_row, twice_among, twice_places}
 use Rattle.stil_head.specs.Unsupported.{is_unlisted, unlisted_in, unlisted_places, later_places, structures_again, out_length_places, scan_names, is_name_of, callee_places, bodies_places, places_in, unsupported_in, unsupported_places}

@@ -11,7 +11,7 @@ use Rattle.stil_syntax.specs.Shapes.{behind_labels}
 use Rattle.stil_blocks.specs.declared.chain.ReadChain.{ReadChain}
 use Rattle.stil_blocks.specs.Statements.{start_of, is_whole, begins_word, has_word, behind_word, opens, opens_behind, opens_named, opens_maybe_named, statements_in}
 use Rattle.stil_blocks.specs.Chains.{chain_at, listed, chain_in, structure_chains}
-use Rattle.stil_head.specs.Leasts.{place_if}
+use Rattle.list_laws.specs.Leasts.{place_if}
 use Rattle.stil_head.specs.Faults.{callee_faults, is_unread, is_read, is_bad, is_bad_item, item_places, block_faults, statement_faults}
 use Rattle.stil_head.specs.Unsupported.{out_length_places}
 use Rattle.stil_head.specs.Twice.{Row, again_in, chain_row, port_rows}

@@ -9,7 +9,7 @@ use Rattle.stil_syntax.specs.Shapes.{behind_labels}
 use Rattle.stil_blocks.specs.declared.callee.ReadCallee.{ReadCallee}
 use Rattle.stil_blocks.specs.Statements.{start_of, is_whole, is_worded, has_word, behind_word, opens_maybe_named, statements_in}
 use Rattle.stil_blocks.specs.Callees.{callee_at}
-use Rattle.stil_head.specs.Leasts.{place_if}
+use Rattle.list_laws.specs.Leasts.{place_if}
 use Rattle.stil_head.specs.Faults.{ends_or_opens, begins_stil, is_stil, is_unread, open_places, callee_faults, item_places, block_faults, is_read, is_bad, statement_faults}
 use Rattle.head_alike.specs.Steps.{Step, Keep, Anew, olds, news, AreSteps}
 use Rattle.head_alike.specs.Heads.{IsKept}

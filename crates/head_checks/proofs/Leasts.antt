@@ -1,11 +1,10 @@
 -- The least line on which a member fails a test.
 use Rattle.std.proofs.Common.{◌≡◌, ℕ, zero, suc, ◌+◌, ◌<◌, ◌≤◌, ◌⊎◌, inl, inr, Bool, true, List, [], ◌∷◌, ◌++◌, length, get_or, take, Option, None, Contains, refl, sym, ap, ap₂, ◌∙◌, subst, arith}
-use Rattle.std.proofs.lemmas.List.{take_more, take_all}
+use Rattle.std.proofs.lemmas.List.{take_more, take_all, get_or_default}
 use Rattle.std.proofs.lemmas.List.Elements.{Contains-append_left, Contains-append_right, Contains-append_cases}
-use Rattle.def_reader.specs.Steps.{IsLeast, lesser, line_if}
-use Rattle.def_reader.proofs.LeastLines.{same_least, either, alone}
+use Rattle.list_laws.specs.Leasts.{IsLeast, lesser, found_if}
+use Rattle.list_laws.proofs.LeastLines.{same_least, either, alone}
 use Rattle.std.specs.List.{zip}
-use Rattle.std.proofs.lemmas.List.{get_or_default}
 use Rattle.std.proofs.lemmas.Slice.Zip.{length-zip, get_or-zip}
 use Rattle.stil_types.specs.declared.head.ScanChainDecl.{ScanChainDecl}
 use Rattle.chain_trace.specs.declared.path.Path.{Path}
@@ -31,12 +30,12 @@ module _ {X : Type 0} (test : X → Bool) (line_of : X → ℕ) where
 
   -- one member more is looked at
   pub fails_more : (rows : List X) (i : ℕ) (row : X) (r : Option ℕ) → i < length rows → row ≡ get_or rows i row → IsLeast (FailsOn test line_of (take i rows)) r
-      → IsLeast (FailsOn test line_of (take (i + 1) rows)) (lesser r (line_if (test row) (line_of row)))
+      → IsLeast (FailsOn test line_of (take (i + 1) rows)) (lesser r (found_if (test row) (line_of row)))
   fails_more rows i row r lt is least =
       let more : take (i + 1) rows ≡ take i rows ++ row ∷ [] = take_more rows i row lt ∙ ap (λ (x : X). take i rows ++ x ∷ []) (sym is) in
-      subst (λ (l : List X). IsLeast (FailsOn test line_of l) (lesser r (line_if (test row) (line_of row)))) (sym more)
+      subst (λ (l : List X). IsLeast (FailsOn test line_of l) (lesser r (found_if (test row) (line_of row)))) (sym more)
       (same_least (λ n. FailsOn test line_of (take i rows) n ⊎ ((test row ≡ true) × (n ≡ line_of row))) (FailsOn test line_of (take i rows ++ row ∷ [])) _ (to_last (take i rows) row) (from_last (take i rows) row)
-      (either (FailsOn test line_of (take i rows)) (λ n. (test row ≡ true) × (n ≡ line_of row)) r (line_if (test row) (line_of row)) least (alone (test row) (line_of row))))
+      (either (FailsOn test line_of (take i rows)) (λ n. (test row ≡ true) × (n ≡ line_of row)) r (found_if (test row) (line_of row)) least (alone (test row) (line_of row))))
 
   -- none is looked at
   pub fails_none : IsLeast (FailsOn test line_of []) None
@@ -48,13 +47,13 @@ module _ {X : Type 0} (test : X → Bool) (line_of : X → ℕ) where
 
 -- one declaration more is looked at beside its path
 pub zip_turn : (test : Declared → Bool) (chains : List ScanChainDecl) (paths : List Path) (i : ℕ) (block other : ScanChainDecl) (path : Path) (fails : Bool) (least here next : Option ℕ)
-    → i < length chains → i < length paths → block ≡ get_or chains i block → path ≡ get_or paths i path → fails ≡ test (block, path) → here ≡ line_if fails (get_or chains i other).line → next ≡ lesser least here
+    → i < length chains → i < length paths → block ≡ get_or chains i block → path ≡ get_or paths i path → fails ≡ test (block, path) → here ≡ found_if fails (get_or chains i other).line → next ≡ lesser least here
     → IsLeast (FailsOn test line_of (take i (zip chains paths))) least → IsLeast (FailsOn test line_of (take (i + 1) (zip chains paths))) next
 zip_turn test chains paths i block other path fails least here next lt lp is at told line sum so =
     let long = length-zip chains paths in
     let row : (block, path) ≡ get_or (zip chains paths) i (block, path) = ap₂ (λ (a : ScanChainDecl) (b : Path). (a, b)) is at ∙ sym (get_or-zip chains paths i (block, path) lt lp) in
     let same : get_or chains i other ≡ block = get_or_default chains i other block lt ∙ sym is in
-    let value : lesser least (line_if (test (block, path)) block.line) ≡ next =
-    ap₂ (λ (b : Bool) (d : ScanChainDecl). lesser least (line_if b d.line)) (sym told) (sym same) ∙ ap (lesser least) (sym line) ∙ sym sum in
+    let value : lesser least (found_if (test (block, path)) block.line) ≡ next =
+    ap₂ (λ (b : Bool) (d : ScanChainDecl). lesser least (found_if b d.line)) (sym told) (sym same) ∙ ap (lesser least) (sym line) ∙ sym sum in
     subst (λ (r : Option ℕ). IsLeast (FailsOn test line_of (take (i + 1) (zip chains paths))) r) value
     (fails_more test line_of (zip chains paths) i (block, path) least (omega (arith, long)) row so)

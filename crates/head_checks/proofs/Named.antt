@@ -1,15 +1,14 @@
 -- Names beside the bits of a path, step by step.
 use Rattle.std.proofs.Common.{◌≡◌, ℕ, zero, suc, ◌+◌, ◌-◌, ◌<◌, ◌≤◌, ◌&&◌, Bool, true, false, List, [], ◌∷◌, ◌++◌, length, take, drop, replicate, get_or, refl, sym, ap, ap₂, ◌∙◌, arith}
-use Rattle.std.specs.List.{flat_map, list_all}
+use Rattle.std.specs.List.{flat_map, list_all, slice_get}
 use Rattle.std.proofs.lemmas.List.{drop_more, drop_all, drop-drop, length-drop}
 use Rattle.std.proofs.lemmas.Bool.{ne_eqb}
 use Rattle.std.proofs.Math.Dec.{eqb}
 use Rattle.chain_trace.proofs.Named.{eqb_same}
-use Rattle.std.specs.List.{slice_get}
 use Rattle.netlist_core.specs.declared.netlist.Netlist.{Netlist}
 use Rattle.cell_table.specs.Cells.{Cells}
 use Rattle.chain_trace.specs.declared.path.Step.{Step}
-use Rattle.traced_paths.specs.Numbers.{step_bits}
+use Rattle.traced_paths.specs.Bits.{step_bits}
 use Rattle.head_checks.specs.CellNames.{names_cell, name_each}
 use Rattle.head_checks.specs.Heads.{name_of, step_names}
 

@@ -1,11 +1,11 @@
--- Which declarations of a STIL head don't fit the paths of a netlist, and which chains of a design it doesn't declare.
-use Rattle.std.specs.Prelude.{◌≡◌, ℕ, Bool, true, false, ◌||◌, not, ◌==◌, List, [], replicate, Contains, Option, Some, None, is_some}
+-- Which declarations of a STIL head don't fit the paths of a netlist.
+use Rattle.std.specs.Prelude.{◌≡◌, ℕ, Bool, true, false, not, ◌==◌, List, [], replicate, Contains, Option, Some, None, is_some}
 use Rattle.std.specs.List.{flat_map, list_any, slice_get, zip}
 use Rattle.std.specs.Str.{bytes_eq}
 use Rattle.base_types.specs.Faults.{at_line}
 use Rattle.base_types.specs.declared.fault.Fault.{Fault}
-use Rattle.base_types.specs.declared.fault.FileKind.TheVariants.{Def, Stil}
-use Rattle.base_types.specs.declared.kind.Kind.TheVariants.{ChainUndeclared, WrongPort, LengthDiffers, InversionDiffers, CellsDiffer}
+use Rattle.base_types.specs.declared.fault.FileKind.TheVariants.{Stil}
+use Rattle.base_types.specs.declared.kind.Kind.TheVariants.{WrongPort, LengthDiffers, InversionDiffers, CellsDiffer}
 use Rattle.netlist_core.specs.declared.netlist.Instance.{Instance}
 use Rattle.netlist_core.specs.declared.netlist.Netlist.{Netlist}
 use Rattle.netlist_core.specs.Netlists.{plain_of}
@@ -13,13 +13,9 @@ use Rattle.cell_table.specs.Cells.{Cells}
 use Rattle.chain_trace.specs.declared.path.Path.{Path}
 use Rattle.chain_trace.specs.declared.path.Step.{Step}
 use Rattle.chain_trace.specs.Parities.{plus, path_parity}
-use Rattle.def_reader.specs.declared.design.EndText.{EndText}
-use Rattle.def_reader.specs.declared.design.EndText.TheVariants.{Port, Cell}
-use Rattle.def_reader.specs.declared.design.ScanChainText.{ScanChainText}
-use Rattle.def_reader.specs.declared.design.Design.{Design}
 use Rattle.stil_types.specs.declared.head.ScanChainDecl.{ScanChainDecl}
 use Rattle.stil_types.specs.declared.head.StilHead.{StilHead}
-use Rattle.traced_paths.specs.Numbers.{step_bits, path_bits}
+use Rattle.traced_paths.specs.Bits.{step_bits, path_bits}
 use Rattle.head_checks.specs.CellNames.{name_each}
 
 -- a declaration and the path of its ScanOut
@@ -86,21 +82,3 @@ pub data HoldsInHeads (n : Netlist) (cells : Cells) (paths : List Path) (head : 
   OfLength : (line : ℕ) → FailsOn (has_other_length n cells) line_of (zip head.chains paths) line → HoldsInHeads n cells paths head (at_line LengthDiffers Stil line)
   OfInversion : (line : ℕ) → FailsOn (has_other_inversion n cells) line_of (zip head.chains paths) line → HoldsInHeads n cells paths head (at_line InversionDiffers Stil line)
   OfCells : (line : ℕ) → FailsOn (lists_others n cells (are_listed head.chains)) line_of (zip head.chains paths) line → HoldsInHeads n cells paths head (at_line CellsDiffer Stil line)
-
--- the port at START PIN is no declared ScanIn
-abbrev pub starts_undeclared : List ScanChainDecl → EndText → Bool
-starts_undeclared chains (Port name) = not (list_any (λ c. bytes_eq c.scan_in name) chains)
-starts_undeclared chains (Cell component pin) = false
-
--- the port at STOP PIN is no declared ScanOut
-abbrev pub stops_undeclared : List ScanChainDecl → EndText → Bool
-stops_undeclared chains (Port name) = not (list_any (λ c. bytes_eq c.scan_out name) chains)
-stops_undeclared chains (Cell component pin) = false
-
--- a chain of the design begins or ends at a port that the head doesn't declare
-abbrev pub is_undeclared : List ScanChainDecl → ScanChainText → Bool
-is_undeclared chains c = starts_undeclared chains c.start || stops_undeclared chains c.stop
-
--- what may be wrong with the chains of a design beside a head
-pub data HoldsInChains (d : Design) (head : StilHead) : Fault → Type 0 where
-  Undeclared : (line : ℕ) → FailsOn (is_undeclared head.chains) (λ c. c.line) d.chains line → HoldsInChains d head (at_line ChainUndeclared Def line)

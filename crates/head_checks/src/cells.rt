@@ -3,24 +3,14 @@ ghost use Rattle.std.specs.Prelude.{◌≡◌, ◌≤◌, length, map, IfOk};
 ghost use Rattle.std.specs.List.{flat_map, list_all, slice_get};
 ghost use Rattle.head_checks.specs.CellNames.{counted, within, names_cell, name_each};
 ghost use Rattle.head_checks.specs.Heads.{name_of, step_names, bit_names, differ};
-ghost use Rattle.traced_paths.specs.Numbers.{step_bits};
 
 use crate::names::CellName;
 use base_types::{Name, NoMemory, Rows};
 use cell_table::CellTable;
-use chain_trace::{Path, Step, scan_path};
+use chain_trace::{Path, Step};
 use netlist_core::Netlist;
 use std::alloc::Global;
-
-/// How many bits a step has.
-pub(crate) fn step_bits(netlist: &Netlist, table: &CellTable, step: Step) -> usize
-    ensures value { result ≡ step_bits netlist.now table.now step }
-{
-    match scan_path(netlist, table, step.instance, step.path) {
-        Some(path) => path.bits.as_slice().len(),
-        None => 0,
-    }
-}
+use traced_paths::step_bits;
 
 /// The name of an instance; none where there is no such instance.
 fn name_of(netlist: &Netlist, instance: u32) -> &[u8]

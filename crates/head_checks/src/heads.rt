@@ -6,14 +6,14 @@ ghost use Rattle.base_types.specs.declared.fault.FileKind.TheVariants.{Stil as s
 ghost use Rattle.base_types.specs.declared.fault.ReadFault.TheVariants.{Fault as refused};
 ghost use Rattle.base_types.specs.FirstFault.{IfFault, IsFirstFault};
 ghost use Rattle.std.specs.List.{zip};
-ghost use Rattle.def_reader.specs.Steps.{IsLeast};
+ghost use Rattle.list_laws.specs.Leasts.{IsLeast};
 ghost use Rattle.head_checks.specs.Heads.{FailsOn, line_of, HoldsInHeads, are_listed};
 
 use crate::tests::{OtherCells, OtherInversion, OtherLength, OtherPort, Test};
 use base_types::{Fault, FileKind, Kind, NoMemory, ReadFault};
 use cell_table::CellTable;
 use chain_trace::Path;
-use def_reader::{lesser, line_if};
+use list_laws::{lesser, line_if};
 use netlist_core::Netlist;
 use std::alloc::Global;
 use stil_types::{ScanChainDecl, StilHead};

@@ -1,12 +1,12 @@
 //! The parity and the length of a path.
 ghost use Rattle.std.specs.Prelude.{◌≡◌, ◌==◌};
 ghost use Rattle.chain_trace.specs.Parities.{plus, odd, step_inversions, path_parity};
-ghost use Rattle.traced_paths.specs.Numbers.{path_bits};
+ghost use Rattle.traced_paths.specs.Bits.{path_bits};
 
-use crate::cells::step_bits;
 use cell_table::CellTable;
 use chain_trace::{Path, Step, out_pin, scan_path};
 use netlist_core::Netlist;
+use traced_paths::step_bits;
 
 /// The sum modulo 2.
 pub(crate) fn plus(a: bool, b: bool) -> bool

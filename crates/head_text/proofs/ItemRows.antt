@@ -13,7 +13,7 @@ use Rattle.stil_syntax.specs.Shapes.{closes_nothing, in_block, is_empty, body_st
 use Rattle.stil_blocks.specs.declared.chain.ReadChain.{ReadChain}
 use Rattle.stil_blocks.specs.Statements.{start_of, is_whole, has_word, statements_in}
 use Rattle.stil_blocks.specs.Chains.{chain_at, listed, chain_in, structure_chains}
-use Rattle.stil_head.specs.Leasts.{place_if}
+use Rattle.list_laws.specs.Leasts.{place_if}
 use Rattle.stil_head.specs.Faults.{is_bad_item, item_places}
 use Rattle.head_alike.specs.Steps.{Step, olds, news, AreSteps}
 use Rattle.head_alike.specs.Heads.{IsOther, IsChain, AreItems}

@@ -16,7 +16,7 @@ use Rattle.stil_blocks.specs.declared.chain.ReadChain.{ReadChain}
 use Rattle.stil_blocks.specs.Statements.{statements_of, has_word, statements_in}
 use Rattle.stil_blocks.specs.Chains.{chain_in, chains_of}
 use Rattle.stil_head.specs.Faults.{first_places, statement_faults, syntax_in}
-use Rattle.stil_head.specs.Leasts.{place_if}
+use Rattle.list_laws.specs.Leasts.{place_if}
 use Rattle.stil_head.specs.Unsupported.{later_places, unlisted_places, out_length_places, structures_again, unsupported_places}
 use Rattle.stil_head.specs.Heads.{IsHead}
 use Rattle.head_alike.specs.Steps.{Step, Keep, Anew, olds, news, AreSteps}

@@ -12,7 +12,7 @@ use Rattle.stil_syntax.specs.Shapes.{closes_nothing, is_empty}
 use Rattle.stil_blocks.specs.declared.chain.ReadChain.{ReadChain}
 use Rattle.stil_blocks.specs.Statements.{start_of, is_whole, is_worded, has_word, statements_in}
 use Rattle.stil_blocks.specs.Chains.{chain_in, structure_chains}
-use Rattle.stil_head.specs.Leasts.{place_if}
+use Rattle.list_laws.specs.Leasts.{place_if}
 use Rattle.stil_head.specs.Faults.{callee_faults, is_unread, is_read, is_bad, item_places, block_faults, statement_faults}
 use Rattle.stil_head.specs.Unsupported.{later_places}
 use Rattle.head_alike.specs.Steps.{Step, olds, news, AreSteps}

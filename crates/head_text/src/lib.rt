@@ -2,7 +2,7 @@
 //! other byte as it was.
 //!
 //! Floor: writers, on base_types, token_forms, splice, stil_tokens, stil_types, stil_parts, stil_syntax, stil_blocks,
-//! stil_head and head_alike.
+//! stil_head, head_alike and list_laws.
 //! Contract: `specs/Written.antt` says what is written, and the law of `specs/Laws.antt` what the written text denotes. Begin with
 //! `laws.rt`.
 #![tactic(auto)]

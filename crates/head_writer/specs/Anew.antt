@@ -13,7 +13,7 @@ use Rattle.def_reader.specs.declared.design.Design.{Design}
 use Rattle.stil_types.specs.declared.head.StilHead.{StilHead}
 use Rattle.stil_head.specs.Ends.{head_text}
 use Rattle.head_checks.specs.Heads.{HoldsInHeads}
-use Rattle.path_chains.specs.Along.{HaveSameInstances}
+use Rattle.chain_maps.specs.Along.{HaveSameInstances}
 use Rattle.head_alike.specs.Heads.{AllSayAs}
 use Rattle.head_text.specs.Written.{declared}
 use Rattle.head_writer.specs.Fits.{FitsPaths, AreNewFor, chains_for}

@@ -13,9 +13,9 @@ use Rattle.stil_types.specs.declared.head.ScanChainDecl.{ScanChainDecl}
 use Rattle.stil_types.specs.declared.head.StilHead.{StilHead}
 use Rattle.stil_head.specs.Ends.{head_text}
 use Rattle.stil_head.specs.Heads.{IsHead, DenotesHead}
-use Rattle.head_checks.specs.Asked.{asked_by}
+use Rattle.head_chains.specs.Asked.{asked_by}
 use Rattle.traced_paths.specs.Traced.{ArePathsOf, NameEntries}
-use Rattle.traced_paths.specs.Numbers.{all_bits}
+use Rattle.traced_paths.specs.Bits.{all_bits}
 use Rattle.head_checks.specs.Heads.{HoldsInHeads}
 use Rattle.path_chains.specs.Numbered.{bits_along, HaveBits}
 use Rattle.head_text.specs.Written.{NewChain, name_read, name_texts}

@@ -2,8 +2,8 @@
 //! byte as it was.
 //!
 //! Floor: writers, on base_types, token_forms, splice, chain_trace, stil_types, stil_tokens, stil_syntax, stil_blocks,
-//! head_text, netlist_core, cell_table, path_links, net_edit, plan_paths, def_reader, stil_parts, stil_head,
-//! traced_paths, head_checks, path_chains, path_laws and head_alike.
+//! head_text, netlist_core, cell_table, path_links, net_edit, def_reader, stil_parts, stil_head, traced_paths,
+//! head_checks, path_chains, path_laws, head_alike, chain_maps and head_chains.
 //! Contract: `stil_head` gives the text that `written_head` of head_text says, for the chains that `specs/NewChains.antt` says. Begin
 //! with `head.rt`.
 #![tactic(auto)]

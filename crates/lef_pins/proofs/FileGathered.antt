@@ -11,11 +11,12 @@ use Rattle.lef_pins.specs.declared.file.FileReading.{FileReading}
 use Rattle.lef_pins.specs.declared.macros.Macro.{Macro as macro_value}
 use Rattle.lef_pins.specs.declared.macros.MacroPin.{MacroPin}
 use Rattle.lef_pins.specs.Blocks.{name_of, is_closed, Block, MacroItem, FileItem, Macro, Passed}
-use Rattle.lef_pins.specs.Faults.{NamedBlock, place_if, unclosed, syntax_in_items, is_size_item, unsized, syntax_in_macro, numbers_in_macro, again_in, pin_rows, macro_rows, macros_of, pins_again, syntax_places, number_places, twice_places}
+use Rattle.lef_pins.specs.Faults.{NamedBlock, unclosed, syntax_in_items, is_size_item, unsized, syntax_in_macro, numbers_in_macro, again_in, pin_rows, macro_rows, macros_of, pins_again, syntax_places, number_places, twice_places}
+use Rattle.list_laws.specs.Leasts.{place_if, lesser, least_of, found_if}
 use Rattle.lef_pins.specs.Macros.{NamedMacros, macro_at}
 use Rattle.lef_pins.specs.Denoted.{macro_of, size_from, origin_from}
-use Rattle.lef_pins.specs.Reading.{gathered, lesser, least_of, found_if, with_syntax, put_macro_item, macro_start, macro_read, put_macro, put_file_item, file_start}
-use Rattle.lef_pins.proofs.Leasts.{lesser_none, then_more, then_list, then_place}
+use Rattle.lef_pins.specs.Reading.{gathered, with_syntax, put_macro_item, macro_start, macro_read, put_macro, put_file_item, file_start}
+use Rattle.list_laws.proofs.Leasts.{lesser_none, then_more, then_list, then_place}
 use Rattle.lef_pins.proofs.Gathered.{macro_sized, macro_syntax, macro_number, macro_size, macro_origin, macro_pins}
 use Rattle.lef_pins.proofs.TwiceNames.{SameNames, with_more, macro_twice, has_macro-added, macro_added}
 

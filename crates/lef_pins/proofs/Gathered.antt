@@ -12,10 +12,12 @@ use Rattle.lef_pins.specs.declared.blocks.MacroReading.{MacroReading}
 use Rattle.lef_pins.specs.declared.macros.MacroPin.{MacroPin}
 use Rattle.lef_pins.specs.Blocks.{name_of, is_closed, Block, PinItem, Port, OfPin, MacroItem, Pin, Shapes, OfMacro}
 use Rattle.lef_pins.specs.Statements.{start_of, is_read_rect, rect_values, is_bad_rect, is_far_rect, is_bad, is_far}
-use Rattle.lef_pins.specs.Faults.{place_if, syntax_in_port, syntax_in_pin_item, syntax_in_pin, syntax_in_item, syntax_in_items, is_size_item, numbers_in_port, numbers_in_pin_item, numbers_in_item}
+use Rattle.list_laws.specs.Leasts.{place_if, lesser, least_of, found_if}
+use Rattle.lef_pins.specs.Faults.{syntax_in_port, syntax_in_pin_item, syntax_in_pin, syntax_in_item, syntax_in_items, is_size_item, numbers_in_port, numbers_in_pin_item, numbers_in_item}
 use Rattle.lef_pins.specs.Denoted.{port_rect, item_rect, pin_rect, pins_of, size_from, origin_from}
-use Rattle.lef_pins.specs.Reading.{gathered, lesser, least_of, found_if, with_syntax, with_number, with_twice, put_rect, put_pin_item, put_statement, put_pin, put_macro_item}
-use Rattle.lef_pins.proofs.Leasts.{lesser_none, least_if, then_list, then_place, all_places, unchanged}
+use Rattle.lef_pins.specs.Reading.{gathered, with_syntax, with_number, with_twice, put_rect, put_pin_item, put_statement, put_pin, put_macro_item}
+use Rattle.list_laws.proofs.Leasts.{lesser_none, least_if, then_list, then_place}
+use Rattle.lef_pins.proofs.Leasts.{all_places, unchanged}
 
 -- ports
 

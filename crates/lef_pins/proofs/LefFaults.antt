@@ -19,10 +19,11 @@ use Rattle.lef_pins.specs.Blocks.{name_of, FileItem, IsLef}
 use Rattle.lef_pins.specs.Faults.{macros_of, syntax_places, number_places, twice_places, HoldsInLef, Syntax, Number, Twice}
 use Rattle.lef_pins.specs.Macros.{NamedMacros}
 use Rattle.lef_pins.specs.Denoted.{macro_of, DenotesMacros}
-use Rattle.lef_pins.specs.Reading.{gathered, lesser, least_of, put_file_item, file_start}
+use Rattle.lef_pins.specs.Reading.{gathered, put_file_item, file_start}
+use Rattle.list_laws.specs.Leasts.{lesser, least_of}
 use Rattle.lef_pins.specs.declared.file.FileReading.{FileReading}
 use Rattle.lef_pins.proofs.Trees.{lef_law, only_lef_law}
-use Rattle.lef_pins.proofs.Leasts.{IsLeastPlace, least_place, no_places, none_there}
+use Rattle.list_laws.proofs.Leasts.{IsLeastPlace, least_place, no_places, none_there}
 use Rattle.lef_pins.proofs.FileGathered.{file_syntax, file_number, file_twice, file_macros}
 
 -- a later place is on no earlier line

@@ -12,8 +12,9 @@ use Rattle.lef_pins.specs.declared.blocks.MacroReading.{MacroReading}
 use Rattle.lef_pins.specs.Blocks.{name_of, Block, PinItem, MacroItem, Pin, Shapes, OfMacro}
 use Rattle.lef_pins.specs.Faults.{again_in, pin_rows}
 use Rattle.lef_pins.specs.Macros.{NamedMacros, macro_at, with_macro}
-use Rattle.lef_pins.specs.Reading.{gathered, lesser, least_of, found_if, with_name, with_syntax, with_number, with_twice, put_pin, put_statement, put_macro_item}
-use Rattle.lef_pins.proofs.Leasts.{lesser_none, then_more}
+use Rattle.lef_pins.specs.Reading.{gathered, with_name, with_syntax, with_number, with_twice, put_pin, put_statement, put_macro_item}
+use Rattle.list_laws.specs.Leasts.{lesser, least_of, found_if}
+use Rattle.list_laws.proofs.Leasts.{lesser_none, then_more}
 use Rattle.lef_pins.proofs.Gathered.{or_false, pin_twice}
 
 or_comm_false : (a b : Bool) → (a || (b || false)) ≡ (a || b)

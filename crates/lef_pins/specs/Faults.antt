@@ -13,10 +13,6 @@ use Rattle.def_tokens.specs.DefTokens.{tokens_in}
 use Rattle.lef_pins.specs.Blocks.{name_of, Block, is_closed, PinItem, Port, OfPin, MacroItem, Pin, Shapes, OfMacro, FileItem, Macro, Passed, IsLef}
 use Rattle.lef_pins.specs.Statements.{start_of, begins_size, is_bad_rect, is_bad, is_far_rect, is_far}
 
--- a place, where a test holds
-abbrev pub place_if : Bool → ℕ → List ℕ
-place_if holds place = if holds then place ∷ [] else []
-
 -- the first token of a block that isn't closed
 abbrev pub unclosed : {I : Type 0} → Block I → List ℕ
 unclosed b = place_if (not (is_closed b)) b.mark.start

@@ -4,6 +4,7 @@ use Rattle.std.specs.Prelude.{ℕ, ◌==◌, Bool, false, ◌||◌, not, if◌th
 use Rattle.std.specs.List.{list_any}
 use Rattle.std.specs.Option.{option_or}
 use Rattle.std.specs.Str.{bytes_eq}
+use Rattle.list_laws.specs.Leasts.{lesser, found_if}
 use Rattle.token_forms.specs.Tokens.{Token}
 use Rattle.lef_pins.specs.declared.least.Least.{Least}
 use Rattle.lef_pins.specs.declared.pins.PinReading.{PinReading}
@@ -22,21 +23,6 @@ gathered put state (i ∷ is) = gathered put (put state i) is
 -- a block goes on: a token stands first, and not the block's END
 unfoldable pub goes_on : (List Token → Bool) → List Token → Bool
 goes_on ends ts = not (length ts == 0 || ends ts)
-
--- the lesser of two places, as far as there are any
-abbrev pub lesser : Option ℕ → Option ℕ → Option ℕ
-lesser None b = b
-lesser (Some a) None = Some a
-lesser (Some a) (Some b) = Some (min a b)
-
--- the least of some places
-abbrev pub least_of : List ℕ → Option ℕ
-least_of [] = None
-least_of (p ∷ ps) = lesser (Some p) (least_of ps)
-
--- a place, where it counts
-abbrev pub found_if : Bool → ℕ → Option ℕ
-found_if counts place = if counts then Some place else None
 
 -- the least places so far, and one more of a kind, where it counts
 unfoldable pub with_syntax : Least → Bool → ℕ → Least

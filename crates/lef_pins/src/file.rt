@@ -18,11 +18,12 @@ ghost use Rattle.def_tokens.specs.DefTokens.{tokens_in};
 use crate::blocks::{MacroReading, read_macro};
 use crate::cuts::outer_len;
 use crate::ends::begins_named;
-use crate::least::{Least, found_if, lesser};
+use crate::least::Least;
 use crate::macros::Macros;
 use crate::stretch::Stretch;
 use base_types::{Fault, FileKind, Kind, Lines, NoMemory, ReadFault, plain_name};
 use def_tokens::def_tokens;
+use list_laws::{found_if, lesser_place};
 use std::alloc::Global;
 
 /// What is read of a file: the least places of faults so far, that of a macro name which stood before, and the macros.
@@ -68,7 +69,7 @@ impl FileReading {
         let again = self
             .macros
             .add(Vec::from_slice(alloc, name)?, m.into_macro())?;
-        self.again = lesser(self.again, found_if(again, place));
+        self.again = lesser_place(self.again, found_if(again, place));
         Ok(())
     }
 }
@@ -149,7 +150,7 @@ pub fn read_macros(alloc: Global, bytes: &[u8]) -> Result<Macros, ReadFault>
     if let Some(place) = file.least.number {
         return Err(fault_at(bytes, Kind::LefNumber, place));
     }
-    if let Some(place) = lesser(file.least.twice, file.again) {
+    if let Some(place) = lesser_place(file.least.twice, file.again) {
         return Err(fault_at(bytes, Kind::LefTwice, place));
     }
     Ok(file.macros)

@@ -1,24 +1,8 @@
 //! The least places of faults.
 ghost use Rattle.std.specs.Prelude.{◌≡◌};
-ghost use Rattle.lef_pins.specs.Reading.{lesser, found_if, with_syntax, with_number, with_twice};
+ghost use Rattle.lef_pins.specs.Reading.{with_syntax, with_number, with_twice};
 
-/// The lesser of two places, as far as there are any.
-pub(crate) fn lesser(a: Option<u32>, b: Option<u32>) -> Option<u32>
-    ensures value { result ≡ lesser a b }
-{
-    match (a, b) {
-        (Some(a), Some(b)) => Some(a.min(b)),
-        (Some(a), None) => Some(a),
-        (None, b) => b,
-    }
-}
-
-/// The place, where it counts.
-pub(crate) fn found_if(counts: bool, place: u32) -> Option<u32>
-    ensures value { result ≡ found_if counts place }
-{
-    if counts { Some(place) } else { None }
-}
+use list_laws::{found_if, lesser_place};
 
 /// The least place of each kind of fault so far.
 #[derive(Clone, Copy)]
@@ -35,7 +19,7 @@ impl Least {
         ensures value { result ≡ with_syntax self bad place }
     {
         Least {
-            syntax: lesser(self.syntax, found_if(bad, place)),
+            syntax: lesser_place(self.syntax, found_if(bad, place)),
             number: self.number,
             twice: self.twice,
         }
@@ -48,7 +32,7 @@ impl Least {
     {
         Least {
             syntax: self.syntax,
-            number: lesser(self.number, found_if(far, place)),
+            number: lesser_place(self.number, found_if(far, place)),
             twice: self.twice,
         }
     }
@@ -61,7 +45,7 @@ impl Least {
         Least {
             syntax: self.syntax,
             number: self.number,
-            twice: lesser(self.twice, found_if(again, place)),
+            twice: lesser_place(self.twice, found_if(again, place)),
         }
     }
 }

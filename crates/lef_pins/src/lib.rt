@@ -1,6 +1,6 @@
 //! The macros of a LEF as far as places need them, and where a placed pin stands (LEF/DEF 5.8).
 //!
-//! Floor: readers, on base_types, token_forms, def_tokens and `indexmap`.
+//! Floor: readers, on base_types, token_forms, def_tokens, list_laws and `indexmap`.
 //! Contract: `read_macros` gives what `specs/Denoted.antt` says a LEF denotes, and refuses exactly as `specs/Faults.antt` says;
 //! `turn` and `pin_place` answer exactly the places of `specs/Places.antt`, over whole numbers of any size. Begin with
 //! `file.rt`.

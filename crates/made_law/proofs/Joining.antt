@@ -3,7 +3,7 @@ use Rattle.std.proofs.Common.{◌≡◌, ℕ, ◌≤◌, List, length, take, Opt
 use Rattle.std.proofs.lemmas.Option.{same_Some}
 use Rattle.stil_parts.specs.declared.part.PartFault.{PartFault}
 use Rattle.stil_head.specs.Heads.{DenotesHead}
-use Rattle.play_command.specs.Files.{IsHeadText}
+use Rattle.declared_chains.specs.Files.{IsHeadText}
 use Rattle.design_maker.specs.MadeStil.{stil_text}
 use Rattle.made_law.specs.Checks.MadeBlocks as blocks
 use Rattle.made_law.proofs.files.Files.{head_files_right}

@@ -3,8 +3,8 @@ use Rattle.std.specs.Prelude.{ℕ, ◌≤◌, List}
 use Rattle.base_types.specs.declared.fault.Fault.{Fault}
 use Rattle.design_files.specs.Files.{with_head}
 use Rattle.design_files.specs.Faults.{HoldsInFiles}
-use Rattle.play_command.specs.Files.{IsHeadText}
-use Rattle.play_command.specs.Faults.{IsPatternFault}
+use Rattle.declared_chains.specs.Files.{IsHeadText}
+use Rattle.declared_chains.specs.Faults.{IsPatternFault}
 use Rattle.design_maker.specs.MadeStil.{stil_text}
 use Rattle.made_law.specs.Files.Laws.{made_texts}
 

@@ -2,3 +2,4 @@ pub mod Netlists
 pub mod Joining
 pub mod Forests
 pub mod Kept
+pub mod Places

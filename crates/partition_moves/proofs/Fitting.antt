@@ -12,7 +12,7 @@ use Rattle.chain_rules.specs.declared.unit.Rules.{Rules}
 use Rattle.chain_rules.specs.declared.unit.Unit.{Unit as MovedUnit}
 use Rattle.chain_rules.proofs.Concats.{before, behind, concat_at}
 use Rattle.chain_rules.proofs.Steps.{with_chain_same}
-use Rattle.chain_rules.proofs.Totals.{counted-cons, sum_by-map}
+use Rattle.list_laws.proofs.Totals.{counted-cons, sum_by-map}
 use Rattle.order_search.specs.Trials.{at}
 use Rattle.order_search.proofs.Legal.{chain_few}
 use Rattle.partition_moves.proofs.Spared.{chain_within_spare, roomy_still}

@@ -11,7 +11,7 @@ use Rattle.std.proofs.lemmas.List.Sums.{sum_by-append}
 use Rattle.chain_rules.specs.Legality.{IsLegal, chain_at, partition_of, rule_at}
 use Rattle.chain_rules.specs.declared.plan.Plan.{Plan}
 use Rattle.chain_rules.specs.declared.unit.Rules.{Rules}
-use Rattle.chain_rules.proofs.Totals.{counted-cons}
+use Rattle.list_laws.proofs.Totals.{counted-cons}
 use Rattle.partition_moves.specs.Roomy.{AreRoomyFor, AreSpares, AreSparesOf, spare_from, spare_in}
 
 -- One chain more

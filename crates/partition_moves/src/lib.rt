@@ -1,6 +1,6 @@
 //! Settles plans for all steps: reversed runs, units moved to another place, and units of two chains exchanged.
 //!
-//! Floor: planning, on chain_rules, wire_cost, order_search and base_types.
+//! Floor: planning, on chain_rules, wire_cost, order_search, base_types and list_laws.
 //! Contract: a settled plan is what `order_search/specs/Steps.antt` says. Begin with `settle.rt`.
 #![tactic(auto)]
 

@@ -26,7 +26,7 @@ use Rattle.chain_trace.specs.Parities.{bits_in, entry_marks}
 use Rattle.path_links.proofs.PathLists.{Has, has, contains, flat_from}
 use Rattle.path_links.proofs.PathLinks.{once}
 use Rattle.net_edit.specs.Rearranged.{steps_of}
-use Rattle.plan_paths.proofs.Places.{NoTwice}
+use Rattle.path_links.proofs.NoTwice.{NoTwice}
 use Rattle.path_chains.specs.Numbered.{bits_of_paths, IsNumbering}
 use Rattle.path_chains.specs.Ranked.{name_of, key_of, key_cmp, comes_before, rank_of}
 use Rattle.path_chains.proofs.Cells.{step_bits, all_of_steps, bits_once, bit_of}

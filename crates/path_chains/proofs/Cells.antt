@@ -20,7 +20,7 @@ use Rattle.path_links.proofs.PathLinks.{Once, once}
 use Rattle.net_edit.specs.Rearranged.{steps_of}
 use Rattle.stil_tester.specs.Shifting.{numbers_of, IsChain, AreChains}
 use Rattle.retarget.specs.Retargeting.{HaveSameCells}
-use Rattle.plan_paths.proofs.Places.{NoTwice, no_twice_flat, map_has}
+use Rattle.path_links.proofs.NoTwice.{NoTwice, no_twice_flat, map_has}
 use Rattle.path_chains.specs.Numbered.{bits_along, bits_of_paths, IsNumbering, chain_of, chains_of, HaveBits}
 
 -- bits of marks

@@ -7,7 +7,7 @@ use Rattle.std.proofs.lemmas.Bool.{false≢true}
 use Rattle.std.proofs.lemmas.Cmp.{ranked}
 use Rattle.std.proofs.lemmas.List.Sums.{sum_by-cons, count_by-le-length}
 use Rattle.path_links.proofs.PathLists.{Has}
-use Rattle.plan_paths.proofs.Places.{NoTwice}
+use Rattle.path_links.proofs.NoTwice.{NoTwice}
 
 -- of two members one comes before the other, or they are the same
 abbrev pub Meet : {X : Type 0} → (X → X → Bool) → List X → Type 0

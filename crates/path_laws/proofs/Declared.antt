@@ -9,7 +9,7 @@ use Rattle.stil_tester.specs.Shifting.{AreChains, bit_counts}
 use Rattle.path_chains.specs.Numbered.{bits_along, bits_of_paths, chain_of}
 use Rattle.path_chains.specs.Ranked.{bits_of_all, rank_of, chains_along}
 use Rattle.path_chains.proofs.Cells.{same_cells}
-use Rattle.path_chains.proofs.Along.{map_twice, rank, ranked_are}
+use Rattle.path_chains.proofs.RankedChains.{map_twice, rank, ranked_are}
 use Rattle.path_chains.proofs.BitRanks.{ranks_number}
 use Rattle.path_laws.specs.Laws.{DeclaredLaw}
 use Rattle.path_laws.proofs.Lengths.{lengths, have_bits}
@@ -24,9 +24,9 @@ bits_each n cells ps =
       same (q ∷ qs) = ap₂ (λ (x : ℕ) (xs : List ℕ). x ∷ xs) (length-map (bits_along n cells q).bits (rank_of n (bits_of_all (map (bits_along n cells) ps)))) (same qs)
 
 pub declared : DeclaredLaw
-declared text head n cells d paths is netlist traced entries none =
-    let bits = have_bits text head n cells d paths is traced entries none in
-    let same = lengths text head n cells d paths is traced entries none in
+declared text head n cells paths is netlist traced entries none =
+    let bits = have_bits text head n cells paths is traced entries none in
+    let same = lengths text head n cells paths is traced entries none in
     let stand = traced.once in
     let numbering = ranks_number n cells paths netlist stand in
     let cells_same = same_cells n cells (rank n cells paths) (length (bits_of_paths n cells paths)) paths paths refl stand stand (λ s. (λ h. h, λ h. h)) bits bits numbering in

@@ -16,14 +16,13 @@ use Rattle.chain_trace.specs.declared.path.Step.{Step}
 use Rattle.chain_trace.specs.declared.path.Path.{Path}
 use Rattle.chain_trace.specs.Paths.{scan_path_at, out_pin_at}
 use Rattle.chain_trace.specs.Parities.{Mark, Turn, Bit, bit_marks, entry_marks, step_marks, path_marks, bits_in, NamesEntry}
-use Rattle.def_reader.specs.declared.design.Design.{Design}
 use Rattle.stil_types.specs.declared.head.ScanChainDecl.{ScanChainDecl}
 use Rattle.stil_types.specs.declared.head.StilHead.{StilHead}
 use Rattle.stil_head.specs.Heads.{DenotesHead}
 use Rattle.stil_head.proofs.Declared.{some_bits}
-use Rattle.head_checks.specs.Asked.{asked_by}
+use Rattle.head_checks.specs.Asked.{asked_by_head}
 use Rattle.traced_paths.specs.Traced.{ArePathsOf, NameEntries}
-use Rattle.traced_paths.specs.Numbers.{length_of, step_bits, path_bits}
+use Rattle.traced_paths.specs.Bits.{length_of, step_bits, path_bits}
 use Rattle.head_checks.specs.Heads.{Declared, has_other_length, line_of, HoldsInHeads, OfLength}
 use Rattle.path_chains.specs.Numbered.{bits_along, HaveBits}
 use Rattle.path_laws.proofs.Outputs.{head_outputs}
@@ -96,18 +95,18 @@ module _ (n : Netlist) (cells : Cells) where
       All-cons (λ (p : Path). 1 ≤ path_bits n cells p) p ps (omega arith) (some_in cs ps rest (All-tail (λ (c : ScanChainDecl). 1 ≤ c.length) c cs some))
 
 -- as many paths as declarations
-paths_count : (n : Netlist) (cells : Cells) (text : List ℕ) (d : Option Design) (head : StilHead) (paths : List Path)
-    → DenotesHead text head → ArePathsOf n cells (asked_by d (Some head)) paths → length head.chains ≡ length paths
-paths_count n cells text d head paths is are =
-    sym (length-map head.chains (λ (c : ScanChainDecl). c.scan_out)) ∙ ap length (sym (head_outputs text d head is)) ∙ ap length (sym are.outputs)
+paths_count : (n : Netlist) (cells : Cells) (text : List ℕ) (head : StilHead) (paths : List Path)
+    → DenotesHead text head → ArePathsOf n cells (asked_by_head head) paths → length head.chains ≡ length paths
+paths_count n cells text head paths is are =
+    sym (length-map head.chains (λ (c : ScanChainDecl). c.scan_out)) ∙ ap length (sym (head_outputs text head is)) ∙ ap length (sym are.outputs)
     ∙ length-map paths (λ (p : Path). plain_of n.nets p.output)
 
 -- the lengths are those declared, and each path has a bit
-module _ (text : List ℕ) (head : StilHead) (n : Netlist) (cells : Cells) (d : Option Design) (paths : List Path) (is : DenotesHead text head) (traced : ArePathsOf n cells (asked_by d (Some head)) paths)
+module _ (text : List ℕ) (head : StilHead) (n : Netlist) (cells : Cells) (paths : List Path) (is : DenotesHead text head) (traced : ArePathsOf n cells (asked_by_head head) paths)
     (entries : NameEntries n cells paths) (none : (fault : Fault) → HoldsInHeads n cells paths head fault → ⊥) where
   are_lengths : map (path_bits n cells) paths ≡ lengths_of head.chains
   are_lengths =
-      lengths_in n cells head.chains paths (paths_count n cells text d head paths is traced)
+      lengths_in n cells head.chains paths (paths_count n cells text head paths is traced)
       (λ k x lt h. none _
       (OfLength (line_of (slice_index_or (zip head.chains paths) k x))
       (record { row = slice_index_or (zip head.chains paths) k x; there = Contains-get_or (zip head.chains paths) k x lt; fails = h; is = refl })))

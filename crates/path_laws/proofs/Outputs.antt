@@ -2,13 +2,12 @@
 use Rattle.std.proofs.Common.{◌≡◌, ℕ, Bool, false, cond, List, [], ◌∷◌, map, Option, Some, None, refl, ap, ◌∙◌}
 use Rattle.std.specs.List.{list_any, filter_map}
 use Rattle.std.specs.Str.{bytes_eq}
-use Rattle.def_reader.specs.declared.design.Design.{Design}
 use Rattle.stil_types.specs.declared.head.ScanChainDecl.{ScanChainDecl}
 use Rattle.stil_types.specs.declared.head.StilHead.{StilHead}
 use Rattle.stil_head.specs.Heads.{DenotesHead}
 use Rattle.stil_head.proofs.Declared.{AreNew, new_outs}
 use Rattle.traced_paths.specs.Asked.{Asked, once_behind, outputs_of}
-use Rattle.head_checks.specs.Asked.{asked_by, asked_by_block}
+use Rattle.head_checks.specs.Asked.{asked_by_block, asked_by_head}
 
 kept_first : (before names : List (List ℕ)) (name : List ℕ) → list_any (bytes_eq name) before ≡ false → once_behind before (name ∷ names) ≡ name ∷ once_behind (name ∷ before) names
 unfolding once_behind
@@ -27,12 +26,7 @@ named_outs : (cs : List ScanChainDecl) → filter_map (λ (a : Asked). a.output)
 named_outs [] = refl
 named_outs (c ∷ cs) = ap (λ (names : List (List ℕ)). c.scan_out ∷ names) (named_outs cs)
 
--- a head asks by its blocks, whatever stands beside it
-asked_blocks : (d : Option Design) (head : StilHead) → asked_by d (Some head) ≡ map asked_by_block head.chains
-asked_blocks None head = refl
-asked_blocks (Some d) head = refl
-
 -- the outputs are the ScanOuts of its chains
-pub head_outputs : (text : List ℕ) (d : Option Design) (head : StilHead) → DenotesHead text head → outputs_of (asked_by d (Some head)) ≡ map (λ (c : ScanChainDecl). c.scan_out) head.chains
-head_outputs text d head is =
-    ap outputs_of (asked_blocks d head) ∙ ap (once_behind []) (named_outs head.chains) ∙ all_kept [] (map (λ (c : ScanChainDecl). c.scan_out) head.chains) (new_outs text head is)
+pub head_outputs : (text : List ℕ) (head : StilHead) → DenotesHead text head → outputs_of (asked_by_head head) ≡ map (λ (c : ScanChainDecl). c.scan_out) head.chains
+head_outputs text head is =
+    ap (once_behind []) (named_outs head.chains) ∙ all_kept [] (map (λ (c : ScanChainDecl). c.scan_out) head.chains) (new_outs text head is)

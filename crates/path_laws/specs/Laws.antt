@@ -5,10 +5,9 @@ use Rattle.netlist_core.specs.declared.netlist.Netlist.{Netlist}
 use Rattle.netlist_core.specs.Netlists.{IsNetlist}
 use Rattle.cell_table.specs.Cells.{Cells}
 use Rattle.chain_trace.specs.declared.path.Path.{Path}
-use Rattle.def_reader.specs.declared.design.Design.{Design}
 use Rattle.stil_types.specs.declared.head.StilHead.{StilHead}
 use Rattle.stil_head.specs.Heads.{DenotesHead}
-use Rattle.head_checks.specs.Asked.{asked_by}
+use Rattle.head_checks.specs.Asked.{asked_by_head}
 use Rattle.traced_paths.specs.Traced.{ArePathsOf, NameEntries}
 use Rattle.head_checks.specs.Heads.{HoldsInHeads}
 use Rattle.path_chains.specs.Numbered.{bits_along, HaveBits}
@@ -24,6 +23,6 @@ pub record AreDeclared (n : Netlist) (cells : Cells) (head : StilHead) (paths : 
 
 -- the paths that a head asks for are as it declares them, where its checks refused nothing
 abbrev pub DeclaredLaw : Type 0
-DeclaredLaw = (text : List ℕ) (head : StilHead) (n : Netlist) (cells : Cells) (d : Option Design) (paths : List Path)
-    → DenotesHead text head → IsNetlist n → ArePathsOf n cells (asked_by d (Some head)) paths → NameEntries n cells paths
+DeclaredLaw = (text : List ℕ) (head : StilHead) (n : Netlist) (cells : Cells) (paths : List Path)
+    → DenotesHead text head → IsNetlist n → ArePathsOf n cells (asked_by_head head) paths → NameEntries n cells paths
     → ((fault : Fault) → HoldsInHeads n cells paths head fault → ⊥) → AreDeclared n cells head paths

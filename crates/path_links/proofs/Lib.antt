@@ -6,6 +6,7 @@ pub mod EditKeys
 pub mod EditPlaces
 pub mod EditEach
 pub mod EditNetlist
+pub mod NoTwice
 pub mod PathLists
 pub mod PathLinks
 pub mod PathSame

@@ -27,7 +27,7 @@ use Rattle.stil_blocks.specs.declared.chain.ReadChain.{ReadChain}
 use Rattle.stil_blocks.specs.Statements.{statements_of, start_of, is_whole, has_word, behind_word, is_end, opens, statements_in}
 use Rattle.stil_blocks.specs.Chains.{length_at, sole_name, port_at, inversion_at, cells_at, cells_span, clause_by, further_clause, word_clause, unlabelled_clause, clause_of, no_parts, once, put_clause, whole_chain, parts_of, block_chain, named_chain, chain_at, listed, chain_in, structure_chains, chains_of}
 use Rattle.stil_head.specs.Ends.{head_text}
-use Rattle.stil_head.specs.Leasts.{place_if}
+use Rattle.list_laws.specs.Leasts.{place_if}
 use Rattle.stil_head.specs.Twice.{Row, again_in, chain_row, port_rows}
 use Rattle.stil_head.proofs.Rows.{one_name}
 use Rattle.stil_writer.specs.Calls.{is_plain, ports_of, AreOnce, ArePorts}

@@ -4,7 +4,7 @@
 //!
 //! Floor: tests, on pattern_warnings, row_forms, token_forms, cell_table, netlist_core, chain_trace, verilog_reader,
 //! def_reader, stil_types, stil_tokens, stil_syntax, stil_head, stil_calls, stil_reader, stil_stream, stil_tester,
-//! retarget, scan_verify, fail_map, head_checks, same_files, verify_command, base_types and `anyhow`.
+//! retarget, scan_verify, fail_map, head_checks, same_files, verify_command, base_types, head_chains and `anyhow`.
 //! The words are the names of the files of rows, of which `row_forms` says the form.
 #![tactic(auto)]
 

@@ -19,7 +19,8 @@ use Rattle.chain_rules.proofs.Distinct.{distinct_from_permutation, Contains-conc
 use Rattle.path_links.proofs.PathLists.{Has, has, contains, has_left, has_split}
 use Rattle.net_edit.proofs.Links.{has_get}
 use Rattle.plan_paths.specs.NewPaths.{Site}
-use Rattle.plan_paths.proofs.Places.{NoTwice, range_in, range_has, InRun, InRange, AreRuns}
+use Rattle.path_links.proofs.NoTwice.{NoTwice, range_in, range_has}
+use Rattle.plan_paths.proofs.Places.{InRun, InRange, AreRuns}
 
 -- numbers of lists of lists
 

@@ -1,9 +1,4 @@
-pub mod Chains
-pub mod FaultKinds
-pub mod Faults
 pub mod Lengths
-pub mod PatternKinds
 pub mod Played
 pub mod Sayings
 pub mod Statements
-pub mod WholeFaults

@@ -14,7 +14,7 @@ use Rattle.stil_calls.specs.Statements.{AreAccepted, IsAcceptedIn}
 use Rattle.stil_tester.specs.declared.chains.Chains.{Chains}
 use Rattle.stil_tester.specs.Runs.{Event, Tells, Shifts, Begins, Reads, Ends, IsEventFor, AreStatementsFor, bytes_in, run_of, round_of, times_over, events_in, events_of}
 use Rattle.stil_tester.proofs.Rounds.{events_in-append}
-use Rattle.play_command.specs.Progress.{Fits}
+use Rattle.declared_chains.specs.Files.{Fits}
 
 module _ (head : StilHead) (chains : Chains) (fits : Fits head chains) where
   abbrev Fit : List Event → Type 0

@@ -1,5 +1,3 @@
-pub mod Faults
 pub mod Files
 pub mod Plays
 pub mod Progress
-pub mod Stages

@@ -1,19 +1,17 @@
 -- How far a play has come, and what a saying of the text makes of it.
 use Rattle.std.specs.Prelude.{◌≡◌, ℕ, ◌+◌, suc, List, [], ◌∷◌, ◌++◌, length, replicate}
 use Rattle.stil_types.specs.declared.head.StilHead.{StilHead}
-use Rattle.stil_calls.specs.Scans.{bits_of}
 use Rattle.stil_reader.specs.Sayings.{Saying, Head, GapByte, Named, Stated}
 use Rattle.stil_tester.specs.declared.symbol.Symbol.{Symbol}
 use Rattle.stil_tester.specs.declared.symbol.Symbol.TheVariants.{Zero}
 use Rattle.stil_tester.specs.declared.chains.Chains.{Chains}
-use Rattle.stil_tester.specs.Shifting.{AreChains, bit_counts}
 use Rattle.stil_tester.specs.Runs.{play_of, verdicts_of}
 use Rattle.chain_trace.specs.declared.path.Path.{Path}
 use Rattle.netlist_core.specs.declared.netlist.Netlist.{Netlist}
 use Rattle.cell_table.specs.Cells.{Cells}
 use Rattle.play_command.specs.declared.device.DeviceKind.{DeviceKind}
 use Rattle.play_command.specs.Plays.{behaviour, pattern_line, scan_lines, cells_line, play_text}
-use Rattle.play_command.specs.Files.{AreTraced, chains_along}
+use Rattle.declared_chains.specs.Files.{AreTraced, chains_along}
 
 -- the head beside which patterns are read; the chains and the device; the cells; how many scan calls were run in the Pattern that is
 -- open; and the lines that were said
@@ -24,11 +22,6 @@ pub record Progress : Type 0 where
   pub cells : List Symbol
   pub scans : ℕ
   pub lines : List ℕ
-
--- the calls of the head's patterns fit the chains
-pub record Fits (head : StilHead) (chains : Chains) : Type 0 where
-  pub chains_are : AreChains chains
-  pub counts : bit_counts chains ≡ bits_of head.chains
 
 -- nothing was said: all cells are 0
 abbrev pub at_first : StilHead → Chains → DeviceKind → Progress

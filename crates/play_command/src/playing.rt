@@ -5,13 +5,13 @@ ghost use Rattle.base_types.specs.FirstFault.{IfFault, IsFirstFault};
 ghost use Rattle.stil_calls.specs.Statements.{AreAccepted};
 ghost use Rattle.stil_types.specs.Statements.{IsPlaced};
 ghost use Rattle.stil_reader.specs.Sayings.{Stated};
-ghost use Rattle.play_command.specs.Faults.{HoldsBeforePatterns};
+ghost use Rattle.declared_chains.specs.Faults.{HoldsBeforePatterns};
 ghost use Rattle.play_command.specs.Progress.{IsSetUp, after_saying, finished, opened};
 
-use crate::declared::read_declared;
 use crate::device::DeviceKind;
 use crate::lines::{push_cells, push_pattern, push_scans};
 use base_types::{Name, NoMemory, ReadFault, Text, plain_name};
+use declared_chains::read_declared;
 use std::alloc::Global;
 use std::marker::Model;
 use stil_reader::{PatternStatement, StilHead};
@@ -34,7 +34,8 @@ pub struct Playing {
 
 impl Model for Playing {
     ghost use Rattle.std.specs.Prelude.{◌≡◌, ◌≤◌, length};
-    ghost use Rattle.play_command.specs.Progress.{Progress, Fits};
+    ghost use Rattle.play_command.specs.Progress.{Progress};
+    ghost use Rattle.declared_chains.specs.Files.{Fits};
 
     ghost Value = { Progress };
 

@@ -22,7 +22,7 @@ use Rattle.net_edit.proofs.Links.{HasPair, change_from, has_get}
 use Rattle.plan_paths.specs.NewPaths.{absent_path, path_in, new_path, new_paths}
 use Rattle.plan_paths.specs.Numbered.{PathNumbers}
 use Rattle.plan_paths.proofs.Arranged.{last_steps, spec_free}
-use Rattle.traced_paths.specs.Numbers.{is_free_output, path_specs}
+use Rattle.path_numbers.specs.Numbers.{is_free_output, path_specs}
 use Rattle.reorder_command.specs.Reordered.{is_free_port}
 use Rattle.reorder_command.proofs.Numbered.{numbers}
 

@@ -24,7 +24,8 @@ use Rattle.net_edit.specs.Wires.{AreEditsFor, IsErasedAlike, names_of}
 use Rattle.plan_paths.specs.NewPaths.{new_paths}
 use Rattle.plan_paths.specs.Laws.{ReadOffLaw}
 use Rattle.traced_paths.specs.Traced.{NameEntries}
-use Rattle.traced_paths.specs.Numbers.{path_specs, all_bits}
+use Rattle.path_numbers.specs.Numbers.{path_specs}
+use Rattle.traced_paths.specs.Bits.{all_bits}
 use Rattle.design_elements.specs.Elements.{chain_specs}
 use Rattle.design_places.specs.NetPins.{HoldsInNets}
 use Rattle.def_writer.specs.Placing.{placing, PlacingLaw}

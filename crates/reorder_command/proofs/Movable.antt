@@ -13,7 +13,7 @@ use Rattle.chain_trace.specs.declared.path.PathBits.{PathBits}
 use Rattle.chain_rules.specs.Plans.{PlanLists}
 use Rattle.stil_types.specs.declared.head.StilHead.{StilHead}
 use Rattle.stil_head.specs.Ends.{head_text}
-use Rattle.head_checks.specs.Asked.{asked_by}
+use Rattle.head_chains.specs.Asked.{asked_by}
 use Rattle.traced_paths.specs.Traced.{ArePathsOf}
 use Rattle.head_checks.specs.Heads.{HoldsInHeads}
 use Rattle.stil_reader.proofs.Heads.{head_within}
@@ -22,7 +22,8 @@ use Rattle.stil_tester.specs.Shifting.{bit_counts}
 use Rattle.retarget.specs.Retargeting.{HaveSameCells}
 use Rattle.path_chains.specs.Numbered.{bits_along}
 use Rattle.path_chains.specs.Ranked.{ranked_chains, chains_along}
-use Rattle.path_chains.specs.Along.{RearrangedLaw}
+use Rattle.chain_maps.specs.Along.{RearrangedLaw}
+use Rattle.head_chains.proofs.ByBlocks.{by_blocks}
 use Rattle.path_laws.specs.Laws.{AreDeclared, DeclaredLaw}
 use Rattle.head_text.specs.Written.{head_edits, written_head}
 use Rattle.head_text.specs.Laws.{TextLaw}
@@ -45,7 +46,7 @@ module _ (n : Netlist) (cells : Cells) (d : Option Design) (paths new : List Pat
   new_bits = map (bits_along n cells) new
 
   declared : DeclaredLaw → AreDeclared n cells head paths
-  declared law = let f = movable.fits in law bytes head n cells d paths f.denotes f.netlist f.traced f.entries f.right
+  declared law = let f = movable.fits in law bytes head n cells paths f.denotes f.netlist (by_blocks n cells d head paths f.traced) f.entries f.right
 
   pub same_cells : DeclaredLaw → RearrangedLaw → HaveSameCells (chains_along n cells paths) (chains_along n cells new)
   same_cells declared_law law = law n cells paths new movable.fits.netlist movable.anew.rearranged movable.fits.traced.once (declared declared_law).bits movable.anew.bits

@@ -22,10 +22,11 @@ use Rattle.net_edit.specs.Rearranged.{AreRearranged, steps_of}
 use Rattle.path_links.proofs.PathLists.{Has, has, contains, flat_from, flat_has}
 use Rattle.plan_paths.specs.Laws.{PlanLaw}
 use Rattle.plan_paths.specs.NewPaths.{new_path, new_paths}
-use Rattle.path_chains.specs.Numbered.{bit_count, CountsBits, HaveBits, KeepsBitsLaw}
-use Rattle.head_checks.specs.Asked.{asked_by}
+use Rattle.path_chains.specs.Numbered.{bit_count, HaveBits}
+use Rattle.chain_maps.specs.Kept.{CountsBits, KeepsBitsLaw}
+use Rattle.head_chains.specs.Asked.{asked_by}
 use Rattle.traced_paths.specs.Traced.{ArePathsOf, NameEntries}
-use Rattle.traced_paths.specs.Numbers.{length_of}
+use Rattle.traced_paths.specs.Bits.{length_of}
 use Rattle.head_checks.specs.Heads.{HoldsInHeads}
 use Rattle.path_laws.specs.Laws.{DeclaredLaw}
 use Rattle.stil_types.specs.declared.head.StilHead.{StilHead}
@@ -67,7 +68,7 @@ module _ (n : Netlist) (cells : Cells) where
       → NameEntries n cells paths → ((f : Fault) → IsSomeAnd head (λ h. HoldsInHeads n cells paths h f) → ⊥) → IsSome head → HaveBits n cells paths
   declared_bits law text None d paths is netlist traced entries none some = absurd (false≢true some)
   declared_bits law None (Some head) d paths is netlist traced entries none some = absurd is
-  declared_bits law (Some text) (Some head) d paths is netlist traced entries none some = (law text head n cells (Some d) paths is netlist traced entries none).bits
+  declared_bits law (Some text) (Some head) d paths is netlist traced entries none some = (law text head n cells paths is netlist traced entries none).bits
 
 module _ (t : Texts) (f : DesignFiles) (checked : AreChecked t f) (plan : Plan) (legal : IsLegal f.rules plan) where
   abbrev n : Netlist

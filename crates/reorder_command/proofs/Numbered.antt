@@ -18,7 +18,7 @@ use Rattle.plan_paths.specs.NewPaths.{absent_path}
 use Rattle.plan_paths.specs.Numbered.{PathNumbers, numbered_paths}
 use Rattle.plan_paths.proofs.Arranged.{get_map}
 use Rattle.traced_paths.specs.Asked.{Asked}
-use Rattle.traced_paths.specs.Numbers.{has_extra, is_free_output, step_spec, path_specs}
+use Rattle.path_numbers.specs.Numbers.{has_extra, is_free_output, step_spec, path_specs}
 use Rattle.traced_paths.specs.Traced.{ArePathsOf}
 use Rattle.traced_paths.proofs.OnceNames.{once_distinct}
 

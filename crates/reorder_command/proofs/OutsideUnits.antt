@@ -20,11 +20,13 @@ use Rattle.chain_rules.specs.declared.plan.Plan.{Plan}
 use Rattle.chain_rules.specs.Legality.{no_unit, unit_at, rule_at, chain_at, bits_of, IsLegal}
 use Rattle.chain_rules.specs.Stretches.{no_step, no_path, path_at, step_at, spec_at, bits_between}
 use Rattle.chain_rules.specs.Rules.{IsUnit, AreRulesOf}
-use Rattle.chain_rules.proofs.Totals.{sum_by-map}
+use Rattle.list_laws.proofs.Totals.{sum_by-map}
 use Rattle.path_links.proofs.PathLists.{Has, contains, flat_from}
-use Rattle.plan_paths.proofs.Places.{NoTwice, no_twice_flat, range_in, range_has, range_once, InRun, AreRuns}
+use Rattle.path_links.proofs.NoTwice.{NoTwice, no_twice_flat, range_in, range_has, range_once}
+use Rattle.plan_paths.proofs.Places.{InRun, AreRuns}
 use Rattle.plan_paths.proofs.UnitRuns.{read, read_in, all_mapped, are_runs}
-use Rattle.traced_paths.specs.Numbers.{path_bits, all_bits, step_spec, path_spec, path_specs}
+use Rattle.traced_paths.specs.Bits.{path_bits, all_bits}
+use Rattle.path_numbers.specs.Numbers.{step_spec, path_spec, path_specs}
 use Rattle.chain_balance.specs.Balance.{AreOnPaths}
 use Rattle.design_elements.specs.Elements.{chain_specs}
 use Rattle.design_files.specs.declared.read.DesignFiles.{DesignFiles}

@@ -5,7 +5,7 @@ use Rattle.cell_table.specs.Cells.{Cells}
 use Rattle.chain_trace.specs.declared.path.Path.{Path}
 use Rattle.path_chains.specs.Ranked.{chains_along}
 use Rattle.def_reader.specs.declared.design.Design.{Design}
-use Rattle.traced_paths.specs.Numbers.{all_bits}
+use Rattle.traced_paths.specs.Bits.{all_bits}
 use Rattle.stil_types.specs.declared.head.StilHead.{StilHead}
 use Rattle.stil_head.specs.Ends.{head_text}
 use Rattle.stil_calls.specs.Scans.{bits_of}

@@ -5,7 +5,7 @@ use Rattle.chain_trace.specs.Paths.{StandOnce}
 use Rattle.chain_rules.specs.declared.plan.Plan.{Plan}
 use Rattle.net_edit.specs.Rearranged.{AreRearranged, steps_of}
 use Rattle.plan_paths.specs.NewPaths.{new_paths}
-use Rattle.traced_paths.specs.Numbers.{path_specs}
+use Rattle.path_numbers.specs.Numbers.{path_specs}
 use Rattle.traced_paths.specs.Traced.{NameEntries}
 use Rattle.path_chains.specs.Numbered.{HaveBits}
 use Rattle.design_files.specs.declared.read.DesignFiles.{DesignFiles}

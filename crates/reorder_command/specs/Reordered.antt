@@ -26,9 +26,9 @@ use Rattle.net_edit.specs.Erased.{without_tails, tails_of, scan_sinks}
 use Rattle.net_edit.specs.Tails.{freed_between}
 use Rattle.net_edit.specs.Wires.{AreEditsFor, names_of}
 use Rattle.plan_paths.specs.NewPaths.{new_paths}
-use Rattle.head_checks.specs.Asked.{asked_by}
+use Rattle.head_chains.specs.Asked.{asked_by}
 use Rattle.traced_paths.specs.Traced.{ArePathsOf}
-use Rattle.traced_paths.specs.Numbers.{path_specs, is_free_output}
+use Rattle.path_numbers.specs.Numbers.{path_specs, is_free_output}
 use Rattle.design_elements.specs.Elements.{chain_specs}
 use Rattle.design_places.specs.Ends.{ends_of}
 use Rattle.design_places.specs.NetPins.{HoldsInNets}

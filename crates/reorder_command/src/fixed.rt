@@ -1,7 +1,7 @@
 //! The bits of the paths outside all units.
 ghost use Rattle.std.specs.Prelude.{◌≡◌, ◌≤◌, ◌<◌, ◌+◌, ◌^◌, ℕ, length, map, slice_index_or, All, IfOk};
 ghost use Rattle.std.specs.List.{concat, sum};
-ghost use Rattle.traced_paths.specs.Numbers.{step_bits, path_bits, all_bits};
+ghost use Rattle.traced_paths.specs.Bits.{step_bits, path_bits, all_bits};
 ghost use Rattle.chain_rules.specs.Legality.{bits_of, IsLegal};
 ghost use Rattle.chain_rules.specs.Plans.{PlanLists};
 ghost use Rattle.chain_balance.specs.Balance.{AreOnPaths};

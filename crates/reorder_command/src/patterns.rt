@@ -7,11 +7,12 @@ ghost use Rattle.reorder_command.specs.PatternPlans.{AreMovable, IsPatternPlan};
 
 use base_types::{NoMemory, Text};
 use cell_table::CellTable;
+use chain_maps::ranks_law;
 use chain_trace::{Path, PathBits, bits_of};
 use head_text::text_law;
 use head_writer::{fit_law, stil_head};
 use netlist_core::Netlist;
-use path_chains::{chains_for, ranks_law};
+use path_chains::chains_for;
 use path_laws::declared_law;
 use retarget::{Map, map_of};
 use std::alloc::Global;

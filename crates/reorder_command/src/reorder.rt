@@ -17,12 +17,12 @@ use crate::patterns::{PatternPlan, plan_patterns};
 use crate::plans::plan_for;
 use base_types::{NoMemory, ReadFault, Text};
 use cell_table::pins_law;
+use chain_maps::keeps_law;
 use chain_rules::Plan;
 use chain_trace::{Path, names_law};
 use def_writer::{agreement_law, def_text, placing_law};
 use design_files::{DesignFiles, read_design_files};
 use net_edit::{edits_for, edits_law};
-use path_chains::cells_law;
 use path_laws::declared_law;
 use plan_paths::{new_paths, plan_law};
 use plan_search::Progress;
@@ -104,7 +104,7 @@ fn paths_after(alloc: Global, files: &DesignFiles, plan: &Plan) -> Result<Vec<Pa
     edits_law();
     plan_law();
     declared_law();
-    cells_law();
+    keeps_law();
     new_paths(alloc, files.paths.as_slice(), &files.rules, plan)
 }
 

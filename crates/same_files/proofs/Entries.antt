@@ -15,13 +15,13 @@ use Rattle.std.proofs.lemmas.List.{length-map}
 use Rattle.netlist_core.specs.declared.netlist.Netlist.{Netlist}
 use Rattle.chain_trace.specs.declared.path.BitId.{BitId}
 use Rattle.path_links.proofs.PathLists.{Has, has, contains}
-use Rattle.plan_paths.proofs.Places.{NoTwice, map_has}
+use Rattle.path_links.proofs.NoTwice.{NoTwice, map_has}
 use Rattle.path_chains.specs.Ranked.{key_of, key_cmp, rank_of}
 use Rattle.path_chains.proofs.Cells.{in_map}
 use Rattle.path_chains.proofs.KeyCounts.{count_map}
 use Rattle.same_files.specs.Cells.{kind_of, HaveSameScanCells, entry_of, seen, entry_cmp, AreEntries, StandApart}
 use Rattle.same_files.proofs.Orders.{HaveSameSums, one_order, rises}
-use Rattle.same_files.proofs.SameCounts.{same_sum}
+use Rattle.path_chains.proofs.SameBits.{same_sum}
 
 abbrev Key : Type 0
 Key = List ℕ × ℕ × ℕ

@@ -1,6 +1,5 @@
 pub mod HeadCuts
 pub mod OwnHeads
-pub mod SameCounts
 pub mod Orders
 pub mod Entries
 pub mod Names

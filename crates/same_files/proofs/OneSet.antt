@@ -11,7 +11,7 @@ use Rattle.chain_trace.specs.declared.path.Path.{Path}
 use Rattle.stil_types.specs.declared.head.StilHead.{StilHead}
 use Rattle.stil_head.specs.Ends.{head_text}
 use Rattle.stil_head.proofs.Texts.{only_head}
-use Rattle.head_checks.specs.Asked.{asked_by}
+use Rattle.head_checks.specs.Asked.{asked_by_head}
 use Rattle.traced_paths.specs.Traced.{ArePathsOf}
 use Rattle.traced_paths.proofs.PathsFaults.{one_list}
 use Rattle.path_chains.specs.Numbered.{bits_along, bits_of_paths}
@@ -63,11 +63,11 @@ module _ (table verilog stil : List ℕ) (set : ReadSet) (is : IsSet table veril
       let cells : other.cells ≡ is.cells = one_table table other.cells is.cells o.cells_are is.cells_are in
       let netlist : other.netlist ≡ set.netlist = one_netlist verilog other.netlist set.netlist o.netlist_is is.netlist_is in
       let head : m.head ≡ set.head = only_head stil set.head m.head is.patterns.head_is m.head_is in
-      let traced : ArePathsOf set.netlist is.cells (asked_by None (Some set.head)) other.paths =
-      subst (λ (h : StilHead). ArePathsOf set.netlist is.cells (asked_by None (Some h)) other.paths) head
-      (subst (λ (c : Cells). ArePathsOf set.netlist c (asked_by None (Some m.head)) other.paths) cells
-      (subst (λ (n : Netlist). ArePathsOf n other.cells (asked_by None (Some m.head)) other.paths) netlist m.paths_are)) in
-      let paths : other.paths ≡ is.paths = one_list set.netlist is.cells (asked_by None (Some set.head)) is.netlist_is.sound other.paths is.paths traced is.paths_are in
+      let traced : ArePathsOf set.netlist is.cells (asked_by_head set.head) other.paths =
+      subst (λ (h : StilHead). ArePathsOf set.netlist is.cells (asked_by_head h) other.paths) head
+      (subst (λ (c : Cells). ArePathsOf set.netlist c (asked_by_head m.head) other.paths) cells
+      (subst (λ (n : Netlist). ArePathsOf n other.cells (asked_by_head m.head) other.paths) netlist m.paths_are)) in
+      let paths : other.paths ≡ is.paths = one_list set.netlist is.cells (asked_by_head set.head) is.netlist_is.sound other.paths is.paths traced is.paths_are in
       let text : other.meant ≡ meant_by set stil = m.is ∙ (λ i. text_on (netlist i) (cells i) (paths i) (head i)) ∙ sym meant_is in
       λ i. record { cells = cells i; netlist = netlist i; paths = paths i; meant = text i }
 

@@ -19,7 +19,7 @@ use Rattle.stil_reader.specs.Patterns.{behind_head}
 use Rattle.stil_reader.proofs.Heads.{end_within, shown_end}
 use Rattle.stil_written.specs.Unbounded.{IsSizeFault, says_free}
 use Rattle.stil_written.proofs.Sizes.{size_law}
-use Rattle.play_command.specs.Files.{IsHeadText}
+use Rattle.declared_chains.specs.Files.{IsHeadText}
 use Rattle.same_files.specs.Meaning.{patterns_in}
 use Rattle.same_files.proofs.HeadCuts.{ends_in_front}
 

@@ -15,11 +15,11 @@ use Rattle.stil_calls.specs.Statements.{IsFaultOf}
 use Rattle.stil_reader.specs.Sayings.{Head, Told, after, told_whole}
 use Rattle.stil_reader.specs.Patterns.{behind_head, names_in, patterns_told}
 use Rattle.stil_reader.proofs.Whole.{whole_law}
-use Rattle.play_command.specs.declared.declared.Declared.{Declared}
-use Rattle.play_command.specs.Files.{IsHeadText}
-use Rattle.play_command.specs.Faults.{HoldsBeforePatterns, HoldsInPlay, OfDeclarations}
-use Rattle.play_command.specs.Stages.{AreDeclared}
-use Rattle.play_command.proofs.WholeFaults.{first_pattern, none_at_all}
+use Rattle.declared_chains.specs.declared.declared.Declared.{Declared}
+use Rattle.declared_chains.specs.Files.{IsHeadText}
+use Rattle.declared_chains.specs.Faults.{HoldsBeforePatterns, HoldsInPlay, OfDeclarations}
+use Rattle.declared_chains.specs.Stages.{AreDeclared}
+use Rattle.declared_chains.proofs.WholeFaults.{first_pattern, none_at_all}
 use Rattle.same_files.specs.Meaning.{patterns_in}
 use Rattle.same_files.specs.Sets.{ReadSet, AreNamed, AreNames, IsSet}
 use Rattle.same_files.proofs.OwnHeads.{IsOwnHead, own_head, free_behind}

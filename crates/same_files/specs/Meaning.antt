@@ -5,7 +5,7 @@ use Rattle.netlist_core.specs.declared.netlist.Netlist.{Netlist}
 use Rattle.cell_table.specs.Cells.{Cells}
 use Rattle.chain_trace.specs.declared.path.BitId.{BitId}
 use Rattle.chain_trace.specs.declared.path.Path.{Path}
-use Rattle.head_checks.specs.Asked.{asked_by}
+use Rattle.head_checks.specs.Asked.{asked_by_head}
 use Rattle.traced_paths.specs.Traced.{ArePathsOf}
 use Rattle.head_checks.specs.Heads.{HoldsInHeads}
 use Rattle.path_chains.specs.Ranked.{key_of, rank_of, chains_along}
@@ -29,7 +29,7 @@ patterns_in head stil = says_free Lengths head (behind_head head stil) (drop hea
 pub record Means (n : Netlist) (cells : Cells) (paths : List Path) (stil : List ℕ) (meant : PatternText) : Type 0 where
   pub head : StilHead
   pub head_is : DenotesHead stil head
-  pub paths_are : ArePathsOf n cells (asked_by None (Some head)) paths
+  pub paths_are : ArePathsOf n cells (asked_by_head head) paths
   pub declared : (fault : Fault) → HoldsInHeads n cells paths head fault → ⊥
   pub sound : (patterns_in head stil).fault ≡ None
   pub is : meant ≡ record {

@@ -7,7 +7,7 @@ use Rattle.cell_table.specs.Entries.{DenotesCells}
 use Rattle.verilog_reader.specs.Denoted.{DenotesNetlist}
 use Rattle.chain_trace.specs.declared.path.Path.{Path}
 use Rattle.chain_trace.specs.declared.path.PathBits.{PathBits}
-use Rattle.head_checks.specs.Asked.{asked_by}
+use Rattle.head_checks.specs.Asked.{asked_by_head}
 use Rattle.traced_paths.specs.Traced.{ArePathsOf}
 use Rattle.head_checks.specs.Heads.{HoldsInHeads}
 use Rattle.path_chains.specs.Numbered.{bits_along}
@@ -21,7 +21,7 @@ use Rattle.stil_reader.specs.Patterns.{names_in, statements_in, patterns_told}
 use Rattle.stil_tester.specs.declared.chains.Chains.{Chains}
 use Rattle.stil_tester.specs.Meaning.{PatternText}
 use Rattle.head_alike.specs.Erased.{head_tokens}
-use Rattle.play_command.specs.Progress.{Fits}
+use Rattle.declared_chains.specs.Files.{Fits}
 use Rattle.same_files.specs.Meaning.{patterns_in, Means}
 use Rattle.same_files.specs.Cells.{StandApart}
 
@@ -79,7 +79,7 @@ pub record IsSet (table verilog stil : List ℕ) (set : ReadSet) : Type 0 where
   pub cells_are : DenotesCells table cells
   pub netlist_is : DenotesNetlist verilog set.netlist
   pub patterns : ArePatternsOf stil set
-  pub paths_are : ArePathsOf set.netlist cells (asked_by None (Some set.head)) paths
+  pub paths_are : ArePathsOf set.netlist cells (asked_by_head set.head) paths
   pub declared : (fault : Fault) → HoldsInHeads set.netlist cells paths set.head fault → ⊥
   pub bits_are : set.bits ≡ map (bits_along set.netlist cells) paths
   pub chains_are : set.chains ≡ chains_along set.netlist cells paths

@@ -2,8 +2,8 @@
 //! same scan cells.
 //!
 //! Floor: top, on base_types, netlist_core, cell_table, verilog_reader, chain_trace, traced_paths, head_checks,
-//! path_links, net_edit, plan_paths, path_chains, stil_types, stil_parts, stil_head, stil_calls, stil_reader,
-//! stil_tester, stil_written, head_alike, head_text and play_command.
+//! path_links, net_edit, path_chains, stil_types, stil_parts, stil_head, stil_calls, stil_reader, stil_tester,
+//! stil_written, head_alike, head_text and declared_chains.
 //! Contract: what a text means on a netlist stands in `specs/Meaning.antt`, when two sets are the same in `specs/Same.antt`.
 //! `read_set` answers what is kept of one set (`specs/Sets.antt`), or its first fault, as `play` has it; `have_same_cells` compares
 //! the scan cells of two. Begin with `set.rt`.

@@ -6,14 +6,14 @@ ghost use Rattle.stil_calls.specs.declared.judging.Judging.TheVariants.{Lengths}
 ghost use Rattle.stil_calls.specs.Statements.{IsFaultOf};
 ghost use Rattle.stil_head.specs.Heads.{DenotesHead};
 ghost use Rattle.stil_reader.specs.Patterns.{patterns_told};
-ghost use Rattle.play_command.specs.Faults.{HoldsInPlay};
+ghost use Rattle.declared_chains.specs.Faults.{HoldsInPlay};
 ghost use Rattle.same_files.specs.Sets.{IsSet, AreNamed, AreNames};
 
 use crate::cells::{ScanCell, scan_cell};
 use base_types::{Name, ReadFault};
 use chain_trace::PathBits;
+use declared_chains::{Declared, read_declared};
 use netlist_core::Netlist;
-use play_command::{Declared, read_declared};
 use std::alloc::Global;
 use std::marker::Model;
 use stil_head::head_len;

@@ -20,7 +20,7 @@ use Rattle.stil_parts.specs.declared.gap.Comment.TheVariants.{Outside}
 use Rattle.stil_parts.specs.Heads.{head_end}
 use Rattle.same_files.proofs.Sets.{shown}
 use Rattle.same_files.proofs.OwnHeads.{IsOwnHead, own_head}
-use Rattle.play_command.specs.Files.{IsHeadText}
+use Rattle.declared_chains.specs.Files.{IsHeadText}
 use Rattle.design_files.specs.Files.{Texts, with_head}
 use Rattle.design_files.specs.Faults.{HoldsInFiles, IsFilesFault}
 use Rattle.written_meaning.specs.Laws.{MeaningLaw}

@@ -30,7 +30,7 @@ use Rattle.design_files.proofs.LayerKinds.{among}
 use Rattle.reorder_command.specs.declared.reorder.Reordered.{Reordered}
 use Rattle.reorder_command.specs.declared.patterns.PatternPlan.{PatternPlan}
 use Rattle.reorder_command.specs.PatternPlans.{ArePatternsPlanned, IsReorderedWith}
-use Rattle.play_command.specs.Files.{IsHeadText}
+use Rattle.declared_chains.specs.Files.{IsHeadText}
 use Rattle.scan_job.specs.declared.commands.patterns.PatternsRequest.{PatternsRequest}
 use Rattle.scan_job.specs.declared.patterns.Ready.{Ready}
 use Rattle.scan_job.specs.declared.stop.Stop.{Stop}
@@ -42,7 +42,7 @@ use Rattle.scan_job.specs.Phases.{HasSaid}
 use Rattle.scan_job.specs.Retargeting.{IsFaultBefore, IsRetargetingFault, IsReadyWith, HasPlanned}
 use Rattle.scan_job.specs.PatternPhases.{design_of, HasReadPatterns, HasFinishedPatterns}
 use Rattle.scan_job.proofs.Played.{any_head, told_if, comes_whole, no_head, head_text_is, head_shows, one_text}
-use Rattle.play_command.proofs.PatternKinds.{pattern_late}
+use Rattle.declared_chains.proofs.PatternKinds.{pattern_late}
 
 -- the kinds of the design's faults come before those of patterns
 

@@ -12,8 +12,8 @@ use Rattle.stil_stream.specs.Streams.{fault_of}
 use Rattle.stil_written.specs.Written.{written_says}
 use Rattle.design_files.specs.Files.{Texts, with_head}
 use Rattle.design_files.specs.Faults.{HoldsInFiles}
-use Rattle.play_command.specs.Files.{IsHeadText}
-use Rattle.play_command.specs.Faults.{IsPatternFault}
+use Rattle.declared_chains.specs.Files.{IsHeadText}
+use Rattle.declared_chains.specs.Faults.{IsPatternFault}
 use Rattle.stil_types.specs.declared.head.StilHead.{StilHead}
 use Rattle.stil_head.specs.Heads.{DenotesHead}
 use Rattle.stil_head.proofs.Texts.{only_head}
@@ -30,7 +30,7 @@ use Rattle.scan_job.specs.Playing.{IsToldFault}
 use Rattle.scan_job.specs.Retargeting.{IsRetargetingFault, IsPlannedFor, IsAllOf, IsFrontOf}
 use Rattle.scan_job.specs.PatternPhases.{outputs_of, progress_of, AreOutputsFound}
 use Rattle.scan_job.proofs.Played.{head_shows, one_text}
-use Rattle.play_command.proofs.PatternKinds.{pattern_late}
+use Rattle.declared_chains.proofs.PatternKinds.{pattern_late}
 
 -- the outputs of a plan, whose STIL text is the written form of all that is said
 abbrev pub planned_outputs : Made → PatternPlan → List ℕ → Outputs

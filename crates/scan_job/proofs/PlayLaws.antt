@@ -6,7 +6,7 @@ use Rattle.base_types.specs.FirstFault.{IsFirstFault}
 use Rattle.desk_io.specs.declared.slot.Slot.TheVariants.{Table, Verilog, Stil}
 use Rattle.play_command.specs.declared.device.DeviceKind.{DeviceKind}
 use Rattle.play_command.specs.declared.device.DeviceKind.TheVariants as devices
-use Rattle.play_command.specs.Faults.{HoldsInPlay}
+use Rattle.declared_chains.specs.Faults.{HoldsInPlay}
 use Rattle.play_command.specs.Files.{IsPlayText}
 use Rattle.scan_words.specs.declared.verb.Verb.TheVariants as verbs
 use Rattle.scan_words.specs.declared.table.OptionName.TheVariants as options

@@ -24,11 +24,11 @@ use Rattle.stil_input.specs.declared.input.StilStop.{StilStop}
 use Rattle.stil_input.specs.declared.input.StilStop.TheVariants.{Fault as OfText, Read, NoMemory}
 use Rattle.stil_input.specs.Inputs.{Draws, coming, HasDrawn, HasDrawnAndFailed, Says, HasEnded, IsRefused, GivesHead, Gives, stop_of}
 use Rattle.play_command.specs.declared.device.DeviceKind.{DeviceKind}
-use Rattle.play_command.specs.Faults.{HoldsBeforePatterns, IsPatternFault, HoldsInPlay, Before, OfPatterns}
-use Rattle.play_command.specs.Files.{IsHeadText, chains_along}
+use Rattle.declared_chains.specs.Faults.{HoldsBeforePatterns, IsPatternFault, HoldsInPlay, Before, OfPatterns}
+use Rattle.declared_chains.specs.Files.{IsHeadText, chains_along}
 use Rattle.play_command.specs.Progress.{Progress, IsSetUp, ProgressLaw, after_saying, after_sayings, finished, at_first}
 use Rattle.scan_job.specs.Playing.{IsPlayed, IsPlayFault, IsPlayedOut, IsToldFault, HasPlayed, HasPlayedOn}
-use Rattle.play_command.proofs.PatternKinds.{before_early, pattern_late}
+use Rattle.declared_chains.proofs.PatternKinds.{before_early, pattern_late}
 
 -- what is drawn
 

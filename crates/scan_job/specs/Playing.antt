@@ -13,7 +13,7 @@ use Rattle.stil_input.specs.declared.input.StilStop.{StilStop}
 use Rattle.stil_input.specs.declared.input.StilStop.TheVariants.{Fault as OfText, Read, NoMemory}
 use Rattle.stil_input.specs.Inputs.{coming, HasDrawn, HasDrawnAndFailed}
 use Rattle.play_command.specs.declared.device.DeviceKind.{DeviceKind}
-use Rattle.play_command.specs.Faults.{HoldsInPlay}
+use Rattle.declared_chains.specs.Faults.{HoldsInPlay}
 use Rattle.play_command.specs.Files.{IsPlayText}
 use Rattle.play_command.specs.Progress.{Progress, after_sayings, finished}
 use Rattle.scan_job.specs.Faults.{size_fault}

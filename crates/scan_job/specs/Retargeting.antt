@@ -23,7 +23,7 @@ use Rattle.reorder_command.specs.declared.patterns.PatternPlan.{PatternPlan}
 use Rattle.reorder_command.specs.declared.reorder.Reordered.{Reordered}
 use Rattle.reorder_command.specs.PatternPlans.{IsReorderedWith}
 use Rattle.design_files.specs.Faults.{HoldsInFiles}
-use Rattle.play_command.specs.Files.{IsHeadText}
+use Rattle.declared_chains.specs.Files.{IsHeadText}
 use Rattle.reorder_command.specs.declared.goal.Goal.{Goal}
 use Rattle.retarget.specs.Moved.{moved_call}
 use Rattle.stil_writer.specs.Loops.{written_with}

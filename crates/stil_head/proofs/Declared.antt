@@ -12,7 +12,7 @@ use Rattle.stil_types.specs.declared.head.StilHead.{StilHead}
 use Rattle.stil_blocks.specs.declared.chain.ReadChain.{ReadChain}
 use Rattle.stil_head.specs.Ends.{head_text}
 use Rattle.stil_blocks.specs.Chains.{chains_of}
-use Rattle.stil_head.specs.Leasts.{place_if}
+use Rattle.list_laws.specs.Leasts.{place_if}
 use Rattle.stil_head.specs.Twice.{again_in, chain_row, port_rows}
 use Rattle.stil_head.specs.Heads.{DenotesHead}
 use Rattle.stil_blocks.proofs.LongChains.{chains_long}

@@ -10,11 +10,11 @@ use Rattle.base_types.specs.declared.fault.FileKind.TheVariants.{Stil}
 use Rattle.base_types.specs.declared.kind.Kind.TheVariants.{StilSyntax, StilTwice, Unsupported}
 use Rattle.base_types.proofs.FirstFaults.{later}
 use Rattle.base_types.proofs.LineLemmas.{line_at-from}
-use Rattle.stil_head.specs.Leasts.{least_of}
+use Rattle.list_laws.specs.Leasts.{least_of}
 use Rattle.stil_head.specs.Faults.{syntax_places, HoldsInText, Syntax, Twice, Barred}
 use Rattle.stil_head.specs.Twice.{twice_places}
 use Rattle.stil_head.specs.Unsupported.{unsupported_places}
-use Rattle.stil_head.proofs.Leasts.{IsLeastPlace, least_place, no_places, none_there}
+use Rattle.list_laws.proofs.Leasts.{IsLeastPlace, least_place, no_places, none_there}
 
 -- a later place is on no earlier line
 lines_rise : (text : List ℕ) (a b : ℕ) → a ≤ b → line_at text a ≤ line_at text b

@@ -1,10 +1,10 @@
 -- The least of lists of places that stand one behind the other.
 use Rattle.std.proofs.Common.{◌≡◌, ℕ, Bool, true, cond, List, [], ◌++◌, Option, sym, ap, ◌∙◌}
 use Rattle.token_forms.specs.Tokens.{Token}
-use Rattle.stil_head.specs.Leasts.{lesser, least_of}
+use Rattle.list_laws.specs.Leasts.{lesser, least_of}
 use Rattle.stil_blocks.specs.Callees.{holds_shift}
 use Rattle.stil_head.specs.Unsupported.{places_at, is_barred, scan_places, body_places}
-use Rattle.stil_head.proofs.Leasts.{least_append}
+use Rattle.list_laws.proofs.Leasts.{least_append}
 
 pub two_places : (ps qs : List ℕ) (a b : Option ℕ) → a ≡ least_of ps → b ≡ least_of qs → lesser a b ≡ least_of (ps ++ qs)
 two_places ps qs a b x y = ap (λ (o : Option ℕ). lesser o b) x ∙ ap (lesser (least_of ps)) y ∙ sym (least_append ps qs)

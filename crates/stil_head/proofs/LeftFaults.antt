@@ -3,7 +3,7 @@ use Rattle.std.proofs.Common.{◌≡◌, ℕ, List, Option, sym, ap, ◌∙◌}
 use Rattle.token_forms.specs.Tokens.{Token}
 use Rattle.stil_blocks.specs.declared.chain.ReadChain.{ReadChain}
 use Rattle.stil_blocks.specs.declared.callee.ReadCallee.{ReadCallee}
-use Rattle.stil_head.specs.Leasts.{least_of}
+use Rattle.list_laws.specs.Leasts.{least_of}
 use Rattle.stil_head.specs.Twice.{twice_among}
 use Rattle.stil_head.specs.Unsupported.{unsupported_in}
 

@@ -4,7 +4,6 @@ pub mod Declared
 pub mod HeadFaults
 pub mod HeadWalk
 pub mod Joined
-pub mod Leasts
 pub mod LeftFaults
 pub mod Loops
 pub mod Rows

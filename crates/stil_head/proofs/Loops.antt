@@ -2,7 +2,7 @@
 use Rattle.std.proofs.Common.{◌≡◌, ◌<◌, Bool, ◌||◌, ◌&&◌, List, [], ◌∷◌, ◌++◌, length, drop, refl, arith}
 use Rattle.token_forms.specs.Tokens.{Token}
 use Rattle.stil_syntax.specs.Shapes.{begins_behind}
-use Rattle.stil_head.specs.Leasts.{place_if}
+use Rattle.list_laws.specs.Leasts.{place_if}
 use Rattle.stil_blocks.specs.Statements.{start_of, first_text}
 use Rattle.stil_blocks.specs.Callees.{begins_shift}
 use Rattle.stil_head.specs.declared.shift.InShift.{InShift}

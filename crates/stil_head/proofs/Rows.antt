@@ -1,17 +1,16 @@
 -- Names that stand a second time, as they are gathered: known names as a test.
 use Rattle.std.proofs.Common.{◌≡◌, ℕ, ◌+◌, ◌<◌, ◌≤◌, Bool, true, false, ◌||◌, ◌&&◌, filter, List, [], ◌∷◌, ◌++◌, length, drop, get_or, Option, refl, sym, ap, ◌∙◌, Bor, map, cond, not}
-use Rattle.std.specs.List.{flat_map}
+use Rattle.std.specs.List.{flat_map, list_any}
 use Rattle.std.proofs.lemmas.List.{drop_more, drop_all}
-use Rattle.std.specs.List.{list_any}
 use Rattle.std.specs.Str.{bytes_eq}
 use Rattle.std.proofs.lemmas.List.Folds.{list_any-append}
 use Rattle.base_types.proofs.TruthValues.{or_false, or_implied, or_assoc, bytes_are}
 use Rattle.indexmap.specs.IndexSet.{insert_key}
-use Rattle.stil_head.specs.Leasts.{place_if, lesser, least_of, found_if}
+use Rattle.list_laws.specs.Leasts.{place_if, lesser, least_of, found_if}
 use Rattle.stil_head.specs.Twice.{Row, again_in}
 use Rattle.stil_blocks.specs.declared.callee.ReadCallee.{ReadCallee}
 use Rattle.stil_head.specs.Unsupported.{is_name_of, scan_names}
-use Rattle.stil_head.proofs.Leasts.{lesser_none, then_if}
+use Rattle.list_laws.proofs.Leasts.{lesser_none, then_if}
 
 -- the places of names that pass a test or stand further in front
 abbrev pub again_by : (List ℕ → Bool) → List Row → List ℕ

@@ -8,8 +8,8 @@ use Rattle.stil_syntax.specs.Names.{name_at}
 use Rattle.stil_syntax.specs.Shapes.{begins_behind, in_block}
 use Rattle.stil_blocks.specs.declared.chain.ReadChain.{ReadChain}
 use Rattle.stil_blocks.specs.declared.callee.ReadCallee.{ReadCallee}
-use Rattle.stil_head.specs.Leasts.{place_if, lesser, least_of}
-use Rattle.stil_head.proofs.Leasts.{least_append}
+use Rattle.list_laws.specs.Leasts.{place_if, lesser, least_of}
+use Rattle.list_laws.proofs.Leasts.{least_append}
 use Rattle.stil_blocks.specs.Statements.{has_word, behind_word, statements_in}
 use Rattle.stil_blocks.specs.Callees.{holds_shift}
 use Rattle.stil_head.specs.Unsupported.{name_passes, names_one, calls_scan, is_barred, places_at, scan_places, body_places, callee_places, unlisted_places, structures_again, is_name_of, scan_names, out_length_places, unsupported_in}

@@ -14,7 +14,7 @@ use Rattle.stil_types.specs.declared.head.Callee.{Callee}
 use Rattle.stil_syntax.specs.Shapes.{body_statements}
 use Rattle.stil_blocks.specs.declared.chain.ReadChain.{ReadChain}
 use Rattle.stil_blocks.specs.declared.callee.ReadCallee.{ReadCallee}
-use Rattle.stil_head.specs.Leasts.{least_of}
+use Rattle.list_laws.specs.Leasts.{least_of}
 use Rattle.stil_blocks.specs.Chains.{structure_chains, chains_of}
 use Rattle.stil_blocks.specs.Callees.{block_callees, callees_of, statement_keywords, keywords_of}
 use Rattle.stil_head.specs.Twice.{twice_among, twice_places}

@@ -3,7 +3,7 @@ use Rattle.std.specs.Prelude.{nat_le}
 use Rattle.std.proofs.Common.{◌≡◌, ℕ, ◌+◌, ◌-◌, ◌<◌, ◌≤◌, arith, cond, Bool, true, false, ◌||◌, ◌&&◌, List, [], ◌∷◌, ◌++◌, length, drop, Option, refl, sym, ap, ◌∙◌}
 use Rattle.token_forms.specs.Tokens.{Token}
 use Rattle.stil_syntax.specs.Shapes.{begins_behind}
-use Rattle.stil_head.specs.Leasts.{place_if, lesser, least_of, found_if}
+use Rattle.list_laws.specs.Leasts.{place_if, lesser, least_of, found_if}
 use Rattle.stil_blocks.specs.Statements.{start_of, first_text}
 use Rattle.stil_blocks.specs.Callees.{begins_shift}
 use Rattle.stil_blocks.proofs.Holds.{no_tokens}
@@ -11,7 +11,7 @@ use Rattle.stil_head.specs.Unsupported.{places_at, later_shifts, later_places, h
 use Rattle.stil_tokens.specs.StilStatements.{is_only}
 use Rattle.stil_head.specs.declared.shift.InShift.{InShift}
 use Rattle.stil_head.specs.declared.shift.InShift.TheVariants.{Outside, Before, Inside}
-use Rattle.stil_head.proofs.Leasts.{then_if, lesser_none}
+use Rattle.list_laws.proofs.Leasts.{then_if, lesser_none}
 use Rattle.stil_head.proofs.Loops.{places_next, later_next, outer_next}
 
 pub walk_places : (test : List Token → Bool) (b next : Bool) (ts rest : List Token) (text : List ℕ) (least now o : Option ℕ) (here : Bool) (p : ℕ) → 0 < length ts → here ≡ (b && test ts) → p ≡ start_of ts → o ≡ found_if here p → now ≡ lesser least o

@@ -12,7 +12,7 @@ use Rattle.token_forms.specs.Tokens.{Token}
 use Rattle.stil_tokens.specs.StilStatements.{is_only}
 use Rattle.stil_syntax.specs.Shapes.{behind_labels}
 use Rattle.stil_head.specs.Ends.{head_text}
-use Rattle.stil_head.specs.Leasts.{place_if}
+use Rattle.list_laws.specs.Leasts.{place_if}
 use Rattle.stil_blocks.specs.Statements.{statements_of, start_of, is_whole, is_worded, has_word, behind_word, opens_maybe_named, statements_in}
 use Rattle.stil_blocks.specs.Chains.{chain_at}
 use Rattle.stil_blocks.specs.Callees.{callee_at}

@@ -9,7 +9,7 @@ use Rattle.base_types.specs.declared.kind.Kind.TheVariants.{StilTwice, Unsupport
 use Rattle.token_forms.specs.Tokens.{Token}
 use Rattle.stil_blocks.specs.declared.chain.ReadChain.{ReadChain}
 use Rattle.stil_blocks.specs.declared.callee.ReadCallee.{ReadCallee}
-use Rattle.stil_head.specs.Leasts.{least_of}
+use Rattle.list_laws.specs.Leasts.{least_of}
 use Rattle.stil_types.specs.declared.head.StilHead.{StilHead}
 use Rattle.stil_parts.specs.declared.gap.Comment.TheVariants.{Outside}
 use Rattle.stil_parts.specs.declared.head.HeadTurn.{HeadTurn}

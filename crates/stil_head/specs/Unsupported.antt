@@ -14,7 +14,7 @@ use Rattle.stil_blocks.specs.declared.chain.ReadChain.{ReadChain}
 use Rattle.stil_blocks.specs.declared.callee.ReadCallee.{ReadCallee}
 use Rattle.stil_head.specs.declared.shift.InShift.{InShift}
 use Rattle.stil_head.specs.declared.shift.InShift.TheVariants.{Outside, Before, Inside}
-use Rattle.stil_head.specs.Leasts.{place_if}
+use Rattle.list_laws.specs.Leasts.{place_if}
 use Rattle.stil_blocks.specs.Statements.{statements_of, start_of, has_word, behind_word, statements_in}
 use Rattle.stil_blocks.specs.Chains.{chains_of}
 use Rattle.stil_blocks.specs.Callees.{begins_shift, holds_shift, callees_of}

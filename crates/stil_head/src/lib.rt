@@ -1,8 +1,8 @@
 //! The head of a STIL text, up to its first Pattern: the scan chains that it declares, the procedures and macros that patterns
 //! call, and the words that it adds (IEEE 1450-1999, in this profile).
 //!
-//! Floor: readers, on base_types, token_forms, stil_tokens, stil_parts, stil_types, stil_syntax, stil_blocks and
-//! `indexmap`.
+//! Floor: readers, on base_types, token_forms, stil_tokens, stil_parts, stil_types, stil_syntax, stil_blocks, list_laws
+//! and `indexmap`.
 //! Contract: `read_head` gives what `specs/Heads.antt` says that a text's head denotes, and refuses exactly as `specs/Faults.antt`
 //! says. Begin with `head.rt`.
 //!
@@ -13,11 +13,11 @@
 
 mod ends;
 mod head;
-mod least;
 mod marks;
 mod names;
 mod shift;
 mod syntax;
+mod truth;
 mod twice;
 mod unsupported;
 

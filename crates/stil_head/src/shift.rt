@@ -2,10 +2,11 @@
 ghost use Rattle.std.specs.Prelude.{◌≡◌, ◌+◌, ◌<◌, ◌^◌, true, false, length};
 ghost use Rattle.stil_syntax.specs.Shapes.{body_statements};
 ghost use Rattle.stil_blocks.specs.Callees.{begins_shift};
-ghost use Rattle.stil_head.specs.Leasts.{least_of};
+ghost use Rattle.list_laws.specs.Leasts.{least_of};
 ghost use Rattle.stil_head.specs.Unsupported.{shift_at, shift_behind, is_outside, later_shifts, places_at, inner_shifts, shift_depth};
 
-use crate::least::{both, either, found_if, lesser};
+use crate::truth::{both, either};
+use list_laws::{found_if, lesser_place};
 use stil_blocks::{shift_begins, start_of, take_text};
 use stil_syntax::{Stretch, begins_behind, body_statement};
 
@@ -66,7 +67,7 @@ pub(crate) fn later_shift(body: &Stretch<'_, '_>) -> Option<u32>
     let mut begins = true;
     while rest.len() != 0 {
         let here = shift_begins(begins, &rest);
-        least = lesser(least, found_if(both(seen, here), start_of(&rest)));
+        least = lesser_place(least, found_if(both(seen, here), start_of(&rest)));
         seen = either(seen, here);
         begins = begins_behind(take_text(&mut rest));
     }
@@ -81,7 +82,7 @@ fn inner_shift(s: &Stretch<'_, '_>) -> Option<u32>
     let mut least = None;
     let mut begins = false;
     while rest.len() != 0 {
-        least = lesser(
+        least = lesser_place(
             least,
             found_if(shift_begins(begins, &rest), start_of(&rest)),
         );
@@ -97,7 +98,7 @@ pub(crate) fn inner_shifts(body: &Stretch<'_, '_>) -> Option<u32>
     let mut rest = body.again();
     let mut least = None;
     while let Some(s) = body_statement(&mut rest) {
-        least = lesser(least, inner_shift(&s));
+        least = lesser_place(least, inner_shift(&s));
     }
     least
 }

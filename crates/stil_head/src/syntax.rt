@@ -2,12 +2,12 @@
 ghost use Rattle.std.specs.Prelude.{◌≡◌, IfOk, OnOk, codes};
 ghost use Rattle.std.specs.List.{flat_map, list_any};
 ghost use Rattle.stil_syntax.specs.Shapes.{body_statements};
-ghost use Rattle.stil_head.specs.Leasts.{least_of};
+ghost use Rattle.list_laws.specs.Leasts.{least_of};
 ghost use Rattle.stil_blocks.specs.Statements.{has_word};
 ghost use Rattle.stil_head.specs.Faults.{ends_or_opens, is_stil, is_unread, first_places, is_bad_item, item_places, open_places, callee_faults, block_faults, is_read, is_bad, statement_faults, syntax_in};
 
-use crate::least::{found_if, lesser};
 use base_types::{Lines, NoMemory};
+use list_laws::{found_if, lesser_place};
 use std::alloc::Global;
 use stil_blocks::{
     behind_word, chain_at, has_word, is_callee, is_whole, is_worded, opens_maybe_named, start_of,
@@ -93,7 +93,7 @@ fn item_place(
     let mut least = None;
     while let Some(s) = body_statement(&mut rest) {
         let bad = is_bad_item(alloc, lines, &s)?;
-        least = lesser(least, found_if(bad, start_of(&s)));
+        least = lesser_place(least, found_if(bad, start_of(&s)));
     }
     Ok(least)
 }
@@ -105,7 +105,7 @@ fn open_place(block: &Stretch<'_, '_>) -> Option<u32>
     let mut rest = block.again();
     let mut least = None;
     while let Some(s) = body_statement(&mut rest) {
-        least = lesser(least, found_if(!is_whole(&s), start_of(&s)));
+        least = lesser_place(least, found_if(!is_whole(&s), start_of(&s)));
     }
     least
 }
@@ -129,7 +129,7 @@ fn callees_fault(block: &Stretch<'_, '_>) -> Option<u32>
     let mut rest = block.again();
     let mut least = None;
     while let Some(s) = body_statement(&mut rest) {
-        least = lesser(least, callee_fault(&s));
+        least = lesser_place(least, callee_fault(&s));
     }
     least
 }
@@ -197,7 +197,7 @@ fn statements_fault(
     let mut least = None;
     while let Some(s) = body_statement(&mut rest) {
         let place = statement_fault(alloc, lines, &s)?;
-        least = lesser(least, place);
+        least = lesser_place(least, place);
     }
     Ok(least)
 }
@@ -213,5 +213,5 @@ pub(crate) fn syntax_place(
     let first = first_place(tokens);
     let missing = found_if(!has_structures(tokens), 0);
     let inner = statements_fault(alloc, lines, tokens)?;
-    Ok(lesser(first, lesser(inner, missing)))
+    Ok(lesser_place(first, lesser_place(inner, missing)))
 }

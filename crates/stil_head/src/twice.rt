@@ -1,12 +1,12 @@
 //! Names that stand a second time.
 ghost use Rattle.std.specs.Prelude.{◌≡◌, [], map, IfOk};
 ghost use Rattle.std.specs.List.{flat_map};
-ghost use Rattle.stil_head.specs.Leasts.{least_of};
+ghost use Rattle.list_laws.specs.Leasts.{least_of};
 ghost use Rattle.stil_head.specs.Twice.{again_in, chain_row, port_rows, callee_row, twice_among};
 
-use crate::least::{found_if, lesser};
 use crate::names::Names;
 use base_types::NoMemory;
+use list_laws::{found_if, lesser_place};
 use std::alloc::Global;
 use stil_blocks::{ReadCallee, ReadChain};
 
@@ -18,7 +18,7 @@ fn chain_again(alloc: Global, chains: &[ReadChain]) -> Result<Option<u32>, NoMem
     let mut least = None;
     for chain in chains {
         let again = names.add(chain.decl.name.bytes())?;
-        least = lesser(least, found_if(again, chain.place));
+        least = lesser_place(least, found_if(again, chain.place));
     }
     Ok(least)
 }
@@ -31,9 +31,9 @@ fn port_again(alloc: Global, chains: &[ReadChain]) -> Result<Option<u32>, NoMemo
     let mut least = None;
     for chain in chains {
         let again = names.add(chain.decl.scan_in.bytes())?;
-        least = lesser(least, found_if(again, chain.place));
+        least = lesser_place(least, found_if(again, chain.place));
         let again = names.add(chain.decl.scan_out.bytes())?;
-        least = lesser(least, found_if(again, chain.place));
+        least = lesser_place(least, found_if(again, chain.place));
     }
     Ok(least)
 }
@@ -46,7 +46,7 @@ fn callee_again(alloc: Global, callees: &[ReadCallee]) -> Result<Option<u32>, No
     let mut least = None;
     for callee in callees {
         let again = names.add(callee.callee.name.bytes())?;
-        least = lesser(least, found_if(again, callee.place));
+        least = lesser_place(least, found_if(again, callee.place));
     }
     Ok(least)
 }
@@ -64,5 +64,5 @@ pub(crate) fn twice_place(
     let port = port_again(alloc, chains)?;
     let procedure = callee_again(alloc, procedures)?;
     let named = callee_again(alloc, macros)?;
-    Ok(lesser(chain, lesser(port, lesser(procedure, named))))
+    Ok(lesser_place(chain, lesser_place(port, lesser_place(procedure, named))))
 }

@@ -5,15 +5,16 @@ ghost use Rattle.std.specs.Str.{bytes_eq};
 ghost use Rattle.token_forms.specs.Classes.{is_among};
 ghost use Rattle.stil_syntax.specs.Shapes.{body_statements};
 ghost use Rattle.stil_head.specs.TopWords.{first_words, further_words};
-ghost use Rattle.stil_head.specs.Leasts.{least_of};
+ghost use Rattle.list_laws.specs.Leasts.{least_of};
 ghost use Rattle.stil_blocks.specs.Statements.{has_word};
 ghost use Rattle.stil_head.specs.Unsupported.{top_words, is_unlisted, unlisted_places, later_places, structures_again, out_length_places, scan_names, is_name_of, names_one, calls_scan, is_barred, has_mark, outer_marks, is_odd_shift, odd_shifts, scan_places, places_at, body_places, callee_places, bodies_places, unlisted_in, unsupported_in};
 
-use crate::least::{both, either, found_if, lesser};
 use crate::marks::{has_mark, has_outer_mark};
 use crate::names::Names;
 use crate::shift::{inner_shifts, later_shift};
+use crate::truth::{both, either};
 use base_types::NoMemory;
+use list_laws::{found_if, lesser_place};
 use std::alloc::Global;
 use stil_blocks::{
     ReadCallee, ReadChain, begins_shift, behind_word, has_word, holds_shift, start_of, take_text,
@@ -91,7 +92,7 @@ fn unlisted_from(mut rest: Stretch<'_, '_>) -> Option<u32>
 {
     let mut least = None;
     while let Some(s) = body_statement(&mut rest) {
-        least = lesser(least, found_if(is_unlisted(&s), start_of(&s)));
+        least = lesser_place(least, found_if(is_unlisted(&s), start_of(&s)));
     }
     least
 }
@@ -105,7 +106,7 @@ fn structures_again(tokens: &Stretch<'_, '_>) -> Option<u32>
     let mut seen = false;
     while let Some(s) = body_statement(&mut rest) {
         let here = has_word(&s, b"ScanStructures");
-        least = lesser(least, found_if(both(seen, here), start_of(&s)));
+        least = lesser_place(least, found_if(both(seen, here), start_of(&s)));
         seen = either(seen, here);
     }
     least
@@ -117,7 +118,7 @@ fn out_length_place(chains: &[ReadChain]) -> Option<u32>
 {
     let mut least = None;
     for chain in chains {
-        least = lesser(least, found_if(chain.out_length, chain.place));
+        least = lesser_place(least, found_if(chain.out_length, chain.place));
     }
     least
 }
@@ -215,7 +216,7 @@ fn barred_place(
     let mut begins = true;
     while rest.len() != 0 {
         let bad = bar_begins(alloc, names, scan, begins, &rest)?;
-        least = lesser(least, found_if(bad, start_of(&rest)));
+        least = lesser_place(least, found_if(bad, start_of(&rest)));
         begins = begins_behind(take_text(&mut rest));
     }
     Ok(least)
@@ -228,7 +229,7 @@ fn outer_mark(body: &Stretch<'_, '_>) -> Option<u32>
     let mut rest = body.again();
     let mut least = None;
     while let Some(s) = body_statement(&mut rest) {
-        least = lesser(least, found_if(has_outer_mark(&s), start_of(&s)));
+        least = lesser_place(least, found_if(has_outer_mark(&s), start_of(&s)));
     }
     least
 }
@@ -261,7 +262,7 @@ fn odd_shift(body: &Stretch<'_, '_>) -> Option<u32>
     let mut rest = body.again();
     let mut least = None;
     while let Some(s) = body_statement(&mut rest) {
-        least = lesser(least, found_if(is_odd_shift(&s), start_of(&s)));
+        least = lesser_place(least, found_if(is_odd_shift(&s), start_of(&s)));
     }
     least
 }
@@ -270,8 +271,8 @@ fn odd_shift(body: &Stretch<'_, '_>) -> Option<u32>
 fn scan_place(body: &Stretch<'_, '_>) -> Option<u32>
     ensures value { result ≡ least_of (scan_places body.now) }
 {
-    let marks = lesser(outer_mark(body), odd_shift(body));
-    lesser(later_shift(body), lesser(inner_shifts(body), marks))
+    let marks = lesser_place(outer_mark(body), odd_shift(body));
+    lesser_place(later_shift(body), lesser_place(inner_shifts(body), marks))
 }
 
 /// The least place in the block of a procedure or macro.
@@ -286,7 +287,7 @@ fn body_place(
     let scan = holds_shift(body);
     let barred = barred_place(alloc, names, scan, body)?;
     if scan {
-        Ok(lesser(barred, scan_place(body)))
+        Ok(lesser_place(barred, scan_place(body)))
     } else {
         Ok(barred)
     }
@@ -304,7 +305,7 @@ fn bodies_place(
     let mut least = None;
     while let Some(s) = body_statement(&mut rest) {
         let place = body_place(alloc, names, &in_block(&s))?;
-        least = lesser(least, place);
+        least = lesser_place(least, place);
     }
     Ok(least)
 }
@@ -337,7 +338,7 @@ fn callees_place(
     let mut least = None;
     while let Some(s) = body_statement(&mut rest) {
         let place = callee_place(alloc, names, &s)?;
-        least = lesser(least, place);
+        least = lesser_place(least, place);
     }
     Ok(least)
 }
@@ -359,8 +360,8 @@ pub(crate) fn unsupported_place(
         macros: scanned,
     };
     let inner = callees_place(alloc, &names, tokens)?;
-    let again = lesser(structures_again(tokens), inner);
-    let top = lesser(unlisted_place(tokens), again);
-    let least = lesser(out_length_place(chains), top);
+    let again = lesser_place(structures_again(tokens), inner);
+    let top = lesser_place(unlisted_place(tokens), again);
+    let least = lesser_place(out_length_place(chains), top);
     Ok(least)
 }

@@ -16,7 +16,7 @@ use Rattle.stil_parts.proofs.HeadStable.{head-stays}
 use Rattle.stil_head.specs.Faults.{HoldsInText, HoldsInHead, Syntax, Twice, Barred}
 use Rattle.stil_head.specs.Heads.{IsHead, DenotesHead}
 use Rattle.stil_head.specs.Ends.{head_text}
-use Rattle.stil_head.proofs.Leasts.{none_there}
+use Rattle.list_laws.proofs.Leasts.{none_there}
 
 -- a head ends in the text
 more_within : (o : Option ℕ) (n m : ℕ) → elim o [ None ↦ None | Some k ↦ Some (1 + k) ] ≡ Some n → ((k : ℕ) → o ≡ Some k → k ≤ m) → n ≤ suc m

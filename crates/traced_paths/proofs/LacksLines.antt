@@ -4,9 +4,9 @@ use Rattle.std.specs.Bool.{Decides}
 use Rattle.std.proofs.lemmas.List.{take_all, get_or_default}
 use Rattle.std.proofs.lemmas.List.Elements.{Contains-append_left, Contains-push_cases, Contains-push}
 use Rattle.netlist_core.specs.declared.netlist.Netlist.{Netlist}
-use Rattle.def_reader.specs.Steps.{IsLeast, lesser, line_if}
-use Rattle.def_reader.proofs.LeastLines.{same_least, either, alone}
-use Rattle.def_reader.proofs.RowsMore.{map_next}
+use Rattle.list_laws.specs.Leasts.{IsLeast, lesser, found_if}
+use Rattle.list_laws.proofs.LeastLines.{same_least, either, alone}
+use Rattle.list_laws.proofs.RowsMore.{map_next}
 use Rattle.traced_paths.specs.declared.asks.Ask.{Ask}
 use Rattle.traced_paths.specs.Asked.{Asked, told}
 use Rattle.traced_paths.specs.Traced.{HasNoInput, HasNoOutput, LacksPort}
@@ -24,10 +24,10 @@ module _ (n : Netlist) (asked : List Asked) (one : Asked) (bad : Bool) (exact : 
             inr (exact.1 (subst (λ (a : Asked). HasNoInput n a ⊎ HasNoOutput n a) (sym same) h.none), h.is ∙ ap (λ (a : Asked). a.line) (sym same))
       ]
 
-  lacks_last : (r : Option ℕ) → IsLeast (LacksPort n asked) r → IsLeast (LacksPort n (asked ++ one ∷ [])) (lesser r (line_if bad one.line))
+  lacks_last : (r : Option ℕ) → IsLeast (LacksPort n asked) r → IsLeast (LacksPort n (asked ++ one ∷ [])) (lesser r (found_if bad one.line))
   lacks_last r least =
       same_least (λ line. LacksPort n asked line ⊎ ((bad ≡ true) × (line ≡ one.line))) (LacksPort n (asked ++ one ∷ [])) _ to_last from_last
-      (either (LacksPort n asked) (λ line. (bad ≡ true) × (line ≡ one.line)) r (line_if bad one.line) least (alone bad one.line))
+      (either (LacksPort n asked) (λ line. (bad ≡ true) × (line ≡ one.line)) r (found_if bad one.line) least (alone bad one.line))
 
 -- none is asked for
 pub lacks_none : (n : Netlist) → IsLeast (LacksPort n []) None
@@ -35,13 +35,13 @@ lacks_none n = λ line h. absurd (omega (arith, h.there.1))
 
 -- one more is looked at
 lacks_next : (n : Netlist) (asks : List Ask) (i : ℕ) (ask : Ask) (bad : Bool) (r : Option ℕ) → Decides bad (HasNoInput n (told ask) ⊎ HasNoOutput n (told ask)) → i < length asks → ask ≡ get_or asks i ask
-    → IsLeast (LacksPort n (map told (take i asks))) r → IsLeast (LacksPort n (map told (take (i + 1) asks))) (lesser r (line_if bad ask.line))
+    → IsLeast (LacksPort n (map told (take i asks))) r → IsLeast (LacksPort n (map told (take (i + 1) asks))) (lesser r (found_if bad ask.line))
 lacks_next n asks i ask bad r exact lt is least =
-    subst (λ (l : List Asked). IsLeast (LacksPort n l) (lesser r (line_if bad ask.line))) (sym (map_next told asks i ask lt is)) (lacks_last n (map told (take i asks)) (told ask) bad exact r least)
+    subst (λ (l : List Asked). IsLeast (LacksPort n l) (lesser r (found_if bad ask.line))) (sym (map_next told asks i ask lt is)) (lacks_last n (map told (take i asks)) (told ask) bad exact r least)
 
 pub lacks_all : (n : Netlist) (asks : List Ask) (i : ℕ) (r : Option ℕ) → length asks ≤ i → IsLeast (LacksPort n (map told (take i asks))) r → IsLeast (LacksPort n (map told asks)) r
 lacks_all n asks i r le least = subst (λ (l : List Ask). IsLeast (LacksPort n (map told l)) r) (take_all i asks le) least
 
 pub lacks_at : (n : Netlist) (asks : List Ask) (i : ℕ) (d : Ask) (bad : Bool) (r : Option ℕ) → Decides bad (HasNoInput n (told (get_or asks i d)) ⊎ HasNoOutput n (told (get_or asks i d))) → i < length asks
-    → IsLeast (LacksPort n (map told (take i asks))) r → IsLeast (LacksPort n (map told (take (i + 1) asks))) (lesser r (line_if bad (get_or asks i d).line))
+    → IsLeast (LacksPort n (map told (take i asks))) r → IsLeast (LacksPort n (map told (take (i + 1) asks))) (lesser r (found_if bad (get_or asks i d).line))
 lacks_at n asks i d bad r exact lt least = lacks_next n asks i (get_or asks i d) bad r exact lt (get_or_default asks i d (get_or asks i d) lt) least

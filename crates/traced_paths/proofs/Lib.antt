@@ -1,7 +1,5 @@
-pub mod ExtraNames
 pub mod FirstMet
 pub mod LacksLines
-pub mod PathNumbers
 pub mod OnceNames
 pub mod PathsFaults
 pub mod PortNames

@@ -27,9 +27,9 @@ use Rattle.chain_trace.specs.Named.{IsPortNamed}
 use Rattle.chain_trace.specs.Drivers.{Traced}
 use Rattle.chain_trace.proofs.TraceKinds.{trace_late, trace_early}
 use Rattle.chain_trace.proofs.Unique.{path_unique}
-use Rattle.def_reader.specs.Steps.{IsLeast}
-use Rattle.def_reader.proofs.DesignFaults.{line_case}
-use Rattle.def_reader.proofs.Members.{flat_from}
+use Rattle.list_laws.specs.Leasts.{IsLeast}
+use Rattle.list_laws.proofs.LeastLines.{line_case}
+use Rattle.list_laws.proofs.Members.{flat_from}
 use Rattle.traced_paths.specs.Asked.{Asked, outputs_of}
 use Rattle.traced_paths.specs.Traced.{steps_of, ArePathsOf, LacksPort, AsksTooMany, IsMet, IsAskedPath, IsShared, HoldsInPaths, OfPort, OfCount, OfTrace, OfCell}
 use Rattle.traced_paths.specs.Steps.{AreOutputs, IsTooMany, IsMetFrom, AreTraced, StandsAgain}

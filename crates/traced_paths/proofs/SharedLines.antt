@@ -10,10 +10,9 @@ use Rattle.chain_trace.specs.declared.path.Step.{Step}
 use Rattle.chain_trace.specs.Faults.{IsAmong, line_of_instance}
 use Rattle.chain_trace.specs.Drivers.{same_place, AreMarks}
 use Rattle.chain_trace.proofs.Marked.{marks_more, marked_among, among_marked}
-use Rattle.def_reader.specs.Steps.{IsLeast, lesser, line_if}
-use Rattle.def_reader.proofs.LeastLines.{same_least, either, alone}
-use Rattle.def_reader.proofs.RowsMore.{take_next, flat_next}
-use Rattle.def_reader.proofs.Again.{split_last, nil_not}
+use Rattle.list_laws.specs.Leasts.{IsLeast, lesser, found_if}
+use Rattle.list_laws.proofs.LeastLines.{same_least, either, alone}
+use Rattle.list_laws.proofs.RowsMore.{take_next, flat_next, split_last, nil_not}
 use Rattle.traced_paths.specs.Traced.{steps_of}
 use Rattle.traced_paths.specs.Steps.{is_marked, IsMarked, StandsAgain}
 
@@ -33,22 +32,22 @@ module _ (n : Netlist) {S : Type 0} (marks : HashSet (ℕ × ℕ) S) where
           | inr same ↦ inr (subst (λ (s : Step). is_marked marks s ≡ true) (sym same) h.marked, h.is ∙ ap (line_at n) (sym same))
         ]
 
-    marked_last : (r : Option ℕ) → IsLeast (IsMarked n marks steps) r → IsLeast (IsMarked n marks (steps ++ step ∷ [])) (lesser r (line_if (is_marked marks step) (line_at n step)))
+    marked_last : (r : Option ℕ) → IsLeast (IsMarked n marks steps) r → IsLeast (IsMarked n marks (steps ++ step ∷ [])) (lesser r (found_if (is_marked marks step) (line_at n step)))
     marked_last r least =
         same_least (λ line. IsMarked n marks steps line ⊎ ((is_marked marks step ≡ true) × (line ≡ line_at n step))) (IsMarked n marks (steps ++ step ∷ [])) _ to_end from_end
-        (either (IsMarked n marks steps) (λ line. (is_marked marks step ≡ true) × (line ≡ line_at n step)) r (line_if (is_marked marks step) (line_at n step)) least (alone (is_marked marks step) (line_at n step)))
+        (either (IsMarked n marks steps) (λ line. (is_marked marks step ≡ true) × (line ≡ line_at n step)) r (found_if (is_marked marks step) (line_at n step)) least (alone (is_marked marks step) (line_at n step)))
 
   pub marked_none : IsLeast (IsMarked n marks []) None
   marked_none = λ line h. absurd (omega (arith, h.there.1))
 
   -- one step more is looked at
   marked_next : (steps : List Step) (i : ℕ) (step : Step) (r : Option ℕ) → i < length steps → step ≡ get_or steps i step → IsLeast (IsMarked n marks (take i steps)) r
-      → IsLeast (IsMarked n marks (take (i + 1) steps)) (lesser r (line_if (is_marked marks step) (line_at n step)))
+      → IsLeast (IsMarked n marks (take (i + 1) steps)) (lesser r (found_if (is_marked marks step) (line_at n step)))
   marked_next steps i step r lt is least =
-      subst (λ (l : List Step). IsLeast (IsMarked n marks l) (lesser r (line_if (is_marked marks step) (line_at n step)))) (sym (take_next steps i step lt is)) (marked_last (take i steps) step r least)
+      subst (λ (l : List Step). IsLeast (IsMarked n marks l) (lesser r (found_if (is_marked marks step) (line_at n step)))) (sym (take_next steps i step lt is)) (marked_last (take i steps) step r least)
 
   pub marked_at : (steps : List Step) (i : ℕ) (d : Step) (r : Option ℕ) → i < length steps → IsLeast (IsMarked n marks (take i steps)) r
-      → IsLeast (IsMarked n marks (take (i + 1) steps)) (lesser r (line_if (is_marked marks (get_or steps i d)) (line_at n (get_or steps i d))))
+      → IsLeast (IsMarked n marks (take (i + 1) steps)) (lesser r (found_if (is_marked marks (get_or steps i d)) (line_at n (get_or steps i d))))
   marked_at steps i d r lt least = marked_next steps i (get_or steps i d) r lt (get_or_default steps i d (get_or steps i d) lt) least
 
   pub marked_all : (steps : List Step) (i : ℕ) (r : Option ℕ) → length steps ≤ i → IsLeast (IsMarked n marks (take i steps)) r → IsLeast (IsMarked n marks steps) r

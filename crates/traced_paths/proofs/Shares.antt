@@ -8,7 +8,7 @@ use Rattle.chain_trace.specs.declared.path.Path.{Path}
 use Rattle.chain_trace.specs.declared.path.Step.{Step}
 use Rattle.chain_trace.specs.Paths.{AreOfOnePath, StandOnce}
 use Rattle.chain_trace.specs.Faults.{IsAmong}
-use Rattle.def_reader.proofs.Members.{flat_from, flat_to}
+use Rattle.list_laws.proofs.Members.{flat_from, flat_to}
 use Rattle.traced_paths.specs.Traced.{steps_of}
 use Rattle.traced_paths.specs.Steps.{StandsAgain}
 use Rattle.traced_paths.proofs.SharedLines.{line_at}

@@ -18,7 +18,7 @@ use Rattle.base_types.specs.declared.fault.FileKind.{FileKind}
 use Rattle.base_types.specs.declared.kind.Kind.TheVariants.{TooManyPaths}
 use Rattle.base_types.specs.Faults.{at_line}
 use Rattle.base_types.proofs.TruthValues.{bytes_turned, or_false}
-use Rattle.def_reader.proofs.RowsMore.{map_next}
+use Rattle.list_laws.proofs.RowsMore.{map_next}
 use Rattle.traced_paths.specs.declared.asks.Ask.{Ask}
 use Rattle.traced_paths.specs.Asked.{Asked, once_behind, outputs_of, told}
 use Rattle.traced_paths.specs.Traced.{LacksPort}

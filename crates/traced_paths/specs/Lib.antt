@@ -1,4 +1,4 @@
 pub mod Asked
-pub mod Numbers
+pub mod Bits
 pub mod Steps
 pub mod Traced

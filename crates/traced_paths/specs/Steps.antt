@@ -1,5 +1,5 @@
 -- What the calls know on their way over paths, ports and what is asked for.
-use Rattle.std.specs.Prelude.{◌≡◌, ◌≤◌, ℕ, Bool, true, ◌==◌, ◌&&◌, ◌||◌, nat_lt, if◌then◌else◌, List, [], ◌∷◌, ◌++◌, length, map, All, codes, IsTrue, Contains, Option, Some, None}
+use Rattle.std.specs.Prelude.{◌≡◌, ◌≤◌, ℕ, Bool, true, ◌==◌, ◌&&◌, ◌||◌, nat_lt, if◌then◌else◌, List, [], ◌∷◌, ◌++◌, length, map, All, IsTrue, Contains, Option, Some, None}
 use Rattle.std.specs.Borrow.{Bor}
 use Rattle.std.specs.HashSet.{HashSet, contains}
 use Rattle.std.specs.List.{list_any, slice_get}
@@ -20,10 +20,7 @@ use Rattle.chain_trace.specs.declared.path.Step.{Step}
 use Rattle.chain_trace.specs.Paths.{is_driven, has_port, IsScanPath}
 use Rattle.chain_trace.specs.Faults.{IsTraceFault, IsAmong, line_of_instance}
 use Rattle.chain_trace.specs.Drivers.{same_place}
-use Rattle.def_reader.specs.declared.design.Design.{Design}
-use Rattle.def_reader.specs.declared.design.DesignPin.{DesignPin}
 use Rattle.traced_paths.specs.Asked.{Asked, outputs_of}
-use Rattle.traced_paths.specs.Numbers.{begins_with, has_extra}
 use Rattle.traced_paths.specs.Traced.{AsksTooMany, NameEntries, steps_of}
 
 -- so many bits, which are few enough
@@ -106,12 +103,3 @@ pub record StandsAgain (n : Netlist) (paths : List Path) (line : ℕ) : Type 0 w
   pub there : Contains path.steps step
   pub again : IsAmong (steps_of front) step
   pub line_is : line ≡ line_of_instance (slice_get n.instances step.instance)
-
--- these names tell of any port whether a design pin besides stands for it
-abbrev pub AreExtras : List DesignPin → List (Bor (List ℕ)) → Type 0
-AreExtras pins names =
-    (name : List ℕ) → list_any (λ other. begins_with (name ++ codes ".extra") other.now) names ≡ list_any (λ pin. begins_with (name ++ codes ".extra") pin.name) pins
-
--- the same of a design, where there is one
-pub record HasExtras (d : Option Design) (names : List (Bor (List ℕ))) : Type 0 where
-  pub tell : (name : List ℕ) → list_any (λ other. begins_with (name ++ codes ".extra") other.now) names ≡ has_extra d name

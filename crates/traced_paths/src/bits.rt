@@ -1,6 +1,6 @@
 //! How many bits paths have.
 ghost use Rattle.std.specs.Prelude.{◌≡◌, ◌≤◌, ◌<◌, ◌+◌, true, false, IfErr, OnOk, MatchOption};
-ghost use Rattle.traced_paths.specs.Numbers.{step_bits, path_bits, all_bits, HaveTooManyBits};
+ghost use Rattle.traced_paths.specs.Bits.{step_bits, path_bits, all_bits, HaveTooManyBits};
 ghost use Rattle.traced_paths.specs.Steps.{AreFew};
 
 use base_types::{Fault, FileKind, Kind};
@@ -11,7 +11,8 @@ use netlist_core::Netlist;
 /// How many bits the paths of a netlist may have together.
 const MOST_BITS: usize = 262_144;
 
-pub(crate) fn step_bits(netlist: &Netlist, table: &CellTable, step: Step) -> usize
+/// How many bits a step has; none where its instance has no such path.
+pub fn step_bits(netlist: &Netlist, table: &CellTable, step: Step) -> usize
     ensures value { result ≡ step_bits netlist.now table.now step }
 {
     match scan_path(netlist, table, step.instance, step.path) {

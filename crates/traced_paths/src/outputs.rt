@@ -8,8 +8,7 @@ ghost use Rattle.traced_paths.specs.Steps.{HaveOutputs, AreOutputs, AreFull, IsT
 use crate::asks::Ask;
 use crate::ports::output;
 use base_types::{Fault, FileKind, Kind, NoMemory, ReadFault};
-use def_reader::Ports;
-use netlist_core::NetId;
+use netlist_core::{NetId, Ports};
 use std::alloc::Global;
 use std::collections::HashSet;
 

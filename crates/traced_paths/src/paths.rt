@@ -18,8 +18,7 @@ use crate::tracing::trace_all;
 use base_types::{Fault, FileKind, Kind, ReadFault};
 use cell_table::CellTable;
 use chain_trace::{Path, Tracer};
-use def_reader::Ports;
-use netlist_core::{Classes, Netlist};
+use netlist_core::{Classes, Netlist, Ports};
 use std::alloc::Global;
 
 fn refused(kind: Kind, file: FileKind, line: u64) -> ReadFault

@@ -4,13 +4,13 @@ ghost use Rattle.std.specs.Bool.{Decides};
 ghost use Rattle.netlist_core.specs.declared.netlist.NetId.{NetId as Net};
 ghost use Rattle.chain_trace.specs.Paths.{drives, is_driven};
 ghost use Rattle.chain_trace.specs.Named.{IsPortNamed};
-ghost use Rattle.def_reader.specs.Steps.{IsLeast};
+ghost use Rattle.list_laws.specs.Leasts.{IsLeast};
 ghost use Rattle.traced_paths.specs.Traced.{HasNoInput, HasNoOutput, LacksPort};
 ghost use Rattle.traced_paths.specs.Asked.{told};
 
 use crate::asks::Ask;
-use def_reader::{Ports, lesser, line_if};
-use netlist_core::{Direction, NetId};
+use list_laws::{lesser, line_if};
+use netlist_core::{Direction, NetId, Ports};
 
 fn drives(direction: Direction) -> bool
     ensures value { result ≡ drives direction }

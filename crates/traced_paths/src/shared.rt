@@ -2,12 +2,12 @@
 ghost use Rattle.std.specs.Prelude.{◌≡◌, ◌++◌, List, IfOk, OnOk};
 ghost use Rattle.chain_trace.specs.declared.path.Step.{Step as Lists};
 ghost use Rattle.chain_trace.specs.Drivers.{AreMarks};
-ghost use Rattle.def_reader.specs.Steps.{IsLeast};
+ghost use Rattle.list_laws.specs.Leasts.{IsLeast};
 ghost use Rattle.traced_paths.specs.Steps.{is_marked, IsMarked, StandsAgain};
 
 use base_types::NoMemory;
 use chain_trace::{Path, Sink, Step, sink_line};
-use def_reader::{lesser, line_if};
+use list_laws::{lesser, line_if};
 use netlist_core::Netlist;
 use std::alloc::Global;
 use std::collections::HashSet;

@@ -14,7 +14,7 @@ use Rattle.stil_tester.specs.Meaning.{Patterns, HaveSameMeaning}
 use Rattle.stil_tester.proofs.Meanings.{run_alike}
 use Rattle.stil_written.specs.Readings.{reading}
 use Rattle.scan_verify.specs.Patterns.{pattern_of}
-use Rattle.play_command.specs.Progress.{Fits}
+use Rattle.declared_chains.specs.Files.{Fits}
 use Rattle.same_files.specs.Sets.{ReadSet, ArePatternsOf, meant_by}
 use Rattle.verify_command.specs.declared.places.Difference.{Difference}
 use Rattle.verify_command.specs.declared.places.Place.{Place}

@@ -7,7 +7,7 @@ use Rattle.stil_types.specs.declared.statement.PatternStatement.{PatternStatemen
 use Rattle.stil_reader.specs.Cursors.{Ahead, IsReadable}
 use Rattle.stil_tester.specs.declared.chains.Chains.{Chains}
 use Rattle.scan_verify.specs.Patterns.{IsReady, IsSamePlace, differing, pattern_of}
-use Rattle.play_command.specs.Progress.{Fits}
+use Rattle.declared_chains.specs.Files.{Fits}
 use Rattle.verify_command.specs.declared.places.Difference.{Difference}
 use Rattle.verify_command.specs.Steps.{TakesStatement, TakesNext, DiffersAt, IsFound, AreBeside, AreCounted}
 use Rattle.verify_command.proofs.Comparing.{ready, up_begun, up_on, first_here, second_here, first_none, second_none, differs_at, all_found}

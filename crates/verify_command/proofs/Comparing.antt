@@ -14,7 +14,7 @@ use Rattle.stil_tester.specs.declared.chains.Chains.{Chains}
 use Rattle.stil_tester.specs.Meaning.{AllAlike, AllShowSame}
 use Rattle.stil_written.specs.Readings.{reading}
 use Rattle.scan_verify.specs.Patterns.{IsReadyCall, IsReady, IsSamePlace, differing}
-use Rattle.play_command.specs.Progress.{Fits}
+use Rattle.declared_chains.specs.Files.{Fits}
 use Rattle.verify_command.specs.declared.places.Difference.{Difference}
 use Rattle.verify_command.specs.Steps.{AreSameUpTo, DiffersAt, IsFound}
 

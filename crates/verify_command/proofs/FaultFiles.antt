@@ -16,7 +16,7 @@ use Rattle.stil_types.specs.declared.head.StilHead.{StilHead}
 use Rattle.traced_paths.specs.Asked.{Asked}
 use Rattle.traced_paths.specs.Traced.{HoldsInPaths, OfPort, OfCount, OfTrace, OfCell}
 use Rattle.head_checks.specs.Heads.{HoldsInHeads, OfPort as OfScanIn, OfLength, OfInversion, OfCells}
-use Rattle.play_command.specs.Faults.{HoldsBeforePatterns, OfTable, OfVerilog, OfHead, OfPaths, OfDeclarations, OfBits, HoldsInPlay, Before, OfPatterns}
+use Rattle.declared_chains.specs.Faults.{HoldsBeforePatterns, OfTable, OfVerilog, OfHead, OfPaths, OfDeclarations, OfBits, HoldsInPlay, Before, OfPatterns}
 use Rattle.verify_command.proofs.VerilogFiles.{in_verilog}
 
 -- one of the files of `play`

@@ -6,7 +6,7 @@ use Rattle.base_types.specs.declared.fault.FileKind.TheVariants.{Table, Verilog,
 use Rattle.base_types.specs.declared.fault.Spot.{Spot}
 use Rattle.base_types.specs.declared.kind.Kind.{Kind}
 use Rattle.base_types.specs.FirstFault.{ComesBefore, IsFirstFault}
-use Rattle.play_command.specs.Faults.{HoldsInPlay}
+use Rattle.declared_chains.specs.Faults.{HoldsInPlay}
 use Rattle.verify_command.specs.Faults.{at_new, HoldsInVerify, OfFirst, OfSecond, IsNewFault}
 use Rattle.verify_command.proofs.FaultFiles.{IsPlayFile, of_play}
 

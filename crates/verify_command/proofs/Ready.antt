@@ -5,7 +5,7 @@ use Rattle.stil_types.specs.declared.statement.PatternStatement.{PatternStatemen
 use Rattle.stil_reader.specs.Cursors.{Ahead, IsReadable}
 use Rattle.stil_tester.specs.declared.chains.Chains.{Chains}
 use Rattle.scan_verify.specs.Patterns.{IsReady}
-use Rattle.play_command.specs.Progress.{Fits}
+use Rattle.declared_chains.specs.Files.{Fits}
 use Rattle.verify_command.specs.Steps.{TakesStatement, TakesNext, GoOn}
 use Rattle.verify_command.proofs.Comparing.{ready}
 

@@ -4,7 +4,7 @@ use Rattle.base_types.specs.declared.fault.Fault.{Fault}
 use Rattle.base_types.specs.declared.fault.FileKind.{FileKind}
 use Rattle.base_types.specs.declared.fault.FileKind.TheVariants.{Table, Lef, Verilog, Def, Stil, NewVerilog, NewStil, Log, Words}
 use Rattle.base_types.specs.FirstFault.{IsFirstFault}
-use Rattle.play_command.specs.Faults.{HoldsInPlay}
+use Rattle.declared_chains.specs.Faults.{HoldsInPlay}
 
 -- the file of the second set that is read as this one of the first
 abbrev pub new_file : FileKind → FileKind

@@ -3,7 +3,7 @@
 //!
 //! Floor: top, on base_types, token_forms, netlist_core, cell_table, verilog_syntax, verilog_checks, chain_trace,
 //! traced_paths, head_checks, path_chains, stil_types, stil_tokens, stil_syntax, stil_parts, stil_head, stil_calls,
-//! stil_reader, stil_tester, stil_written, head_alike, scan_verify, retarget, play_command, same_files and `itoa`.
+//! stil_reader, stil_tester, stil_written, head_alike, scan_verify, retarget, same_files, declared_chains and `itoa`.
 //! Contract: `verify_text` says what `specs/Texts.antt` says, or answers the first fault of `specs/Faults.antt`; it says `same` exactly
 //! where the sets are the same (`specs/Same.antt` of same_files). `read_new`, `are_same_sets` and
 //! `next_statement` serve whoever goes on with two sets that are the same. `difference_note` tells a user what differs; no clause speaks

@@ -1,7 +1,7 @@
 //! The first place at which two texts of patterns differ.
 ghost use Rattle.std.specs.Prelude.{◌≡◌, ◌↔◌, ◌+◌, ◌<◌, ◌^◌, if◌then◌else◌, Some, None, nat_eq, length, take, count_by, IfOk, IfSome, IsTrue};
 ghost use Rattle.scan_verify.specs.Patterns.{IsReady, IsSamePlace, differing, pattern_of};
-ghost use Rattle.play_command.specs.Progress.{Fits};
+ghost use Rattle.declared_chains.specs.Files.{Fits};
 ghost use Rattle.same_files.specs.Sets.{ArePatternsOf, meant_by};
 ghost use Rattle.verify_command.specs.Steps.{IsFound, IsPlaceOf};
 

@@ -1,6 +1,6 @@
 //! Which statements of two sets differ first, in words for a user.
 ghost use Rattle.std.specs.Prelude.{◌≡◌, ◌<◌, ◌^◌, length, None, IfOk};
-ghost use Rattle.play_command.specs.Progress.{Fits};
+ghost use Rattle.declared_chains.specs.Files.{Fits};
 ghost use Rattle.same_files.specs.Sets.{ArePatternsOf};
 ghost use Rattle.verify_command.specs.Steps.{AreReady};
 

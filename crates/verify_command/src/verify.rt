@@ -2,7 +2,7 @@
 ghost use Rattle.std.specs.Prelude.{◌≡◌, ◌↔◌, ◌≤◌, ◌<◌, ◌^◌, length, IfOk, OnOk};
 ghost use Rattle.base_types.specs.declared.fault.Fault.{Fault as ghost_fault};
 ghost use Rattle.base_types.specs.FirstFault.{IfFault, IsFirstFault};
-ghost use Rattle.play_command.specs.Faults.{HoldsInPlay};
+ghost use Rattle.declared_chains.specs.Faults.{HoldsInPlay};
 ghost use Rattle.same_files.specs.Same.{AreSameFiles};
 ghost use Rattle.same_files.specs.Sets.{IsSet};
 ghost use Rattle.verify_command.specs.Faults.{HoldsInVerify, IsNewFault, at_new, new_file};

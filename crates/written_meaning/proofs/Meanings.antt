@@ -34,8 +34,9 @@ use Rattle.retarget.specs.Retargeting.{HaveSameCells}
 use Rattle.retargeted_patterns.specs.Texts.{TextsLaw}
 use Rattle.path_chains.specs.Numbered.{bits_along}
 use Rattle.path_chains.specs.Ranked.{rank_of, bits_of_all, chains_along}
-use Rattle.path_chains.proofs.Along.{same_along, ranked_are}
-use Rattle.traced_paths.specs.Numbers.{all_bits}
+use Rattle.chain_maps.proofs.Along.{same_along}
+use Rattle.path_chains.proofs.RankedChains.{ranked_are}
+use Rattle.traced_paths.specs.Bits.{all_bits}
 use Rattle.head_alike.specs.Erased.{head_tokens}
 use Rattle.head_text.specs.Written.{NewChain, written_head, declared}
 use Rattle.head_text.specs.Laws.{read_names, FitChains, MayFollow, DenotesAnew}

@@ -27,11 +27,12 @@ use Rattle.net_edit.proofs.TablePins.{pins_once}
 use Rattle.path_links.proofs.PathLists.{Has, has, contains, flat_from, flat_has}
 use Rattle.plan_paths.specs.NewPaths.{new_paths}
 use Rattle.plan_paths.proofs.Arranged.{rearranged}
-use Rattle.path_chains.specs.Numbered.{bit_count, CountsBits, HaveBits}
-use Rattle.path_chains.proofs.KeepsBits.{keeps_bits}
-use Rattle.head_checks.specs.Asked.{asked_by}
+use Rattle.path_chains.specs.Numbered.{bit_count, HaveBits}
+use Rattle.chain_maps.specs.Kept.{CountsBits}
+use Rattle.chain_maps.proofs.KeepsBits.{keeps_bits}
+use Rattle.head_chains.specs.Asked.{asked_by}
 use Rattle.traced_paths.specs.Traced.{NameEntries}
-use Rattle.traced_paths.specs.Numbers.{length_of, all_bits}
+use Rattle.traced_paths.specs.Bits.{length_of, all_bits}
 use Rattle.head_checks.specs.Heads.{HoldsInHeads}
 use Rattle.path_laws.proofs.Declared.{declared}
 use Rattle.stil_types.specs.declared.head.StilHead.{StilHead}
@@ -97,7 +98,7 @@ module _ (t : Texts) (text : List ℕ) (cells : Cells) (macros : NamedMacros) (n
   counts = λ step. same_count (scan_path_at n cells step.instance step.path)
 
   old_bits : HaveBits n cells paths
-  old_bits = (declared text head n cells (Some d) paths checked.head_is netlist checked.traced entries right).bits
+  old_bits = (declared text head n cells paths checked.head_is netlist checked.traced entries right).bits
 
   pub are_planned : AreMovable n cells (Some d) paths new text head
   are_planned = record {

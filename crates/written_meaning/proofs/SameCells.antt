@@ -14,14 +14,14 @@ use Rattle.chain_trace.specs.Parities.{Mark, entry_marks, step_marks, path_marks
 use Rattle.path_links.proofs.PathLists.{Has, has, contains}
 use Rattle.path_links.proofs.PathLinks.{once}
 use Rattle.net_edit.specs.Rearranged.{steps_of, AreRearranged}
-use Rattle.plan_paths.proofs.Places.{NoTwice, map_has}
+use Rattle.path_links.proofs.NoTwice.{NoTwice, map_has}
 use Rattle.path_chains.specs.Numbered.{bits_along, bits_of_paths}
 use Rattle.path_chains.specs.Ranked.{name_of, key_of, key_cmp, comes_before, rank_of}
-use Rattle.path_chains.specs.Along.{HaveSameInstances}
+use Rattle.chain_maps.specs.Along.{HaveSameInstances}
 use Rattle.path_chains.proofs.Cells.{all_of_steps, bits_once, in_map, to_bits}
 use Rattle.reorder_command.proofs.Heads.{Head, head, heads, head_at, scan_path_kept, out_pin_kept}
 use Rattle.written_meaning.specs.Meaning.{NameSameCells}
-use Rattle.same_files.proofs.SameCounts.{same_count}
+use Rattle.path_chains.proofs.SameBits.{same_count}
 
 heads_by : (xs ys : List Instance) → map (λ (i : Instance). i.name) xs ≡ map (λ (i : Instance). i.name) ys → map (λ (i : Instance). i.cell) xs ≡ map (λ (i : Instance). i.cell) ys → map head xs ≡ map head ys
 heads_by [] [] names cells = refl

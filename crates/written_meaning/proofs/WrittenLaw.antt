@@ -12,7 +12,7 @@ use Rattle.chain_rules.specs.declared.unit.Rules.{Rules}
 use Rattle.chain_rules.specs.Legality.{IsLegal}
 use Rattle.plan_paths.specs.NewPaths.{new_paths}
 use Rattle.path_chains.specs.Ranked.{chains_along}
-use Rattle.path_chains.proofs.Along.{same_instances}
+use Rattle.chain_maps.proofs.Along.{same_instances}
 use Rattle.stil_types.specs.declared.head.StilHead.{StilHead}
 use Rattle.stil_tester.specs.declared.chains.Chains.{Chains}
 use Rattle.stil_reader.specs.Sayings.{Told, told_whole}
@@ -26,7 +26,7 @@ use Rattle.head_writer.specs.Anew.{KeepsNames, AnewLaw}
 use Rattle.design_files.specs.Files.{Texts, with_head}
 use Rattle.design_files.specs.Faults.{HoldsInFiles}
 use Rattle.net_edit.specs.declared.edits.Edits.{Edits}
-use Rattle.play_command.specs.Files.{IsHeadText}
+use Rattle.declared_chains.specs.Files.{IsHeadText}
 use Rattle.reorder_command.specs.declared.patterns.PatternPlan.{PatternPlan}
 use Rattle.reorder_command.specs.Reordered.{IsChecked, IsVerilogOf, AreSamePaths}
 use Rattle.reorder_command.specs.PatternPlans.{IsPatternPlan, ArePatternsPlanned}

@@ -6,7 +6,7 @@ use Rattle.design_files.specs.Faults.{HoldsInFiles}
 use Rattle.reorder_command.specs.declared.patterns.PatternPlan.{PatternPlan}
 use Rattle.reorder_command.specs.Reordered.{IsWrittenDesign}
 use Rattle.reorder_command.specs.PatternPlans.{ArePlannedBeside}
-use Rattle.play_command.specs.Files.{IsHeadText}
+use Rattle.declared_chains.specs.Files.{IsHeadText}
 use Rattle.stil_reader.specs.Sayings.{told_whole}
 use Rattle.stil_written.specs.Written.{written_says}
 use Rattle.written_meaning.specs.Meaning.{KeepsMeaning, form_of}

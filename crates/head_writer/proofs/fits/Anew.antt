@@ -21,7 +21,7 @@ use Rattle.def_reader.specs.declared.design.Design.{Design}
 use Rattle.stil_types.specs.declared.head.ScanChainDecl.{ScanChainDecl}
 use Rattle.stil_types.specs.declared.head.StilHead.{StilHead}
 use Rattle.stil_head.specs.Ends.{head_text}
-use Rattle.traced_paths.specs.Numbers.{step_bits, path_bits}
+use Rattle.traced_paths.specs.Bits.{step_bits, path_bits}
 use Rattle.head_checks.specs.CellNames.{names_cell, name_each}
 use Rattle.head_checks.specs.Heads.{Declared, begins_elsewhere, has_other_length, is_other, has_other_inversion, step_names, bit_names, differ, are_listed, lists_others, HoldsInHeads, OfPort, OfLength, OfInversion, OfCells}
 use Rattle.path_chains.specs.Numbered.{bits_along}

@@ -14,16 +14,17 @@ use Rattle.chain_trace.specs.Parities.{path_marks, NamesEntry}
 use Rattle.path_links.proofs.PathLists.{Has, has, contains, flat_has}
 use Rattle.path_links.proofs.PathLinks.{once}
 use Rattle.net_edit.specs.Rearranged.{steps_of, AreAligned}
-use Rattle.plan_paths.proofs.Places.{NoTwice}
+use Rattle.path_links.proofs.NoTwice.{NoTwice}
 use Rattle.def_reader.specs.declared.design.Design.{Design}
 use Rattle.stil_types.specs.declared.head.ScanChainDecl.{ScanChainDecl}
 use Rattle.stil_types.specs.declared.head.StilHead.{StilHead}
 use Rattle.stil_head.specs.Ends.{head_text}
 use Rattle.stil_head.specs.Heads.{IsHead}
-use Rattle.traced_paths.specs.Numbers.{all_bits}
+use Rattle.traced_paths.specs.Bits.{all_bits}
 use Rattle.head_checks.specs.Heads.{Declared, begins_elsewhere, bit_names, lists_others, are_listed, line_of, OfPort, OfCells}
 use Rattle.path_chains.specs.Numbered.{bits_along, bits_of_paths}
 use Rattle.path_chains.proofs.Cells.{all_of_steps, bits_once, to_bits}
+use Rattle.head_chains.proofs.ByBlocks.{by_blocks}
 use Rattle.path_laws.proofs.Declared.{declared}
 use Rattle.head_text.specs.Laws.{read_names, FitsChain, FitChains}
 use Rattle.head_writer.specs.declared.names.NamedBit.{NamedBit}
@@ -105,7 +106,7 @@ module _ (bytes text : List ℕ) (head : StilHead) (n : Netlist) (cells : Cells)
   -- as many paths as chains, before and after
   pub as_many : length head.chains ≡ length paths
   as_many =
-      let are = declared bytes head n cells d paths read.denotes read.netlist read.traced read.entries read.right in
+      let are = declared bytes head n cells paths read.denotes read.netlist (by_blocks n cells d head paths read.traced) read.entries read.right in
       sym (length-map head.chains (λ (c : ScanChainDecl). c.length)) ∙ ap length (sym are.lengths) ∙ length-map paths (λ (p : Path). length (bits_along n cells p).bits)
 
   pub as_many_new : length new ≡ length paths

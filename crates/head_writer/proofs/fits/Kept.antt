@@ -10,10 +10,10 @@ use Rattle.cell_table.specs.Table.{paths_at}
 use Rattle.chain_trace.specs.declared.path.Step.{Step}
 use Rattle.chain_trace.specs.Paths.{scan_path_at, out_pin_at}
 use Rattle.chain_trace.specs.Parities.{odd, entry_inversions, path_parity}
-use Rattle.traced_paths.specs.Numbers.{length_of, step_bits}
+use Rattle.traced_paths.specs.Bits.{length_of, step_bits}
 use Rattle.head_checks.specs.Heads.{name_of, step_names}
-use Rattle.path_chains.specs.Along.{HaveSameInstances}
-use Rattle.path_chains.proofs.Along.{same_instances}
+use Rattle.chain_maps.specs.Along.{HaveSameInstances}
+use Rattle.chain_maps.proofs.Along.{same_instances}
 use Rattle.head_writer.specs.Anew.{KeptLaw}
 
 pub kept : KeptLaw

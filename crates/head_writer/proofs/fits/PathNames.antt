@@ -16,7 +16,7 @@ use Rattle.chain_trace.specs.declared.path.Path.{Path}
 use Rattle.chain_trace.specs.Paths.{scan_path_at, out_pin_at}
 use Rattle.chain_trace.specs.Parities.{Mark, Turn, Bit, bit_marks, entry_marks, step_marks, path_marks, bits_in, plus, parities, NamesEntry}
 use Rattle.traced_paths.specs.Traced.{NameEntries}
-use Rattle.traced_paths.specs.Numbers.{length_of, step_bits, path_bits, all_bits}
+use Rattle.traced_paths.specs.Bits.{length_of, step_bits, path_bits, all_bits}
 use Rattle.head_checks.specs.Heads.{name_of, step_names}
 use Rattle.path_chains.specs.Numbered.{bits_along, bits_of_paths}
 

@@ -26,7 +26,7 @@ use Rattle.chain_rules.specs.declared.spec.ChainSpec.{ChainSpec}
 use Rattle.chain_rules.specs.Stretches.{no_step, path_at, step_at, spec_at, bits_between, groups_of, elements_of, IsListed, Stretch, BeginsAt, EndsAt, StandsIn, IsStretch, IsEndStep, HasEndIn, Disturbs, IsNamedBy, elements_in, groups_in}
 use Rattle.chain_rules.specs.ChainFaults.{IsNotAStretch, IsUnlistedBits, IsOrderBroken, IsOverMaxBits, IsTooManyUnits, IsFaulty}
 use Rattle.def_reader.specs.Agreement.{port_named}
-use Rattle.traced_paths.specs.Numbers.{step_spec, path_spec, path_specs}
+use Rattle.path_numbers.specs.Numbers.{step_spec, path_spec, path_specs}
 use Rattle.design_elements.specs.Elements.{instance_number, element_spec, chain_spec, chain_specs}
 use Rattle.design_maker.specs.Chains.{chain_length, unit_of, max_bits}
 use Rattle.made_law.specs.Designs.Names.{unit, in_port, out_port}

@@ -7,11 +7,12 @@ use Rattle.std.proofs.lemmas.List.Sums.{sum_by-cons}
 use Rattle.base_types.specs.declared.fault.Fault.{Fault}
 use Rattle.cell_table.specs.Table.{small_cells}
 use Rattle.chain_trace.specs.Parities.{odd, step_inversions}
-use Rattle.traced_paths.specs.Numbers.{step_bits, path_bits}
+use Rattle.traced_paths.specs.Bits.{step_bits, path_bits}
 use Rattle.def_reader.specs.declared.design.ScanChainText.{ScanChainText}
 use Rattle.stil_types.specs.declared.head.ScanChainDecl.{ScanChainDecl}
 use Rattle.stil_types.specs.declared.head.StilHead.{StilHead}
-use Rattle.head_checks.specs.Heads.{Declared, begins_elsewhere, has_other_length, has_other_inversion, are_listed, lists_others, line_of, FailsOn, is_undeclared, HoldsInHeads, OfPort, OfLength, OfInversion, OfCells, Undeclared}
+use Rattle.head_checks.specs.Heads.{Declared, begins_elsewhere, has_other_length, has_other_inversion, are_listed, lists_others, line_of, FailsOn, HoldsInHeads, OfPort, OfLength, OfInversion, OfCells}
+use Rattle.head_chains.specs.Chains.{is_undeclared, Undeclared}
 use Rattle.design_maker.specs.Chains.{chain_length, unit_of}
 use Rattle.made_law.specs.Designs.Places.{Place}
 use Rattle.made_law.specs.Designs.MadeChains.{made_chain, made_chains}

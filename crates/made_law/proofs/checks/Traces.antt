@@ -25,9 +25,9 @@ use Rattle.chain_trace.specs.Faults.{IsTraceFault}
 use Rattle.chain_trace.proofs.Meeting.{no_path}
 use Rattle.chain_trace.proofs.Unique.{path_unique}
 use Rattle.traced_paths.specs.Asked.{Asked, once_behind, outputs_of}
-use Rattle.head_checks.specs.Asked.{asked_by_chain}
+use Rattle.head_chains.specs.Asked.{asked_by_chain}
 use Rattle.traced_paths.specs.Traced.{steps_of, ArePathsOf, HasNoInput, HasNoOutput, LacksPort, AsksTooMany, IsMet, IsAskedPath, IsShared, HoldsInPaths, OfPort, OfCount, OfTrace, OfCell}
-use Rattle.traced_paths.specs.Numbers.{step_bits, path_bits, HaveTooManyBits}
+use Rattle.traced_paths.specs.Bits.{step_bits, path_bits, HaveTooManyBits}
 use Rattle.design_maker.specs.Chains.{chain_length, unit_of}
 use Rattle.made_law.specs.Designs.Names.{in_port, out_port}
 use Rattle.made_law.specs.Designs.Places.{Place, placed}

@@ -7,13 +7,15 @@ use Rattle.def_reader.specs.Agreement.{HoldsInAgreement}
 use Rattle.chain_rules.specs.ChainFaults.{IsRefusal}
 use Rattle.design_elements.specs.Elements.{chain_specs}
 use Rattle.design_elements.specs.Faults.{HoldsInElements}
-use Rattle.head_checks.specs.Asked.{asked_by_chain}
+use Rattle.head_chains.specs.Asked.{asked_by_chain}
 use Rattle.traced_paths.specs.Traced.{ArePathsOf, HoldsInPaths}
-use Rattle.traced_paths.specs.Numbers.{path_specs, HaveTooManyBits}
+use Rattle.path_numbers.specs.Numbers.{path_specs}
+use Rattle.traced_paths.specs.Bits.{HaveTooManyBits}
 use Rattle.design_places.specs.NetPins.{HoldsInNets}
 use Rattle.design_places.specs.Ends.{HoldsInPlaces}
 use Rattle.stil_types.specs.declared.head.StilHead.{StilHead}
-use Rattle.head_checks.specs.Heads.{HoldsInHeads, HoldsInChains}
+use Rattle.head_checks.specs.Heads.{HoldsInHeads}
+use Rattle.head_chains.specs.Chains.{HoldsInChains}
 use Rattle.made_law.specs.Designs.Places.{Place, Places}
 use Rattle.made_law.specs.Designs.MadeMacros.{made_macros}
 use Rattle.made_law.specs.Designs.MadeChains.{made_chains}

@@ -17,8 +17,8 @@ use Rattle.reorder_command.specs.declared.figures.Figures.{Figures}
 use Rattle.reorder_command.specs.declared.patterns.PatternPlan.{PatternPlan}
 use Rattle.reorder_command.specs.PatternPlans.{IsReorderedWith}
 use Rattle.retargeted_patterns.specs.declared.figures.PatternFigures.{PatternFigures}
-use Rattle.play_command.specs.Files.{IsHeadText}
-use Rattle.play_command.specs.Faults.{IsPatternFault}
+use Rattle.declared_chains.specs.Files.{IsHeadText}
+use Rattle.declared_chains.specs.Faults.{IsPatternFault}
 use Rattle.written_meaning.specs.Meaning.{KeepsMeaning, form_of}
 use Rattle.scan_job.specs.declared.commands.patterns.PatternsRequest.{PatternsRequest}
 use Rattle.scan_job.specs.Commands.{Command}

@@ -5,7 +5,7 @@ use Rattle.desk_io.specs.Names.{Names}
 use Rattle.scan_words.specs.declared.verb.Verb.TheVariants as verbs
 use Rattle.play_command.specs.declared.device.DeviceKind.{DeviceKind}
 use Rattle.play_command.specs.declared.device.DeviceKind.TheVariants as devices
-use Rattle.play_command.specs.Faults.{HoldsInPlay}
+use Rattle.declared_chains.specs.Faults.{HoldsInPlay}
 use Rattle.play_command.specs.Files.{IsPlayText}
 use Rattle.scan_job.specs.declared.commands.play.PlayRequest.{PlayRequest}
 use Rattle.scan_job.specs.Commands.{Command}

@@ -3,7 +3,7 @@ use Rattle.std.specs.Prelude.{Some, None}
 use Rattle.stil_types.specs.declared.head.StilHead.{StilHead}
 use Rattle.def_reader.specs.declared.design.ScanChainText.{ScanChainText}
 use Rattle.wire_cost.specs.declared.ends.Ends.{Ends}
-use Rattle.head_checks.specs.Asked.{asked_by}
+use Rattle.head_chains.specs.Asked.{asked_by}
 use Rattle.traced_paths.specs.Traced.{ArePathsOf}
 use Rattle.design_places.specs.Ends.{ends_of}
 use Rattle.design_elements.proofs.SpecElements.{same_length}

@@ -1,7 +1,7 @@
 use Rattle.std.proofs.Common.{rules, of_calls, nat_lt, arith}
 use Rattle.std.proofs.lemmas.Fn.{always_returns_same}
 use Rattle.std.proofs.lemmas.List.Sorted.{IsPartitionedBy-ltb}
-use Rattle.chain_rules.proofs.Totals.{counted-point}
+use Rattle.list_laws.proofs.Totals.{counted-point}
 use Rattle.chain_rules.proofs.spans.below.Goals as goal
 
 pub returns : goal.returns

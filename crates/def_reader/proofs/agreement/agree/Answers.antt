@@ -1,6 +1,6 @@
 use Rattle.std.proofs.Common.{ℕ, Option, refl, subst}
 use Rattle.def_reader.specs.Agreement.{IsMissing, HasOtherCell}
-use Rattle.def_reader.specs.Steps.{IsLeast}
+use Rattle.list_laws.specs.Leasts.{IsLeast}
 use Rattle.def_reader.proofs.Agreeing.{NetFault, missing_here, other_here, nets_here, nets_agree, nets_differ}
 use Rattle.def_reader.proofs.AgreementFaults.{missing_first, other_first, net_first, no_fault, agrees}
 use Rattle.def_reader.proofs.agreement.agree.Goals as goal

@@ -1,6 +1,6 @@
 use Rattle.std.proofs.Common.{take}
 use Rattle.def_reader.specs.Classes.{is_missing, has_other_cell, FailsOn}
-use Rattle.def_reader.specs.Steps.{IsLeast}
+use Rattle.list_laws.specs.Leasts.{IsLeast}
 use Rattle.def_reader.proofs.agreement.least_apart.Given as goal
 
 abbrev pub invariant-loop-instance : goal.invariant-loop-instance

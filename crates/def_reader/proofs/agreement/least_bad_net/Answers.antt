@@ -1,13 +1,12 @@
 use Rattle.std.proofs.Common.{rules, ◌≡◌, Bool, false, List, ℕ, ◌++◌, length, replicate, take, refl, sym, ap, ◌∙◌, subst}
-use Rattle.std.specs.List.{flat_map}
+use Rattle.std.specs.List.{flat_map, list_any}
 use Rattle.std.proofs.lemmas.List.{take_all, length-replicate}
 use Rattle.def_reader.specs.declared.design.Net.{Net}
 use Rattle.def_reader.specs.Classes.{net_classes, is_split, has_in, HasClasses, IsBadNet}
-use Rattle.std.specs.List.{list_any}
-use Rattle.def_reader.specs.Steps.{IsLeast}
+use Rattle.list_laws.specs.Leasts.{IsLeast}
 use Rattle.def_reader.proofs.Marks.{none_marked, found_within}
 use Rattle.def_reader.proofs.NetClasses.{bad_none, bad_next, bad_is}
-use Rattle.def_reader.proofs.RowsMore.{flat_next}
+use Rattle.list_laws.proofs.RowsMore.{flat_next}
 use Rattle.def_reader.proofs.agreement.least_bad_net.Goals as goal
 
 pub loop-net-init : goal.loop-net-init

@@ -1,7 +1,7 @@
 use Rattle.std.proofs.Common.{◌≡◌, length, take}
 use Rattle.std.specs.List.{flat_map}
 use Rattle.def_reader.specs.Classes.{net_classes, HasClasses, IsBadNet}
-use Rattle.def_reader.specs.Steps.{IsLeast}
+use Rattle.list_laws.specs.Leasts.{IsLeast}
 use Rattle.def_reader.proofs.agreement.least_bad_net.Given as goal
 
 abbrev pub invariant-loop-net : goal.invariant-loop-net

@@ -2,7 +2,7 @@ use Rattle.std.proofs.Common.{List, ℕ, sym, ap, ◌∙◌, subst}
 use Rattle.std.proofs.lemmas.List.{append-nil}
 use Rattle.def_reader.specs.declared.design.NetPin.{NetPin}
 use Rattle.def_reader.specs.Hashes.{name_hash, pin_hash, Adds, AreTold, IsNameHeld, IsPinHeld}
-use Rattle.def_reader.proofs.RowsMore.{pins_next, pins_all}
+use Rattle.list_laws.proofs.RowsMore.{pins_next, pins_all}
 use Rattle.def_reader.proofs.Told.{still_told, told_more}
 use Rattle.def_reader.proofs.connections.add_hashes.Goals as goal
 

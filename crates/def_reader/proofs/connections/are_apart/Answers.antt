@@ -4,7 +4,7 @@ use Rattle.def_reader.specs.declared.design.Net.{Net}
 use Rattle.def_reader.specs.declared.design.NetPin.{NetPin}
 use Rattle.def_reader.specs.Faults.{StandsAgain, net_rows, connections_of, connection_rows}
 use Rattle.def_reader.specs.Hashes.{AreTold, IsNameHeld, IsPinHeld}
-use Rattle.def_reader.proofs.RowsMore.{map_next, flat_next}
+use Rattle.list_laws.proofs.RowsMore.{map_next, flat_next}
 use Rattle.def_reader.proofs.Told.{none_told}
 use Rattle.def_reader.proofs.connections.are_apart.Goals as goal
 

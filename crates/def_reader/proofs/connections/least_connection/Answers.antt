@@ -3,9 +3,9 @@ use Rattle.std.proofs.lemmas.List.{take_all}
 use Rattle.def_reader.specs.declared.design.Net.{Net}
 use Rattle.def_reader.specs.declared.design.NetPin.{NetPin}
 use Rattle.def_reader.specs.Faults.{StandsAgain, connections_of, connection_rows}
-use Rattle.def_reader.specs.Steps.{IsLeast}
+use Rattle.list_laws.specs.Leasts.{IsLeast}
 use Rattle.def_reader.specs.SeenConnections.{IsSeenPins}
-use Rattle.def_reader.proofs.RowsMore.{flat_next}
+use Rattle.list_laws.proofs.RowsMore.{flat_next}
 use Rattle.def_reader.proofs.connections.least_connection.Goals as goal
 
 pub loop-net-init : goal.loop-net-init

@@ -4,7 +4,7 @@ use Rattle.std.specs.declared.hash.DefaultHasher.{DefaultHasher}
 use Rattle.std.specs.List.{fold}
 use Rattle.std.proofs.lemmas.List.{take_all}
 use Rattle.def_reader.specs.NamedRows.{key_of}
-use Rattle.def_reader.proofs.RowsMore.{fold_next}
+use Rattle.list_laws.proofs.RowsMore.{fold_next}
 use Rattle.def_reader.proofs.index.key_of.Goals as goal
 
 pub loop-row-preserved : goal.loop-row-preserved

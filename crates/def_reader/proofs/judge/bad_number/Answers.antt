@@ -4,7 +4,7 @@ use Rattle.def_syntax.specs.declared.component.Component.{Component}
 use Rattle.def_syntax.specs.declared.pin.DesignPin.{DesignPin}
 use Rattle.def_syntax.specs.declared.chain.Chain.{Chain}
 use Rattle.def_reader.specs.Faults.{FailsAt, has_far_component, has_far_pin, has_many_bits}
-use Rattle.def_reader.specs.Steps.{IsLeast}
+use Rattle.list_laws.specs.Leasts.{IsLeast}
 use Rattle.def_reader.proofs.LeastLines.{number_least}
 use Rattle.def_reader.proofs.judge.bad_number.Goals as goal
 

@@ -1,6 +1,6 @@
 use Rattle.std.proofs.Common.{take}
 use Rattle.def_reader.specs.Faults.{FailsAt}
-use Rattle.def_reader.specs.Steps.{IsLeast}
+use Rattle.list_laws.specs.Leasts.{IsLeast}
 use Rattle.def_reader.proofs.judge.least_bad.Given as goal
 
 abbrev pub invariant-loop-row : goal.invariant-loop-row

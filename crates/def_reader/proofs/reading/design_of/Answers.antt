@@ -2,8 +2,8 @@ use Rattle.std.proofs.Common.{List, sym, subst}
 use Rattle.def_reader.specs.declared.design.Component.{Component}
 use Rattle.def_reader.specs.declared.design.DesignPin.{DesignPin}
 use Rattle.def_reader.specs.Faults.{StandsAgain, component_rows, pin_rows}
-use Rattle.def_reader.specs.Steps.{IsLeast}
-use Rattle.def_reader.proofs.LeastLines.{either}
+use Rattle.list_laws.specs.Leasts.{IsLeast}
+use Rattle.list_laws.proofs.LeastLines.{either}
 use Rattle.def_reader.proofs.reading.design_of.Goals as goal
 
 pub returns-clause-least : goal.returns-clause-least

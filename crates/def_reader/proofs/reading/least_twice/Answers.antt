@@ -2,7 +2,7 @@ use Rattle.std.proofs.Common.{List, ℕ, map, subst}
 use Rattle.def_reader.specs.declared.design.Net.{Net}
 use Rattle.def_reader.specs.declared.design.ScanChainText.{ScanChainText}
 use Rattle.def_reader.specs.Faults.{StandsAgain, net_rows, connection_rows}
-use Rattle.def_reader.specs.Steps.{IsLeast}
+use Rattle.list_laws.specs.Leasts.{IsLeast}
 use Rattle.def_reader.proofs.AllTwice.{twice_least}
 use Rattle.def_reader.proofs.reading.least_twice.Goals as goal
 

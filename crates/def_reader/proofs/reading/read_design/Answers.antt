@@ -4,7 +4,7 @@ use Rattle.def_syntax.specs.declared.design.DesignText.{DesignText}
 use Rattle.def_reader.specs.declared.design.Design.{Design}
 use Rattle.def_reader.specs.Designs.{design_of}
 use Rattle.def_reader.specs.Faults.{TwiceAt}
-use Rattle.def_reader.specs.Steps.{IsLeast}
+use Rattle.list_laws.specs.Leasts.{IsLeast}
 use Rattle.def_reader.proofs.DesignFaults.{form_stage, number_first, twice_first, no_fault}
 use Rattle.def_reader.specs.Sound.{IsSound}
 use Rattle.def_reader.proofs.SoundDesigns.{sound_design}

@@ -4,7 +4,7 @@ use Rattle.def_edit.specs.declared.pin_moves.PinMove.{PinMove}
 use Rattle.def_edit.specs.Moved.{AreMovesIn}
 use Rattle.design_elements.specs.Elements.{chain_specs}
 use Rattle.chain_rules.specs.Rules.{AreRulesOf}
-use Rattle.traced_paths.specs.Numbers.{path_specs}
+use Rattle.path_numbers.specs.Numbers.{path_specs}
 use Rattle.std.specs.Prelude.{Some}
 use Rattle.std.proofs.lemmas.Result.{IfOk-weaker}
 use Rattle.def_writer.proofs.moved.Once.{once_law}

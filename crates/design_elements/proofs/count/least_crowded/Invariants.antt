@@ -1,5 +1,5 @@
 use Rattle.std.proofs.Common.{◌≡◌, min, nat_lt, ◌++◌, ◌∷◌, [], take}
-use Rattle.def_reader.specs.Steps.{IsLeast}
+use Rattle.list_laws.specs.Leasts.{IsLeast}
 use Rattle.design_elements.specs.Faults.{element_count}
 use Rattle.design_elements.specs.Judging.{IsBadChain}
 use Rattle.design_elements.proofs.count.least_crowded.Given as goal

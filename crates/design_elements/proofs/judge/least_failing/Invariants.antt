@@ -1,5 +1,5 @@
 use Rattle.std.proofs.Common.{take}
-use Rattle.def_reader.specs.Steps.{IsLeast}
+use Rattle.list_laws.specs.Leasts.{IsLeast}
 use Rattle.design_elements.specs.Judging.{chain_fails, IsBadChain}
 use Rattle.design_elements.proofs.judge.least_failing.Given as goal
 

@@ -5,8 +5,8 @@ use Rattle.def_reader.specs.declared.design.ElementList.{ElementList}
 use Rattle.def_reader.specs.declared.design.ScanChainText.{ScanChainText}
 use Rattle.def_reader.specs.Faults.{StandsAgain}
 use Rattle.def_reader.specs.Sound.{elements_in}
-use Rattle.def_reader.specs.Steps.{IsLeast}
-use Rattle.def_reader.proofs.RowsMore.{flat_next}
+use Rattle.list_laws.specs.Leasts.{IsLeast}
+use Rattle.list_laws.proofs.RowsMore.{flat_next}
 use Rattle.design_elements.specs.Faults.{element_rows, all_rows}
 use Rattle.design_elements.specs.Seen.{IsSeenElements, row_of}
 use Rattle.design_elements.proofs.twice.least_again.Goals as goal

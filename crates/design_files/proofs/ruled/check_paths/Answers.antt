@@ -4,7 +4,7 @@ use Rattle.std.proofs.lemmas.Result.{err_from_is_err_and}
 use Rattle.base_types.specs.FirstFault.{IfFault, IsFirstFault}
 use Rattle.base_types.proofs.FirstFaults.{fault_weaker}
 use Rattle.chain_trace.specs.declared.path.Path.{Path}
-use Rattle.traced_paths.specs.Numbers.{all_bits, HaveTooManyBits}
+use Rattle.traced_paths.specs.Bits.{all_bits, HaveTooManyBits}
 use Rattle.head_checks.specs.Heads.{HoldsInHeads}
 use Rattle.design_places.specs.NetPins.{HoldsInNets}
 use Rattle.design_files.specs.Stages.{IsFirstOfKnown}

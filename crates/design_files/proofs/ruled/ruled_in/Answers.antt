@@ -4,8 +4,8 @@ use Rattle.chain_trace.specs.declared.path.Path.{Path}
 use Rattle.chain_rules.specs.declared.spec.ChainSpec.{ChainSpec}
 use Rattle.chain_rules.specs.declared.spec.PathSpec.{PathSpec}
 use Rattle.chain_rules.specs.Stretches.{AreChainSpecs}
-use Rattle.head_checks.specs.Asked.{asked_by}
-use Rattle.traced_paths.specs.Numbers.{path_specs, step_count}
+use Rattle.head_chains.specs.Asked.{asked_by}
+use Rattle.path_numbers.specs.Numbers.{path_specs, step_count}
 use Rattle.design_elements.specs.Elements.{chain_specs}
 use Rattle.design_files.specs.Laws.{AreChecked}
 use Rattle.design_files.proofs.ruled.ruled_in.Goals as goal

@@ -7,7 +7,7 @@ use Rattle.chain_rules.specs.declared.spec.PathSpec.{PathSpec}
 use Rattle.chain_rules.specs.declared.spec.ChainSpec.{ChainSpec}
 use Rattle.chain_rules.specs.declared.unit.Rules.{Rules}
 use Rattle.chain_rules.specs.ChainFaults.{IsRefusal, IsRefused, IsFaultless}
-use Rattle.traced_paths.specs.Numbers.{path_specs}
+use Rattle.path_numbers.specs.Numbers.{path_specs}
 use Rattle.design_elements.specs.Elements.{chain_specs}
 use Rattle.design_files.specs.Stages.{IsFirstOfKnown}
 use Rattle.design_files.proofs.Chained.{refused_alone, found_first}

@@ -9,9 +9,9 @@ use Rattle.cell_table.specs.Cells.{Cells}
 use Rattle.chain_trace.specs.declared.path.Path.{Path}
 use Rattle.def_reader.specs.declared.design.Design.{Design}
 use Rattle.stil_types.specs.declared.head.StilHead.{StilHead}
-use Rattle.head_checks.specs.Asked.{asked_by, file_of}
+use Rattle.head_chains.specs.Asked.{asked_by, file_of}
 use Rattle.traced_paths.specs.Traced.{ArePathsOf, NameEntries, HoldsInPaths}
-use Rattle.head_checks.specs.Heads.{HoldsInChains}
+use Rattle.head_chains.specs.Chains.{HoldsInChains}
 use Rattle.design_files.specs.Stages.{HavePaths, IsFirstOfKnown}
 use Rattle.design_files.proofs.Known.{first_path}
 use Rattle.design_files.proofs.traced.paths_in.Goals as goal

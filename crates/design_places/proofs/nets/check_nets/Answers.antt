@@ -1,5 +1,5 @@
 use Rattle.std.proofs.Common.{Some, None, subst}
-use Rattle.def_reader.specs.Steps.{IsLeast}
+use Rattle.list_laws.specs.Leasts.{IsLeast}
 use Rattle.design_places.specs.Lines.{ForOne, Traced, PathLacks}
 use Rattle.design_places.proofs.NetFaults.{net_first, net_none}
 use Rattle.design_places.proofs.nets.check_nets.Goals as goal

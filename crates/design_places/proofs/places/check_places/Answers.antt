@@ -1,7 +1,7 @@
 use Rattle.std.proofs.Common.{List, Some, None, subst}
 use Rattle.lef_pins.specs.Macros.{NamedMacros}
 use Rattle.def_reader.specs.declared.design.Component.{Component}
-use Rattle.def_reader.specs.Steps.{IsLeast}
+use Rattle.list_laws.specs.Leasts.{IsLeast}
 use Rattle.design_places.specs.Lines.{ForOne, GoesNowhere}
 use Rattle.design_places.proofs.PlaceFaults.{place_first, place_none}
 use Rattle.design_places.proofs.places.check_places.Goals as goal

@@ -1,6 +1,6 @@
 use Rattle.std.proofs.Common.{List, subst}
 use Rattle.chain_trace.specs.declared.path.Step.{Step}
-use Rattle.def_reader.specs.Steps.{IsLeast}
+use Rattle.list_laws.specs.Leasts.{IsLeast}
 use Rattle.design_places.specs.Lines.{ForOne, IsNowhere, GoesNowhere}
 use Rattle.design_places.proofs.ForOnes.{one_more, one_all}
 use Rattle.design_places.proofs.places.least_nowhere.Goals as goal

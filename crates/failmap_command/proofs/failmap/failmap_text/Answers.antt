@@ -3,8 +3,8 @@ use Rattle.std.proofs.lemmas.Bool.{true≢false}
 use Rattle.std.proofs.lemmas.Result.{err_from_is_err_and}
 use Rattle.base_types.specs.declared.fault.Fault.{Fault}
 use Rattle.base_types.specs.FirstFault.{IsFirstFault}
-use Rattle.play_command.specs.Faults.{HoldsInPlay}
-use Rattle.play_command.proofs.Faults.{carried}
+use Rattle.declared_chains.specs.Faults.{HoldsInPlay}
+use Rattle.declared_chains.proofs.Faults.{carried}
 use Rattle.same_files.specs.Sets.{ReadSet, meant_by}
 use Rattle.same_files.specs.Same.{AreSameFiles}
 use Rattle.same_files.proofs.OneSet.{file_set, means, one_set}

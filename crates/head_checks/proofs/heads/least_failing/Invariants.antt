@@ -1,6 +1,6 @@
 use Rattle.std.proofs.Common.{take}
 use Rattle.std.specs.List.{zip}
-use Rattle.def_reader.specs.Steps.{IsLeast}
+use Rattle.list_laws.specs.Leasts.{IsLeast}
 use Rattle.head_checks.specs.Heads.{FailsOn, line_of}
 use Rattle.head_checks.proofs.heads.least_failing.Given as goal
 

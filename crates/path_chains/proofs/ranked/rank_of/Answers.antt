@@ -1,7 +1,7 @@
 use Rattle.std.proofs.Common.{rules, of_calls, arith, sym, ◌∙◌}
 use Rattle.std.specs.Ordering.{is_lt}
 use Rattle.std.proofs.lemmas.Fn.{always_returns_same}
-use Rattle.chain_rules.proofs.Totals.{counted-point}
+use Rattle.list_laws.proofs.Totals.{counted-point}
 use Rattle.path_chains.specs.Ranked.{key_cmp, seen}
 use Rattle.path_chains.proofs.KeyCounts.{Key, parted, count_map}
 use Rattle.path_chains.proofs.ranked.rank_of.Goals as goal

@@ -2,7 +2,7 @@ use Rattle.std.proofs.Common.{◌≡◌, ◌+◌, ◌<◌, ◌≤◌, ℕ, List,
 use Rattle.std.specs.Vec.{with_items}
 use Rattle.std.proofs.lemmas.List.{with_items_is}
 use Rattle.chain_rules.specs.declared.unit.Unit.{Unit as MovedUnit}
-use Rattle.traced_paths.specs.Numbers.{path_bits}
+use Rattle.traced_paths.specs.Bits.{path_bits}
 use Rattle.reorder_command.specs.Goals.{bits_in_units}
 use Rattle.reorder_command.specs.Planned.{fixed_of}
 use Rattle.reorder_command.proofs.OutsideUnits.{units_on_paths, units_fit, fixed_is, on_its_paths, fixed_small}

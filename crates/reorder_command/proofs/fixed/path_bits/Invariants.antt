@@ -1,5 +1,5 @@
 use Rattle.std.proofs.Common.{◌≡◌, take, sum_by}
-use Rattle.traced_paths.specs.Numbers.{step_bits}
+use Rattle.traced_paths.specs.Bits.{step_bits}
 use Rattle.reorder_command.proofs.fixed.path_bits.Given as goal
 
 abbrev pub invariant-loop-step : goal.invariant-loop-step

@@ -1,5 +1,5 @@
 use Rattle.std.proofs.Common.{◌≡◌, map, take}
-use Rattle.traced_paths.specs.Numbers.{path_bits}
+use Rattle.traced_paths.specs.Bits.{path_bits}
 use Rattle.reorder_command.proofs.fixed.path_bits_of.Given as goal
 
 abbrev pub invariant-loop-path : goal.invariant-loop-path

@@ -13,6 +13,6 @@ returns c =
     record {
       new =
           IfOk-weaker c.new_paths.result (λ new. new.items ≡ new_paths c.as_slice.result.now f.rules plan) (λ new. AreNewPaths f plan new.items)
-          (λ new is. are_new c.requires.checked.0 f c.requires.checked.1 plan c.requires.legal c.plan_law.ensures.plan c.pins_law.ensures.table c.edits_law.ensures.pins c.declared_law.ensures.law c.cells_law.ensures.keeps new.items
+          (λ new is. are_new c.requires.checked.0 f c.requires.checked.1 plan c.requires.legal c.plan_law.ensures.plan c.pins_law.ensures.table c.edits_law.ensures.pins c.declared_law.ensures.law c.keeps_law.ensures.keeps new.items
           (is ∙ ap (λ (l : List Path). new_paths l f.rules plan) c.as_slice.ensures.value)) c.new_paths.ensures.value;
     }

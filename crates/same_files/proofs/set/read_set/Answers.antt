@@ -6,10 +6,10 @@ use Rattle.base_types.specs.declared.fault.Fault.{Fault}
 use Rattle.stil_calls.specs.declared.judging.Judging.TheVariants.{Lengths}
 use Rattle.stil_calls.specs.Statements.{IsFaultOf}
 use Rattle.stil_reader.specs.Patterns.{patterns_told}
-use Rattle.play_command.specs.declared.declared.Declared.{Declared}
-use Rattle.play_command.specs.Faults.{HoldsBeforePatterns, HoldsInPlay}
-use Rattle.play_command.proofs.Faults.{carried}
-use Rattle.play_command.proofs.WholeFaults.{first_before}
+use Rattle.declared_chains.specs.declared.declared.Declared.{Declared}
+use Rattle.declared_chains.specs.Faults.{HoldsBeforePatterns, HoldsInPlay}
+use Rattle.declared_chains.proofs.Faults.{carried}
+use Rattle.declared_chains.proofs.WholeFaults.{first_before}
 use Rattle.same_files.specs.Sets.{ReadSet}
 use Rattle.same_files.proofs.Sets.{shown, denotes, named, pattern_fault, no_fault, is_set}
 use Rattle.same_files.proofs.set.read_set.Goals as goal

@@ -2,7 +2,7 @@ use Rattle.std.proofs.Common.{ℕ, List, Err, subst}
 use Rattle.std.proofs.lemmas.Result.{err_from_is_err_and}
 use Rattle.base_types.specs.declared.fault.Fault.{Fault}
 use Rattle.base_types.specs.FirstFault.{IsFirstFault, IfFault}
-use Rattle.play_command.specs.Faults.{HoldsBeforePatterns}
+use Rattle.declared_chains.specs.Faults.{HoldsBeforePatterns}
 use Rattle.play_command.specs.Progress.{Progress, IsSetUp}
 use Rattle.scan_job.proofs.Played.{head_stopped, stopped_before, played_whole}
 use Rattle.scan_job.proofs.playing.play_stil.Goals as goal

@@ -5,7 +5,7 @@ use Rattle.stil_syntax.specs.Shapes.{body_statements}
 use Rattle.stil_types.specs.declared.head.StilHead.{StilHead}
 use Rattle.base_types.specs.FirstFault.{IsFirstFault}
 use Rattle.base_types.specs.declared.fault.Fault.{Fault}
-use Rattle.stil_head.specs.Leasts.{least_of}
+use Rattle.list_laws.specs.Leasts.{least_of}
 use Rattle.stil_blocks.specs.Chains.{chains_of}
 use Rattle.stil_blocks.specs.Callees.{callees_of}
 use Rattle.stil_head.specs.Faults.{syntax_places, HoldsInText}

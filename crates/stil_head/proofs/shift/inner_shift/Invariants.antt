@@ -1,6 +1,6 @@
 use Rattle.stil_head.proofs.shift.inner_shift.Given as goal
 use Rattle.std.proofs.Common.{◌≡◌, length, false}
-use Rattle.stil_head.specs.Leasts.{lesser, least_of}
+use Rattle.list_laws.specs.Leasts.{lesser, least_of}
 use Rattle.stil_head.specs.Unsupported.{places_at}
 use Rattle.stil_blocks.specs.Callees.{begins_shift}
 

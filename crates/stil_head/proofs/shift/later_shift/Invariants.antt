@@ -1,6 +1,6 @@
 use Rattle.stil_head.proofs.shift.later_shift.Given as goal
 use Rattle.std.proofs.Common.{◌≡◌, length, true, false}
-use Rattle.stil_head.specs.Leasts.{lesser, least_of}
+use Rattle.list_laws.specs.Leasts.{lesser, least_of}
 use Rattle.stil_head.specs.Unsupported.{later_shifts}
 
 abbrev pub invariant-loop-rest : goal.invariant-loop-rest

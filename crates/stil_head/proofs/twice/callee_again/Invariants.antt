@@ -1,6 +1,6 @@
 use Rattle.stil_head.proofs.twice.callee_again.Given as goal
 use Rattle.std.proofs.Common.{◌≡◌, drop, map, false}
-use Rattle.stil_head.specs.Leasts.{lesser, least_of}
+use Rattle.list_laws.specs.Leasts.{lesser, least_of}
 use Rattle.stil_head.specs.Unsupported.{is_name_of}
 use Rattle.stil_head.proofs.Rows.{again_by}
 use Rattle.stil_head.specs.Twice.{callee_row}

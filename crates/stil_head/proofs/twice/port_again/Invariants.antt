@@ -1,7 +1,7 @@
 use Rattle.stil_head.proofs.twice.port_again.Given as goal
 use Rattle.std.proofs.Common.{◌≡◌, drop, false}
 use Rattle.std.specs.List.{flat_map}
-use Rattle.stil_head.specs.Leasts.{lesser, least_of}
+use Rattle.list_laws.specs.Leasts.{lesser, least_of}
 use Rattle.stil_head.specs.Unsupported.{is_name_of}
 use Rattle.stil_head.proofs.Rows.{again_by}
 use Rattle.stil_head.specs.Twice.{port_rows}

@@ -11,9 +11,9 @@ returns c =
     let procedures = again_in [] (map callee_row c.args.procedures.now) in
     let macros = again_in [] (map callee_row c.args.macros.now) in
     record {
-      value = c.lesser-3.ensures.value
-          ∙ two_places chains (ports ++ (procedures ++ macros)) c.in_ok-chain.chain c.lesser-2.result c.in_ok-chain.ensures.value
-          (c.lesser-2.ensures.value
-          ∙ two_places ports (procedures ++ macros) c.in_ok-port.port c.lesser.result c.in_ok-port.ensures.value
-          (c.lesser.ensures.value ∙ two_places procedures macros c.in_ok-procedure.procedure c.in_ok-named.named c.in_ok-procedure.ensures.value c.in_ok-named.ensures.value));
+      value = c.lesser_place-3.ensures.value
+          ∙ two_places chains (ports ++ (procedures ++ macros)) c.in_ok-chain.chain c.lesser_place-2.result c.in_ok-chain.ensures.value
+          (c.lesser_place-2.ensures.value
+          ∙ two_places ports (procedures ++ macros) c.in_ok-port.port c.lesser_place.result c.in_ok-port.ensures.value
+          (c.lesser_place.ensures.value ∙ two_places procedures macros c.in_ok-procedure.procedure c.in_ok-named.named c.in_ok-procedure.ensures.value c.in_ok-named.ensures.value));
     }

@@ -1,6 +1,6 @@
 use Rattle.stil_head.proofs.unsupported.barred_place.Given as goal
 use Rattle.std.proofs.Common.{◌≡◌, length, true}
-use Rattle.stil_head.specs.Leasts.{lesser, least_of}
+use Rattle.list_laws.specs.Leasts.{lesser, least_of}
 use Rattle.stil_head.specs.Unsupported.{places_at, is_barred, is_name_of}
 
 abbrev pub invariant-loop-rest : goal.invariant-loop-rest

@@ -1,11 +1,11 @@
 use Rattle.std.proofs.Common.{◌∙◌}
 use Rattle.stil_syntax.specs.Shapes.{body_statements}
-use Rattle.stil_head.proofs.Leasts.{more_places, no_more}
+use Rattle.list_laws.proofs.Leasts.{more_places, no_more}
 use Rattle.stil_head.specs.Unsupported.{callee_places, is_name_of}
 use Rattle.stil_head.proofs.unsupported.callees_place.Goals as goal
 
 pub loop-s-preserved : goal.loop-s-preserved
-loop-s-preserved c = more_places (callee_places (is_name_of c.args.names.now.procedures) (is_name_of c.args.names.now.macros)) c.loop-s.least c.lesser-least.result c.in_ok-place.place c.in-Some.s (body_statements c.body_statement.new.tokens) (body_statements c.loop-s.rest) c.in-Some.ensures.value c.in_ok-place.ensures.value c.lesser-least.ensures.value ∙ c.loop-s.invariant
+loop-s-preserved c = more_places (callee_places (is_name_of c.args.names.now.procedures) (is_name_of c.args.names.now.macros)) c.loop-s.least c.lesser_place-least.result c.in_ok-place.place c.in-Some.s (body_statements c.body_statement.new.tokens) (body_statements c.loop-s.rest) c.in-Some.ensures.value c.in_ok-place.ensures.value c.lesser_place-least.ensures.value ∙ c.loop-s.invariant
 
 pub returns : goal.returns
 returns c = record {

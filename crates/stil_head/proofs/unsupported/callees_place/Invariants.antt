@@ -2,7 +2,7 @@ use Rattle.stil_head.proofs.unsupported.callees_place.Given as goal
 use Rattle.std.proofs.Common.{◌≡◌, length}
 use Rattle.std.specs.List.{flat_map}
 use Rattle.stil_syntax.specs.Shapes.{body_statements}
-use Rattle.stil_head.specs.Leasts.{lesser, least_of}
+use Rattle.list_laws.specs.Leasts.{lesser, least_of}
 use Rattle.stil_head.specs.Unsupported.{callee_places, is_name_of}
 
 abbrev pub invariant-loop-s : goal.invariant-loop-s

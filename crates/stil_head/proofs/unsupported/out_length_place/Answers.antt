@@ -1,8 +1,8 @@
 use Rattle.std.proofs.Common.{◌∙◌, ◌+◌, refl, drop}
 use Rattle.std.proofs.lemmas.List.{drop_all}
 use Rattle.stil_blocks.specs.declared.chain.ReadChain.{ReadChain}
-use Rattle.stil_head.specs.Leasts.{place_if}
-use Rattle.stil_head.proofs.Leasts.{more_if, no_more}
+use Rattle.list_laws.specs.Leasts.{place_if}
+use Rattle.list_laws.proofs.Leasts.{more_if, no_more}
 use Rattle.stil_head.proofs.Rows.{cut_at}
 use Rattle.stil_head.proofs.unsupported.out_length_place.Goals as goal
 
@@ -11,8 +11,8 @@ loop-chain-preserved c =
     let chains = c.args.chains.now in
     let i = c.loop-chain.chain-index in
     let x = c.chain-item.result in
-    more_if (λ (r : ReadChain). r.out_length) (λ (r : ReadChain). r.place) c.loop-chain.least c.lesser-least.result c.found_if.result x.out_length x.place x (drop (i + 1) chains) (drop i chains)
-    (cut_at chains i x c.loop-chain-test.true c.chain-item.is) refl refl c.found_if.ensures.value c.lesser-least.ensures.value ∙ c.loop-chain.invariant
+    more_if (λ (r : ReadChain). r.out_length) (λ (r : ReadChain). r.place) c.loop-chain.least c.lesser_place-least.result c.found_if.result x.out_length x.place x (drop (i + 1) chains) (drop i chains)
+    (cut_at chains i x c.loop-chain-test.true c.chain-item.is) refl refl c.found_if.ensures.value c.lesser_place-least.ensures.value ∙ c.loop-chain.invariant
 
 pub returns : goal.returns
 returns c = record {

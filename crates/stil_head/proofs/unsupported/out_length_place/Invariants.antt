@@ -1,6 +1,6 @@
 use Rattle.stil_head.proofs.unsupported.out_length_place.Given as goal
 use Rattle.std.proofs.Common.{◌≡◌, drop}
-use Rattle.stil_head.specs.Leasts.{lesser, least_of}
+use Rattle.list_laws.specs.Leasts.{lesser, least_of}
 use Rattle.stil_head.specs.Unsupported.{out_length_places}
 
 abbrev pub invariant-loop-chain : goal.invariant-loop-chain

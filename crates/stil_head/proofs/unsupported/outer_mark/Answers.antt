@@ -2,14 +2,14 @@ use Rattle.token_forms.specs.Tokens.{Token}
 use Rattle.std.proofs.Common.{◌∙◌, List, true, false}
 use Rattle.stil_syntax.specs.Shapes.{body_statements}
 use Rattle.stil_blocks.specs.Statements.{start_of}
-use Rattle.stil_head.proofs.Leasts.{more_if, no_more}
+use Rattle.list_laws.proofs.Leasts.{more_if, no_more}
 use Rattle.stil_head.specs.Unsupported.{has_outer_mark}
 use Rattle.stil_head.specs.declared.shift.InShift.TheVariants.{Outside}
-use Rattle.stil_head.specs.Leasts.{place_if}
+use Rattle.list_laws.specs.Leasts.{place_if}
 use Rattle.stil_head.proofs.unsupported.outer_mark.Goals as goal
 
 pub loop-s-preserved : goal.loop-s-preserved
-loop-s-preserved c = more_if (has_outer_mark Outside true false) start_of c.loop-s.least c.lesser-least.result c.found_if.result c.has_outer_mark.result c.start_of.result c.in-Some.s (body_statements c.body_statement.new.tokens) (body_statements c.loop-s.rest) c.in-Some.ensures.value c.has_outer_mark.ensures.value c.start_of.ensures.value c.found_if.ensures.value c.lesser-least.ensures.value ∙ c.loop-s.invariant
+loop-s-preserved c = more_if (has_outer_mark Outside true false) start_of c.loop-s.least c.lesser_place-least.result c.found_if.result c.has_outer_mark.result c.start_of.result c.in-Some.s (body_statements c.body_statement.new.tokens) (body_statements c.loop-s.rest) c.in-Some.ensures.value c.has_outer_mark.ensures.value c.start_of.ensures.value c.found_if.ensures.value c.lesser_place-least.ensures.value ∙ c.loop-s.invariant
 
 pub returns : goal.returns
 returns c = record {

@@ -1,7 +1,7 @@
 use Rattle.stil_head.proofs.unsupported.structures_again.Given as goal
 use Rattle.std.proofs.Common.{◌≡◌, length, false, codes}
 use Rattle.stil_syntax.specs.Shapes.{body_statements}
-use Rattle.stil_head.specs.Leasts.{lesser, least_of}
+use Rattle.list_laws.specs.Leasts.{lesser, least_of}
 use Rattle.stil_head.specs.Unsupported.{later_places}
 use Rattle.stil_blocks.specs.Statements.{has_word}
 

@@ -1,7 +1,7 @@
 use Rattle.stil_head.proofs.unsupported.unlisted_from.Given as goal
 use Rattle.std.proofs.Common.{◌≡◌, length}
 use Rattle.stil_syntax.specs.Shapes.{body_statements}
-use Rattle.stil_head.specs.Leasts.{lesser, least_of}
+use Rattle.list_laws.specs.Leasts.{lesser, least_of}
 use Rattle.stil_head.specs.Unsupported.{unlisted_in}
 
 abbrev pub invariant-loop-s : goal.invariant-loop-s

@@ -1,5 +1,5 @@
 use Rattle.std.proofs.Common.{take}
-use Rattle.traced_paths.specs.Numbers.{all_bits}
+use Rattle.traced_paths.specs.Bits.{all_bits}
 use Rattle.traced_paths.specs.Steps.{AreFew}
 use Rattle.traced_paths.proofs.bits.have_few_bits.Given as goal
 

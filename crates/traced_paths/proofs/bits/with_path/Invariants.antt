@@ -1,6 +1,6 @@
 use Rattle.std.proofs.Common.{◌+◌, take}
 use Rattle.std.specs.Prelude.{sum_by}
-use Rattle.traced_paths.specs.Numbers.{step_bits}
+use Rattle.traced_paths.specs.Bits.{step_bits}
 use Rattle.traced_paths.specs.Steps.{AreFew}
 use Rattle.traced_paths.proofs.bits.with_path.Given as goal
 

@@ -1,5 +1,5 @@
 use Rattle.std.proofs.Common.{map, take}
-use Rattle.def_reader.specs.Steps.{IsLeast}
+use Rattle.list_laws.specs.Leasts.{IsLeast}
 use Rattle.traced_paths.specs.Traced.{LacksPort}
 use Rattle.traced_paths.specs.Asked.{told}
 use Rattle.traced_paths.proofs.ports.least_lacking.Given as goal

@@ -1,5 +1,5 @@
 use Rattle.std.proofs.Common.{take}
-use Rattle.def_reader.specs.Steps.{IsLeast}
+use Rattle.list_laws.specs.Leasts.{IsLeast}
 use Rattle.traced_paths.specs.Steps.{IsMarked}
 use Rattle.traced_paths.proofs.shared.least_marked.Given as goal
 

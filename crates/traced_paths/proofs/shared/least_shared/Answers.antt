@@ -1,9 +1,8 @@
-use Rattle.std.proofs.Common.{take, ap, subst}
-use Rattle.std.proofs.Common.{List}
+use Rattle.std.proofs.Common.{take, ap, subst, List}
 use Rattle.std.specs.List.{list_any}
 use Rattle.chain_trace.specs.declared.path.Step.{Step}
 use Rattle.chain_trace.specs.Drivers.{same_place}
-use Rattle.def_reader.specs.Steps.{IsLeast}
+use Rattle.list_laws.specs.Leasts.{IsLeast}
 use Rattle.traced_paths.specs.Traced.{steps_of}
 use Rattle.traced_paths.specs.Steps.{IsMarked}
 use Rattle.traced_paths.proofs.SharedLines.{again_none, again_next, again_all, path_marked}

@@ -1,6 +1,6 @@
 use Rattle.std.proofs.Common.{take}
 use Rattle.chain_trace.specs.Drivers.{AreMarks}
-use Rattle.def_reader.specs.Steps.{IsLeast}
+use Rattle.list_laws.specs.Leasts.{IsLeast}
 use Rattle.traced_paths.specs.Traced.{steps_of}
 use Rattle.traced_paths.specs.Steps.{StandsAgain}
 use Rattle.traced_paths.proofs.shared.least_shared.Given as goal

@@ -1,8 +1,8 @@
 use Rattle.std.proofs.Common.{ℕ, List}
 use Rattle.std.proofs.lemmas.Result.{err_from_is_err_and}
 use Rattle.base_types.specs.FirstFault.{IsFirstFault}
-use Rattle.play_command.specs.Faults.{HoldsInPlay}
-use Rattle.play_command.proofs.Faults.{carried}
+use Rattle.declared_chains.specs.Faults.{HoldsInPlay}
+use Rattle.declared_chains.proofs.Faults.{carried}
 use Rattle.same_files.specs.Sets.{ReadSet}
 use Rattle.verify_command.specs.Faults.{HoldsInVerify, IsNewFault}
 use Rattle.verify_command.proofs.NewFaults.{first_of_first, first_of_second, none_in_both}

@@ -3,7 +3,7 @@ use Rattle.std.specs.List.{filter_map, cons_option}
 use Rattle.std.proofs.lemmas.List.{take_all}
 use Rattle.def_reader.specs.declared.design.NetPin.{NetPin}
 use Rattle.def_reader.specs.Classes.{class_of}
-use Rattle.def_reader.proofs.RowsMore.{filter_next}
+use Rattle.list_laws.proofs.RowsMore.{filter_next}
 use Rattle.def_reader.proofs.agreement.Pins.put_classes.Goals as goal
 
 pub loop-pin-preserved : goal.loop-pin-preserved

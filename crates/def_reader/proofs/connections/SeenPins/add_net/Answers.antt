@@ -2,7 +2,7 @@ use Rattle.std.proofs.Common.{List, ℕ, sym, subst}
 use Rattle.std.proofs.lemmas.List.{append-nil}
 use Rattle.def_reader.specs.declared.design.NetPin.{NetPin}
 use Rattle.def_reader.specs.SeenConnections.{IsSeenPins}
-use Rattle.def_reader.proofs.RowsMore.{pins_next, pins_all}
+use Rattle.list_laws.proofs.RowsMore.{pins_next, pins_all}
 use Rattle.def_reader.proofs.connections.SeenPins.add_net.Goals as goal
 
 pub loop-pin-init : goal.loop-pin-init

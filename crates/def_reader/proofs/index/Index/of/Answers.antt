@@ -5,11 +5,12 @@ use Rattle.std.proofs.lemmas.Option.{slice_get_read}
 use Rattle.std.proofs.lemmas.Slice.Eq.{bytes_eq-Decides}
 use Rattle.std.specs.Prelude.{slice_get}
 use Rattle.def_reader.specs.Faults.{StandsAgain}
-use Rattle.def_reader.specs.Steps.{IsLeast, IsSeen, lesser, line_if}
+use Rattle.list_laws.specs.Leasts.{IsLeast, lesser, found_if}
+use Rattle.def_reader.specs.Steps.{IsSeen}
 use Rattle.def_reader.proofs.Again.{seen_more, none_again}
 use Rattle.def_reader.proofs.Apart.{apart, none_is}
 use Rattle.def_reader.proofs.Chained.{has_row, has_more, none_entered, not_some}
-use Rattle.def_reader.proofs.RowsMore.{take_next, row_next, rows_all}
+use Rattle.list_laws.proofs.RowsMore.{take_next, row_next, rows_all}
 use Rattle.def_reader.proofs.index.Index.of.Goals as goal
 
 pub loop-row-init : goal.loop-row-init
@@ -42,7 +43,7 @@ loop-row-preserved g c =
       key = c.in_ok-added.ensures.key ∙ c.loop-row.invariant.key;
       seen =
           rw (c.lesser-least.ensures.value, c.line_if.ensures.value)
-          (row_next name g.T.Named.line_of rows i row (name row) c.line.result (IsSeen (λ q. q) (has_row name (take (i + 1) rows)) (lesser c.loop-row.least (line_if (not added) c.line.result))) c.loop-row-test.true
+          (row_next name g.T.Named.line_of rows i row (name row) c.line.result (IsSeen (λ q. q) (has_row name (take (i + 1) rows)) (lesser c.loop-row.least (found_if (not added) c.line.result))) c.loop-row-test.true
           c.row-item.is refl c.line.ensures.value
           (seen_more {Q = List ℕ} {K = List ℕ} (λ q. q) (has_row name (take i rows)) (has_row name (take (i + 1) rows)) (λ q. bytes_eq (name row) q) (name row) (λ q e. (bytes_eq-Decides (name row) q).0 e)
           (λ q e. (bytes_eq-Decides (name row) q).1 e) added c.loop-row.least _ c.line.result (λ q. ap (λ l. has_row name l q) (take_next rows i row c.loop-row-test.true c.row-item.is) ∙ has_more name (take i rows) row q) fresh

@@ -1,6 +1,6 @@
 use Rattle.std.proofs.Common.{List, ℕ, map, subst}
 use Rattle.def_reader.specs.Faults.{StandsAgain}
-use Rattle.def_reader.specs.Steps.{IsLeast}
+use Rattle.list_laws.specs.Leasts.{IsLeast}
 use Rattle.def_reader.proofs.named_rows.NamedRows.of.Goals as goal
 
 pub returns-clause-least : goal.returns-clause-least

@@ -1,7 +1,7 @@
 use Rattle.std.proofs.Common.{List, ◌⊎◌, subst}
 use Rattle.chain_trace.specs.declared.path.Step.{Step}
-use Rattle.def_reader.specs.Steps.{IsLeast}
-use Rattle.def_reader.proofs.LeastLines.{either}
+use Rattle.list_laws.specs.Leasts.{IsLeast}
+use Rattle.list_laws.proofs.LeastLines.{either}
 use Rattle.design_places.specs.Lines.{ForOne, StepLacks, PortLacks}
 use Rattle.design_places.proofs.nets.Traced.path.Goals as goal
 

@@ -1,5 +1,5 @@
 use Rattle.std.proofs.Common.{take}
-use Rattle.def_reader.specs.Steps.{IsLeast}
+use Rattle.list_laws.specs.Leasts.{IsLeast}
 use Rattle.design_places.specs.Lines.{ForOne, StepLacks}
 use Rattle.design_places.proofs.nets.Traced.steps.Given as goal
 

@@ -1,0 +1,2 @@
+pub mod ExtraNames
+pub mod PathNumbers

@@ -1,7 +1,0 @@
-use Rattle.std.proofs.Common.{◌≡◌, ◌<◌, ℕ, false, drop}
-use Rattle.std.specs.Prelude.{codes}
-use Rattle.traced_paths.specs.Numbers.{begins_with}
-use Rattle.traced_paths.proofs.extras.holds_extra.Given as goal
-
-abbrev pub invariant-loop-i : goal.invariant-loop-i
-invariant-loop-i l = (k : ℕ) → k < l.i → begins_with (codes ".extra") (drop k l.name) ≡ false
