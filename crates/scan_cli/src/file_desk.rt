@@ -5,6 +5,7 @@ ghost use Rattle.desk_io.specs.declared.slot.Slot.{Slot};
 ghost use Rattle.desk_io.specs.declared.slot.Stage.TheVariants.{Unopened};
 ghost use Rattle.desk_io.specs.Number.{number};
 
+use crate::failure::{Act, Cause, Failure, file_text};
 use crate::progress::{Progress, shown_text};
 use desk_io::{Desk, Failed, SLOTS, Slot, Stage, Way};
 use std::fs::{File, Metadata};
@@ -15,8 +16,14 @@ use std::{fs, io};
 /// How often a call is made anew where a signal interrupts it.
 const TURNS: usize = 1000;
 
-/// Where the figures and the notes go, as files.
-const STANDARD: [&str; 2] = ["/dev/stdout", "/dev/stderr"];
+/// Where the figures go, as a file.
+const CONSOLE: &str = "/dev/stdout";
+
+/// Where the notes go, as a file.
+const NOTES: &str = "/dev/stderr";
+
+/// What is told of want of memory, where nothing more is known or there is none for it.
+const NO_MEMORY: &str = "note: memory was refused";
 
 /// Reads once more where a signal interrupted it.
 fn read_file(file: &mut File, room: &mut [u8]) -> io::Result<usize>
@@ -85,15 +92,26 @@ fn identity_of(attributes: io::Result<Metadata>) -> Option<Identity> {
     }
 }
 
-/// Real files, opened by their names, and standard output as the console. How far it is, it tells on a terminal.
+/// What is known of a slot that was to be opened.
+#[derive(Drop)]
+struct Use {
+    slot: Slot,
+    /// The name of its file; none for want of memory.
+    name: Option<String>,
+    /// Which file was opened.
+    file: Option<Identity>,
+}
+
+/// Real files, opened by their names, and standard output as the console. How far it is, it tells on a terminal, and at the end why a call
+/// failed.
 #[derive(Drop)]
 pub struct FileDesk {
     rt: HostRuntime,
     files: [Option<File>; SLOTS],
-    /// Which files were opened so far.
-    opened: [Option<Identity>; SLOTS],
+    uses: [Option<Use>; SLOTS],
     stages: [Stage; SLOTS],
     faults: [u64; SLOTS],
+    failure: Option<Failure>,
     progress: Progress,
 }
 
@@ -108,40 +126,123 @@ impl FileDesk {
             files: [
                 None, None, None, None, None, None, None, None, None, None, None, None, None,
             ],
-            opened: [None; SLOTS],
+            uses: [
+                None, None, None, None, None, None, None, None, None, None, None, None, None,
+            ],
             stages: [Stage::Unopened; SLOTS],
             faults: [0; SLOTS],
+            failure: None,
             progress: Progress::new(rt),
         }
     }
 
-    /// Whether it is a file that this run has opened, under whatever name.
-    fn is_opened(&self, file: Option<Identity>) -> bool {
-        file.is_some() && self.opened.iter().any(|known| *known == file)
+    /// At which slot this run has opened the file, under whatever name.
+    fn slot_of(&self, file: Option<Identity>) -> Option<Slot> {
+        for known in &self.uses {
+            if let Some(known) = known {
+                if file.is_some() && known.file == file {
+                    return Some(known.slot);
+                }
+            }
+        }
+        None
+    }
+
+    /// Which file stands there.
+    fn file_at(&self, place: &str) -> Option<Identity> {
+        identity_of(fs::metadata(&self.rt, place))
     }
 
     /// Opens an output, but not over a file that this run has opened, as what is read of it would be lost, nor over one to which
     /// the figures or the notes go, as these would stand in its text.
-    fn create(&self, name: &str) -> io::Result<File> {
-        let file = identity_of(fs::metadata(&self.rt, name));
-        let is_standard = |place: &&str| identity_of(fs::metadata(&self.rt, *place)) == file;
-        if self.is_opened(file) || file.is_some() && STANDARD.iter().any(is_standard) {
-            return Err(io::Error::from(ErrorKind::AlreadyExists));
+    fn create(&self, name: &str) -> Result<File, Cause> {
+        let file = self.file_at(name);
+        if let Some(slot) = self.slot_of(file) {
+            return Err(Cause::FileOf(slot));
         }
-        fs::create(&self.rt, name)
+        if file.is_some() && self.file_at(CONSOLE) == file {
+            return Err(Cause::FileOf(Slot::Console));
+        }
+        if file.is_some() && self.file_at(NOTES) == file {
+            return Err(Cause::FileOfNotes);
+        }
+        fs::create(&self.rt, name).map_err(Cause::System)
     }
 
     /// Finds that the console isn't a file that this run has opened.
-    fn open_console(&self) -> io::Result<Option<File>> {
-        match self.is_opened(identity_of(fs::metadata(&self.rt, STANDARD[0]))) {
-            true => Err(io::Error::from(ErrorKind::AlreadyExists)),
-            false => Ok(None),
+    fn open_console(&self) -> Result<Option<File>, Cause> {
+        match self.slot_of(self.file_at(CONSOLE)) {
+            Some(slot) => Err(Cause::FileOf(slot)),
+            None => Ok(None),
         }
     }
 
-    /// Takes away what was told of how far it is.
+    /// Notes by which name a slot is opened, and which file that is.
+    fn use_of(&self, slot: Slot, name: &str, file: Option<Identity>) -> Use {
+        Use {
+            slot,
+            name: String::from_str(self.rt.alloc(), name).ok(),
+            file,
+        }
+    }
+
+    /// The name of a slot's file, empty where it isn't known.
+    fn name_of(&self, slot: Slot) -> &str {
+        match &self.uses[slot.number()] {
+            Some(
+                Use {
+                    name: Some(name),
+                    ..
+                },
+            ) => name.as_str(),
+            _ => "",
+        }
+    }
+
+    /// Tells a line on standard error. What that doesn't take is lost, and that is nobody's fault.
+    fn tell(&self, line: &str) {
+        if let Some(line) = shown_text(self.rt.alloc(), line) {
+            let _told = self.rt.eprintln(line.as_str());
+        }
+    }
+
+    /// What was done with the first file that is still open, where memory suffices for it.
+    fn open_file_text(&self) -> Option<String> {
+        let alloc = self.rt.alloc();
+        for known in &self.uses {
+            if let Some(known) = known {
+                if self.files[known.slot.number()].is_some() {
+                    let file = file_text(alloc, known.slot, self.name_of(known.slot))?;
+                    let act = match known.slot.way() {
+                        Way::In(_) => "read",
+                        Way::Out(_) => "written",
+                    };
+                    return format!(in alloc; "{NO_MEMORY} while {file} was {act}").ok();
+                }
+            }
+        }
+        None
+    }
+
+    /// Tells that memory was refused.
+    pub fn tell_no_memory(&self) {
+        match self.open_file_text() {
+            Some(line) => self.tell(line.as_str()),
+            None => {
+                let _told = self.rt.eprintln(NO_MEMORY);
+            }
+        }
+    }
+
+    /// Takes away what was told of how far it is, and tells which call failed.
     pub fn end(&self) {
         self.progress.erase();
+        if let Some(failure) = &self.failure {
+            let name = self.name_of(failure.slot);
+            if let Some(line) = failure.text(self.rt.alloc(), name) {
+                self.tell(line.as_str());
+            }
+        }
     }
 }
 
@@ -159,18 +260,25 @@ impl Desk for FileDesk {
         let at = slot.number();
         let opened = match (slot, slot.way()) {
             (Slot::Console, _) => self.open_console(),
-            (_, Way::In(_)) => fs::open(&self.rt, name).map(Some),
+            (_, Way::In(_)) => fs::open(&self.rt, name).map(Some).map_err(Cause::System),
             (_, Way::Out(_)) => self.create(name).map(Some),
         };
         match opened {
             Ok(file) => {
                 self.progress.open(slot, name, &file);
-                self.opened[at] = file.as_ref().and_then(|file| identity_of(file.metadata()));
+                let identity = file.as_ref().and_then(|file| identity_of(file.metadata()));
+                self.uses[at] = Some(self.use_of(slot, name, identity));
                 self.files[at] = file;
                 self.stages[at] = Stage::Open;
                 Ok(())
             }
-            Err(_) => {
+            Err(cause) => {
+                self.uses[at] = Some(self.use_of(slot, name, None));
+                self.failure = Some(Failure {
+                    slot,
+                    act: Act::Open,
+                    cause,
+                });
                 self.faults[at] = self.faults[at].saturating_add(1);
                 Err(Failed)
             }
@@ -179,14 +287,25 @@ impl Desk for FileDesk {
 
     fn read(&mut self, slot: Slot, room: &mut [u8]) -> Result<usize, Failed> {
         let at = slot.number();
-        if let Some(file) = &mut self.files[at] {
-            if let Ok(count) = read_file(file, room) {
+        let read = match &mut self.files[at] {
+            Some(file) => read_file(file, room).map_err(Cause::System),
+            None => Err(Cause::NoFile),
+        };
+        match read {
+            Ok(count) => {
                 self.progress.pass(slot, count);
-                return Ok(count);
+                Ok(count)
+            }
+            Err(cause) => {
+                self.failure = Some(Failure {
+                    slot,
+                    act: Act::Read,
+                    cause,
+                });
+                self.faults[at] = self.faults[at].saturating_add(1);
+                Err(Failed)
             }
         }
-        self.faults[at] = self.faults[at].saturating_add(1);
-        Err(Failed)
     }
 
     fn write(&mut self, slot: Slot, piece: &[u8]) -> Result<usize, Failed> {
@@ -198,20 +317,21 @@ impl Desk for FileDesk {
                 write_file(&mut self.rt.stdout(), piece)
             }
         };
-        match written {
-            Ok(0) => {
-                self.faults[at] = self.faults[at].saturating_add(1);
-                Ok(0)
-            }
+        let (answer, cause) = match written {
+            Ok(0) => (Ok(0), Cause::NoneWritten),
             Ok(count) => {
                 self.progress.pass(slot, count);
-                Ok(count)
+                return Ok(count);
             }
-            Err(_) => {
-                self.faults[at] = self.faults[at].saturating_add(1);
-                Err(Failed)
-            }
-        }
+            Err(error) => (Err(Failed), Cause::System(error)),
+        };
+        self.failure = Some(Failure {
+            slot,
+            act: Act::Write,
+            cause,
+        });
+        self.faults[at] = self.faults[at].saturating_add(1);
+        answer
     }
 
     fn close(&mut self, slot: Slot) -> Result<(), Failed> {
@@ -220,7 +340,12 @@ impl Desk for FileDesk {
             (Way::Out(_), Some(file)) => sync_file(file),
             _ => Ok(()),
         };
-        if kept.is_err() {
+        if let Err(error) = kept {
+            self.failure = Some(Failure {
+                slot,
+                act: Act::Sync,
+                cause: Cause::System(error),
+            });
             self.faults[at] = self.faults[at].saturating_add(1);
             return Err(Failed);
         }
@@ -232,10 +357,7 @@ impl Desk for FileDesk {
 
     fn note(&mut self, line: &str) {
         self.progress.erase();
-        if let Some(line) = shown_text(self.rt.alloc(), line) {
-            // What standard error doesn't take is lost, and that is nobody's fault.
-            let _told = self.rt.eprintln(line.as_str());
-        }
+        self.tell(line);
     }
 
     fn searching(&self, done: u64, all: u64) {

@@ -99,21 +99,21 @@ impl OptionName {
     }
 
     /// The name behind the two hyphens.
-    pub(crate) fn text<'a>(self) -> &'a str
+    pub fn text<'a>(self) -> &'a str
         ensures { result.now ≡ option_text self }
     {
         self.row().0
     }
 
     /// Whether this is the option's name.
-    pub(crate) fn is_called(self, name: &str) -> bool
+    pub fn is_called(self, name: &str) -> bool
         ensures { result ≡ bytes_eq (option_text self) name.now }
     {
         self.text() == name
     }
 
     /// What the option's value is.
-    pub(crate) fn value_form(self) -> ValueForm
+    pub fn value_form(self) -> ValueForm
         ensures { result ≡ value_form self }
     {
         self.row().1
@@ -148,7 +148,7 @@ fn is_number(low: u32, high: u32, value: &str) -> bool
 }
 
 /// Whether a text is of the form, besides being a value.
-pub(crate) fn has_form(form: ValueForm, value: &str) -> bool
+pub fn has_form(form: ValueForm, value: &str) -> bool
     ensures { result ≡ has_form form value.now }
 {
     match form {

@@ -318,7 +318,7 @@ static DRAW: [OptionForm; 5] = [
 ];
 
 /// The commands.
-pub(crate) fn verbs<'a>() -> &'a [Verb]
+pub fn verbs<'a>() -> &'a [Verb]
     ensures { result.now ≡ verbs }
 {
     VERBS.as_slice()
@@ -343,7 +343,7 @@ fn verb_among(verbs: &[Verb], word: &str) -> Option<Verb>
 impl Verb {
     /// The command of a word.
     #[tactic(auto, unfolding(crate::specs::Verbs::verb_of))]
-    pub(crate) fn of(word: &str) -> Option<Verb>
+    pub fn of(word: &str) -> Option<Verb>
         ensures { result ≡ verb_of word.now }
     {
         verb_among(verbs(), word)
@@ -422,21 +422,21 @@ impl Verb {
     }
 
     /// The word of the command.
-    pub(crate) fn name<'a>(self) -> &'a str
+    pub fn name<'a>(self) -> &'a str
         ensures { result.now ≡ verb_name self }
     {
         self.row().word
     }
 
     /// The table of the options, in the order of their values.
-    pub(crate) fn options<'a>(self) -> &'a [OptionForm]
+    pub fn options<'a>(self) -> &'a [OptionForm]
         ensures { result.now ≡ options_of self }
     {
         self.row().options
     }
 
     /// Whether one or more further words stand, and not none.
-    pub(crate) fn takes_further(self) -> bool
+    pub fn takes_further(self) -> bool
         ensures { result ≡ takes_further self }
     {
         self.row().takes_further
