@@ -1,18 +1,16 @@
-//! Tries desks, the words of commands, runs in which each call of the desk fails in turn, and runs on files that are cut behind
-//! each byte, and prints for each subject how many cases there were and those that are answered otherwise than they say.
+//! Tries desks, runs in which each call of the desk fails in turn, and patterns that come in pieces, and prints for each subject how
+//! many cases there were and those that are answered otherwise than they say.
 //!
 //! The runs read the files of three flops in `data/`, which holds what is to be written too. The subject `wrong` holds a case for
 //! each way in which a comparison can fail; each of them must be printed.
 //!
-//! Floor: tests, on row_forms, scan_job, scan_words, desk_io and base_types.
+//! Floor: tests, on row_forms, scan_job, desk_io and base_types.
 #![tactic(auto)]
 
-mod cuts;
 mod desks;
 mod files;
 mod pieces;
 mod runs;
-mod words;
 
 use base_types::NoMemory;
 use desk_io::Slot;
@@ -35,7 +33,6 @@ fn read_texts(rt: &(impl Files + AllocGlobal), files: &[(Slot, &str)]) -> io::Re
 fn wrong(alloc: Global, flops: &Flops) -> Result<Cases, NoMemory> {
     let mut cases = Cases::new(alloc);
     desks::try_rows(&mut cases, desks::WRONG.as_slice())?;
-    words::try_rows(&mut cases, words::WRONG.as_slice())?;
     runs::try_rows(&mut cases, flops, runs::WRONG.as_slice())?;
     pieces::try_rows(&mut cases, flops, pieces::WRONG.as_slice())?;
     Ok(cases)
@@ -48,9 +45,7 @@ fn main(rt: HostRuntime) -> io::Result<()> {
         written: read_texts(&rt, OUTPUTS.as_slice())?,
     };
     print_cases(&rt, "desks", desks::desks(alloc))?;
-    print_cases(&rt, "words", words::words(alloc))?;
     print_cases(&rt, "runs", runs::runs(alloc, &flops))?;
     print_cases(&rt, "pieces", pieces::pieces(alloc, &flops))?;
-    print_cases(&rt, "cuts", cuts::cuts(alloc, &flops))?;
     print_cases(&rt, "wrong", wrong(alloc, &flops))
 }

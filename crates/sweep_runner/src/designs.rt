@@ -1,12 +1,12 @@
 //! Made designs: their files, whole for the fewest units and by lines for more.
 //!
-//! A row of `designs.toml` says how many units `size` there are, and which `file` is looked at: all that is `wanted` of it, or
-//! `lines` that it has.
+//! A row of `designs.toml` says how many units `size` there are, and which `file` is looked at: all that is `wanted` of it, its
+//! `length` in bytes, or `lines` that it has.
 
 use crate::rows::{list, number, text, text_of};
 use base_types::NoMemory;
 use design_maker::{Files, make_design};
-use row_forms::{Cases, Part, put};
+use row_forms::Cases;
 use toml::Value;
 
 /// Whether a text has a line.
@@ -44,7 +44,11 @@ fn try_file(cases: &mut Cases, row: &Value, bytes: &[u8]) -> Result<(), NoMemory
     if row.get("lines").is_some() {
         return try_lines(cases, row, bytes);
     }
-    let came = if bytes == text(row, "wanted").as_bytes() {
+    let is_wanted = match row.get("length") {
+        Some(length) => length.as_integer() == i64::try_from(bytes.len()).ok(),
+        None => bytes == text(row, "wanted").as_bytes(),
+    };
+    let came = if is_wanted {
         "the text"
     } else {
         "another text"
@@ -59,32 +63,4 @@ pub(crate) fn try_row(cases: &mut Cases, row: &Value) -> Result<(), NoMemory> {
     }
     let files = make_design(cases.alloc, size)?;
     try_file(cases, row, file_of(&files, text(row, "file")))
-}
-
-/// Puts the lengths of the files of a design behind a text.
-fn put_lengths(came: &mut String, files: &Files) -> Result<(), NoMemory> {
-    put(
-        came,
-        &[
-            Part::Text("["),
-            Part::Number(files.verilog.bytes().len() as u64),
-            Part::Text(", "),
-            Part::Number(files.def.bytes().len() as u64),
-            Part::Text(", "),
-            Part::Number(files.stil.bytes().len() as u64),
-            Part::Text("]"),
-        ],
-    )
-}
-
-/// Tries how long the files of the most units are.
-pub(crate) fn try_most(cases: &mut Cases) -> Result<(), NoMemory> {
-    let most = make_design(cases.alloc, 16_384)?;
-    let mut came = String::new(cases.alloc);
-    put_lengths(&mut came, &most)?;
-    cases.compare(
-        "the most units",
-        came.as_str(),
-        "[1201137, 2366962, 511309]",
-    )
 }

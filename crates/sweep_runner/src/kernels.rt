@@ -4,23 +4,18 @@
 //! `wanted` what is found; the other rows hold zeros. Or it has bytes as `text`, which are all flipped, the letters that
 //! are `allowed`, and as `wanted` the flipped bytes, how many 1 are among the read ones, and the first that isn't allowed.
 
-use crate::rows::{list, number, put_numbers, text};
+use crate::rows::{list, number, number_of, text};
 use base_types::NoMemory;
 use lane_kernels::plain;
-use row_forms::{Cases, Part, put};
+use row_forms::Cases;
 use std::alloc::Global;
 use toml::Value;
 
 /// A length up to which the lanes come several times, with some left over.
 const LENGTHS: usize = 201;
 
-/// What is read, at which of it bytes are flipped, and which letters are allowed.
-#[derive(Clone, Copy)]
-struct Flip<'b> {
-    read: &'b [u8],
-    mask: &'b [u8],
-    allowed: &'b [u8],
-}
+/// Where lanes and plain body disagree.
+const OTHERWISE: &str = "lanes and plain body disagree";
 
 /// The next of a row of numbers without a pattern.
 fn next(seed: u64) -> u64 {
@@ -28,302 +23,190 @@ fn next(seed: u64) -> u64 {
         .wrapping_add(1442695040888963407)
 }
 
-/// Puts so many numbers from `low` on, below `low` + `range`, behind others.
-fn put_random(
-    numbers: &mut Vec<i64>,
+/// So many numbers from `low` on, below `low` + `range`.
+fn numbers(
+    alloc: Global,
     length: usize,
     seed: u64,
     low: i64,
     range: u64,
-) -> Result<(), NoMemory> {
+) -> Result<Vec<i64>, NoMemory> {
+    let mut numbers = Vec::new(alloc);
     let mut state = seed;
     for _ in 0..length {
         state = next(state);
         numbers.push(low.wrapping_add(((state >> 33) % range.max(1)) as i64))?;
     }
-    Ok(())
+    Ok(numbers)
 }
 
-/// Puts so many bytes of some symbols behind others.
-fn put_symbols(
-    bytes: &mut Vec<u8>,
+/// So many bytes of some symbols.
+fn symbols(
+    alloc: Global,
     length: usize,
     seed: u64,
     symbols: &[u8; 8],
-) -> Result<(), NoMemory> {
+) -> Result<Vec<u8>, NoMemory> {
+    let mut bytes = Vec::new(alloc);
     let mut state = seed;
     for _ in 0..length {
         state = next(state);
         bytes.push(symbols[(state >> 61) as usize])?;
     }
-    Ok(())
+    Ok(bytes)
 }
 
-/// Puts the place that was found behind a text.
-fn put_found(came: &mut String, found: Option<usize>) -> Result<(), NoMemory> {
-    match found {
-        None => put(came, &[Part::Text("None")]),
-        Some(place) => put(
-            came,
-            &[
-                Part::Text("Some("),
-                Part::Number(place as u64),
-                Part::Text(")"),
-            ],
-        ),
-    }
-}
-
-fn compare_found(
-    cases: &mut Cases,
-    name: &str,
-    found: Option<usize>,
-    wanted: &str,
-) -> Result<(), NoMemory> {
-    let mut came = String::new(cases.alloc);
-    put_found(&mut came, found)?;
-    cases.compare(name, came.as_str(), wanted)
-}
-
-/// Both bodies find this from the points (0, 0).
-fn try_gain(
-    cases: &mut Cases,
-    name: &str,
-    rows: [&[i64]; 5],
-    limit: i64,
-    wanted: &str,
-) -> Result<(), NoMemory> {
+/// What both bodies find from the points (0, 0); none where they find different places.
+fn gain(rows: [&[i64]; 5], limit: i64) -> Option<Option<usize>> {
     let [ex, ey, nx, ny, c] = rows;
     if !plain::are_rows(ex, ey, nx, ny, c) {
-        return cases.compare(name, "no rows", wanted);
+        return None;
     }
     let lanes = lane_kernels::first_gain(0, 0, 0, 0, ex, ey, nx, ny, c, limit);
-    compare_found(cases, name, lanes, wanted)?;
     let one_by_one = plain::first_gain(0, 0, 0, 0, ex, ey, nx, ny, c, limit);
-    compare_found(cases, name, one_by_one, wanted)
-}
-
-/// Both bodies find the same from the points (0, 0).
-fn try_same_gain(cases: &mut Cases, rows: [&[i64]; 5], limit: i64) -> Result<(), NoMemory> {
-    let [ex, ey, nx, ny, c] = rows;
-    if !plain::are_rows(ex, ey, nx, ny, c) {
-        return cases.compare("gains", "no rows", "rows");
+    if lanes == one_by_one {
+        Some(lanes)
+    } else {
+        None
     }
-    let mut wanted = String::new(cases.alloc);
-    let one_by_one = plain::first_gain(0, 0, 0, 0, ex, ey, nx, ny, c, limit);
-    put_found(&mut wanted, one_by_one)?;
-    let lanes = lane_kernels::first_gain(0, 0, 0, 0, ex, ey, nx, ny, c, limit);
-    compare_found(cases, "gains", lanes, wanted.as_str())
 }
 
-/// Puts flipped bytes behind a text, how many 1 were read, and the first byte that isn't allowed.
-fn put_flipped(
-    came: &mut String,
-    flipped: &[u8],
-    ones: usize,
-    outside: Option<usize>,
-) -> Result<(), NoMemory> {
-    let blank = Part::Text(" ");
-    put(
-        came,
-        &[Part::Word(flipped), blank, Part::Number(ones as u64), blank],
-    )?;
-    put_found(came, outside)
-}
-
-/// Puts what the lanes make of bytes behind a text.
-fn put_lanes(alloc: Global, came: &mut String, flip: Flip<'_>) -> Result<(), NoMemory> {
-    let mut bytes = Vec::from_slice(alloc, flip.read)?;
-    if bytes.len() != flip.mask.len() {
-        return put(came, &[Part::Text("no mask")]);
+/// How many 1 are among bytes, and the first that isn't allowed; none where both bodies don't say the same.
+fn looked(bytes: &[u8], allowed: &[u8]) -> Option<(usize, Option<usize>)> {
+    let ones = lane_kernels::count_byte(bytes, b'1');
+    let outside = lane_kernels::any_byte_outside(bytes, allowed);
+    if ones == plain::count_byte(bytes, b'1')
+        && outside == plain::any_byte_outside(bytes, allowed)
+    {
+        Some((ones, outside))
+    } else {
+        None
     }
-    lane_kernels::flip_where(&mut bytes, flip.mask);
-    let ones = lane_kernels::count_byte(flip.read, b'1');
-    let outside = lane_kernels::any_byte_outside(flip.read, flip.allowed);
-    put_flipped(came, bytes.as_slice(), ones, outside)
 }
 
-/// Puts what the plain bodies make of bytes behind a text.
-fn put_plain(alloc: Global, came: &mut String, flip: Flip<'_>) -> Result<(), NoMemory> {
-    let mut bytes = Vec::from_slice(alloc, flip.read)?;
-    if bytes.len() != flip.mask.len() {
-        return put(came, &[Part::Text("no mask for it")]);
+/// The bytes flipped where the mask says it; none where both bodies don't flip the same.
+fn flipped(alloc: Global, read: &[u8], mask: &[u8]) -> Result<Option<Vec<u8>>, NoMemory> {
+    let mut lanes = Vec::from_slice(alloc, read)?;
+    let mut one_by_one = Vec::from_slice(alloc, read)?;
+    if lanes.len() != mask.len() || one_by_one.len() != mask.len() {
+        return Ok(None);
     }
-    plain::flip_where(&mut bytes, flip.mask);
-    let ones = plain::count_byte(flip.read, b'1');
-    let outside = plain::any_byte_outside(flip.read, flip.allowed);
-    put_flipped(came, bytes.as_slice(), ones, outside)
-}
-
-/// The lanes make this of bytes.
-fn try_lanes(cases: &mut Cases, name: &str, flip: Flip<'_>, wanted: &str) -> Result<(), NoMemory> {
-    let mut came = String::new(cases.alloc);
-    put_lanes(cases.alloc, &mut came, flip)?;
-    cases.compare(name, came.as_str(), wanted)
-}
-
-/// Both bodies make this of bytes.
-fn try_flip(cases: &mut Cases, name: &str, flip: Flip<'_>, wanted: &str) -> Result<(), NoMemory> {
-    try_lanes(cases, name, flip, wanted)?;
-    let mut came = String::new(cases.alloc);
-    put_plain(cases.alloc, &mut came, flip)?;
-    cases.compare(name, came.as_str(), wanted)
-}
-
-/// Both bodies make the same of bytes.
-fn try_same_flip(cases: &mut Cases, flip: Flip<'_>) -> Result<(), NoMemory> {
-    let mut wanted = String::new(cases.alloc);
-    put_plain(cases.alloc, &mut wanted, flip)?;
-    try_lanes(cases, "flips", flip, wanted.as_str())
+    lane_kernels::flip_where(&mut lanes, mask);
+    plain::flip_where(&mut one_by_one, mask);
+    Ok(if lanes == one_by_one {
+        Some(lanes)
+    } else {
+        None
+    })
 }
 
 fn try_bytes(cases: &mut Cases, row: &Value) -> Result<(), NoMemory> {
-    let read = text(row, "text").as_bytes();
+    let (read, wanted) = (text(row, "text").as_bytes(), text(row, "wanted"));
     let mask = vec![in cases.alloc; 1u8; read.len()]?;
-    let flip = Flip {
-        read,
-        mask: mask.as_slice(),
-        allowed: text(row, "allowed").as_bytes(),
+    let looked = looked(read, text(row, "allowed").as_bytes());
+    let flipped = flipped(cases.alloc, read, &mask)?;
+    let (Some((ones, outside)), Some(flipped)) = (looked, &flipped) else {
+        return cases.compare("bytes", OTHERWISE, wanted);
     };
-    try_flip(cases, "bytes", flip, text(row, "wanted"))
+    let flipped = str::from_utf8(flipped).unwrap_or("");
+    let came = format!(in cases.alloc; "{flipped} {ones} {outside:?}")?;
+    cases.compare("bytes", came.as_str(), wanted)
 }
 
-/// Tries the rows of a search, which are filled here.
-fn try_search(
-    cases: &mut Cases,
-    row: &Value,
-    ex: &mut Vec<i64>,
-    c: &mut Vec<i64>,
-) -> Result<(), NoMemory> {
-    put_numbers(ex, list(row, "ex"))?;
-    put_numbers(c, list(row, "c"))?;
+fn try_search(cases: &mut Cases, row: &Value) -> Result<(), NoMemory> {
+    let mut ex = Vec::new(cases.alloc);
+    for value in list(row, "ex") {
+        ex.push(number_of(value))?;
+    }
+    let mut c = Vec::new(cases.alloc);
+    for value in list(row, "c") {
+        c.push(number_of(value))?;
+    }
     let none = [0; 3];
-    let rows: [&[i64]; 5] = [ex, &none, &none, &none, c];
-    let (limit, wanted) = (number(row, "limit"), text(row, "wanted"));
-    try_gain(cases, "first gain", rows, limit, wanted)
+    let found = gain([&ex, &none, &none, &none, &c], number(row, "limit"));
+    match found {
+        None => cases.compare("first gain", OTHERWISE, text(row, "wanted")),
+        Some(place) => {
+            let came = format!(in cases.alloc; "{place:?}")?;
+            cases.compare("first gain", came.as_str(), text(row, "wanted"))
+        }
+    }
 }
 
 pub(crate) fn try_row(cases: &mut Cases, row: &Value) -> Result<(), NoMemory> {
     if row.get("text").is_some() {
-        return try_bytes(cases, row);
+        try_bytes(cases, row)
+    } else {
+        try_search(cases, row)
     }
-    let mut ex = Vec::new(cases.alloc);
-    let mut c = Vec::new(cases.alloc);
-    try_search(cases, row, &mut ex, &mut c)
 }
 
-/// Tries a gain at a place, among rows of zeros and a row of ones that is filled here.
-fn try_place(
-    cases: &mut Cases,
-    zeros: &[i64],
-    place: usize,
-    c: &mut Vec<i64>,
-    wanted: &mut String,
-) -> Result<(), NoMemory> {
-    put_random(c, zeros.len(), 0, 1, 1)?;
-    if let Some(gain) = c.get_mut(place) {
-        *gain = 0;
-    }
-    put_found(wanted, Some(place))?;
-    let rows = [zeros, zeros, zeros, zeros, c.as_slice()];
-    try_gain(cases, "a gain at a place", rows, 1, wanted.as_str())
+/// Compares whether something holds.
+fn holds(cases: &mut Cases, name: &str, holds: bool) -> Result<(), NoMemory> {
+    cases.compare(name, if holds { "alike" } else { OTHERWISE }, "alike")
 }
 
-/// Tries a gain at each place of rows of this length.
+/// Tries a gain at each place of rows of this length, among rows of zeros and a row of ones.
 fn try_places(cases: &mut Cases, length: usize) -> Result<(), NoMemory> {
-    let mut zeros = Vec::new(cases.alloc);
-    put_random(&mut zeros, length, 0, 0, 1)?;
+    let zeros = vec![in cases.alloc; 0i64; length]?;
+    let mut c = vec![in cases.alloc; 1i64; length]?;
     for place in 0..length {
-        let mut c = Vec::new(cases.alloc);
-        let mut wanted = String::new(cases.alloc);
-        try_place(cases, zeros.as_slice(), place, &mut c, &mut wanted)?;
+        if let Some(number) = c.get_mut(place) {
+            *number = 0;
+        }
+        let found = gain([&zeros, &zeros, &zeros, &zeros, &c], 1);
+        holds(cases, "a gain at a place", found == Some(Some(place)))?;
+        if let Some(number) = c.get_mut(place) {
+            *number = 1;
+        }
     }
     Ok(())
 }
 
-/// Tries rows of this length without a pattern, which are filled here.
-fn try_random_rows(
-    cases: &mut Cases,
-    length: usize,
-    xs: &mut Vec<i64>,
-    ys: &mut Vec<i64>,
-    c: &mut Vec<i64>,
-) -> Result<(), NoMemory> {
+/// Tries rows of this length without a pattern.
+fn try_rows(cases: &mut Cases, length: usize) -> Result<(), NoMemory> {
     let seed = length as u64;
-    put_random(xs, length, seed, -500, 1000)?;
-    put_random(ys, length, seed.wrapping_add(1000), -500, 1000)?;
-    put_random(c, length, seed.wrapping_add(2000), -1000, 1000)?;
-    let rows = [
-        xs.as_slice(),
-        ys.as_slice(),
-        ys.as_slice(),
-        xs.as_slice(),
-        c.as_slice(),
-    ];
+    let xs = numbers(cases.alloc, length, seed, -500, 1000)?;
+    let ys = numbers(cases.alloc, length, seed.wrapping_add(1000), -500, 1000)?;
+    let c = numbers(cases.alloc, length, seed.wrapping_add(2000), -1000, 1000)?;
     for limit in [-800, -300, 0, 200] {
-        try_same_gain(cases, rows, limit)?;
+        let found = gain([&xs, &ys, &ys, &xs, &c], limit);
+        holds(cases, "gains", found.is_some())?;
     }
     Ok(())
 }
 
-/// Tries bytes of this length without a pattern, which are filled here.
-fn try_random_bytes(
-    cases: &mut Cases,
-    length: usize,
-    read: &mut Vec<u8>,
-    mask: &mut Vec<u8>,
-) -> Result<(), NoMemory> {
+/// Tries bytes of this length without a pattern.
+fn try_random_bytes(cases: &mut Cases, length: usize) -> Result<(), NoMemory> {
     let seed = length as u64;
-    put_symbols(read, length, seed, b"01NLHX01")?;
-    put_symbols(
-        mask,
+    let read = symbols(cases.alloc, length, seed, b"01NLHX01")?;
+    let mask = symbols(
+        cases.alloc,
         length,
         seed.wrapping_add(1),
         &[0, 0, 1, 0, 255, 0, 2, 0],
     )?;
     for allowed in [b"01NLHX".as_slice(), b"01NLH", b"01", b""] {
-        let flip = Flip {
-            read: read.as_slice(),
-            mask: mask.as_slice(),
-            allowed,
-        };
-        try_same_flip(cases, flip)?;
+        holds(cases, "bytes", looked(&read, allowed).is_some())?;
     }
-    Ok(())
-}
-
-/// Tries both bodies side by side at a length.
-fn try_length(cases: &mut Cases, length: usize) -> Result<(), NoMemory> {
-    let mut xs = Vec::new(cases.alloc);
-    let mut ys = Vec::new(cases.alloc);
-    let mut c = Vec::new(cases.alloc);
-    try_random_rows(cases, length, &mut xs, &mut ys, &mut c)?;
-    let mut read = Vec::new(cases.alloc);
-    let mut mask = Vec::new(cases.alloc);
-    try_random_bytes(cases, length, &mut read, &mut mask)
+    let flipped = flipped(cases.alloc, &read, &mask)?;
+    holds(cases, "flips", flipped.is_some())
 }
 
 /// Tries bytes among which every byte is allowed, and bytes among which a few are that don't stand there.
 fn try_every_byte(cases: &mut Cases) -> Result<(), NoMemory> {
     let mut every = [0; 256];
-    for (k, byte) in every.iter_mut().enumerate() {
-        *byte = k as u8;
+    for (place, byte) in every.iter_mut().enumerate() {
+        *byte = place as u8;
     }
-    let (read, mask) = ([b'X'; 33], [0; 33]);
-    let all = Flip {
-        read: &read,
-        mask: &mask,
-        allowed: &every,
-    };
-    let few = Flip {
-        read: &read,
-        mask: &mask,
-        allowed: &every[..32],
-    };
-    let wanted = "XXXXXXXXXXXXXXXXXXXXXXXXXXXXXXXXX 0 None";
-    try_flip(cases, "every byte", all, wanted)?;
-    let wanted = "XXXXXXXXXXXXXXXXXXXXXXXXXXXXXXXXX 0 Some(0)";
-    try_flip(cases, "every byte", few, wanted)
+    let read = [b'X'; 33];
+    holds(
+        cases,
+        "every byte",
+        looked(&read, &every) == Some((0, None)),
+    )?;
+    let few = looked(&read, &every[..32]);
+    holds(cases, "every byte", few == Some((0, Some(0))))
 }
 
 /// Tries both bodies side by side: a gain at each place, and rows and bytes without a pattern.
@@ -333,7 +216,8 @@ pub(crate) fn try_made(cases: &mut Cases) -> Result<(), NoMemory> {
         try_places(cases, length)?;
     }
     for length in 0..LENGTHS {
-        try_length(cases, length)?;
+        try_rows(cases, length)?;
+        try_random_bytes(cases, length)?;
     }
     Ok(())
 }

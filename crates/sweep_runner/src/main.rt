@@ -11,7 +11,6 @@
 mod calls;
 mod designs;
 mod kernels;
-mod lengths;
 mod orders;
 mod pairs;
 mod playing;
@@ -24,7 +23,6 @@ mod sweep;
 use anyhow::{Context, Result, bail};
 use base_types::NoMemory;
 use row_forms::{Cases, print_cases};
-use rows::check_file;
 use std::alloc::Global;
 use std::fs;
 use toml::{Table, Value};
@@ -35,7 +33,6 @@ enum Subject {
     Kernels,
     Rules,
     Steps,
-    Lengths,
     Orders,
     Calls,
     Playing,
@@ -44,11 +41,10 @@ enum Subject {
 }
 
 /// The subjects with their names and their files, in the order in which they are tried.
-const SUBJECTS: [(Subject, &str, &str); 9] = [
+const SUBJECTS: [(Subject, &str, &str); 8] = [
     (Subject::Kernels, "kernels", "kernels.toml"),
     (Subject::Rules, "rules", "rules.toml"),
     (Subject::Steps, "steps", "steps.toml"),
-    (Subject::Lengths, "lengths", "lengths.toml"),
     (Subject::Orders, "orders", "orders.toml"),
     (Subject::Calls, "calls", "calls.toml"),
     (Subject::Playing, "playing", "playing.toml"),
@@ -57,9 +53,8 @@ const SUBJECTS: [(Subject, &str, &str); 9] = [
 ];
 
 /// The subjects that have wrong rows, with their files, in the order in which these are tried.
-const WRONG: [(Subject, &str); 9] = [
+const WRONG: [(Subject, &str); 8] = [
     (Subject::Kernels, "kernels.toml"),
-    (Subject::Lengths, "lengths.toml"),
     (Subject::Orders, "orders.toml"),
     (Subject::Calls, "calls.toml"),
     (Subject::Playing, "playing.toml"),
@@ -84,7 +79,6 @@ fn try_row(cases: &mut Cases, subject: Subject, file: &Table, row: &Value) -> Re
         Subject::Kernels => kernels::try_row(cases, row),
         Subject::Rules => rules::try_row(cases, row),
         Subject::Steps => steps::try_row(cases, file, row),
-        Subject::Lengths => lengths::try_row(cases, row),
         Subject::Orders => orders::try_row(cases, row),
         Subject::Calls => calls::try_row(cases, row),
         Subject::Playing => playing::try_row(cases, row),
@@ -109,11 +103,8 @@ fn try_made(cases: &mut Cases, subject: Subject) -> Result<(), NoMemory> {
     match subject {
         Subject::Kernels => kernels::try_made(cases),
         Subject::Rules => rules::try_most_units(cases),
-        Subject::Lengths => lengths::try_links(cases),
         Subject::Orders => orders::try_made(cases),
-        Subject::Playing => playing::try_shorter(cases),
-        Subject::Designs => designs::try_most(cases),
-        Subject::Steps | Subject::Calls | Subject::Sweep => Ok(()),
+        _ => Ok(()),
     }
 }
 
@@ -128,7 +119,6 @@ fn tried(alloc: Global, subject: Subject, file: &Table) -> Result<Cases, NoMemor
 /// Tries a subject, and prints what came of it.
 fn print_subject(rt: &HostRuntime, subject: Subject, name: &str, file: &str) -> Result<()> {
     let file = read_file(rt, file)?;
-    check_file(&file)?;
     print_cases(rt, name, tried(rt.alloc(), subject, &file))?;
     Ok(())
 }

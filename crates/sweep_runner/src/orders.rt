@@ -17,16 +17,14 @@ use chain_rules::{ChainRule, Plan, Rules, Unit};
 use order_search::plain::{is_settled, length_of};
 use order_search::{Effort, are_searchable, nearest_plan, settle_order};
 use partition_moves::settle_all;
-use plan_search::{MeasuredPlan, Quiet, search_plan};
+use plan_search::{Quiet, search_plan};
 use row_forms::{Cases, Part, items_of, put};
 use std::alloc::Global;
 use toml::Value;
 use wire_cost::Ends;
 
-/// How many rules are made for the searches that settle, and for whole searches, which take longer.
-const SETTLED: u64 = 400;
-
-const SEARCHED: u64 = 30;
+/// How many rules are made.
+const MADE: u64 = 30;
 
 /// What is looked at.
 #[derive(Clone, Copy)]
@@ -62,7 +60,7 @@ fn no_rules(alloc: Global) -> Rules {
 }
 
 /// No ends yet.
-pub(crate) fn no_ends(alloc: Global) -> Ends {
+fn no_ends(alloc: Global) -> Ends {
     Ends {
         entry: Rows::new(alloc),
         exit: Rows::new(alloc),
@@ -116,12 +114,16 @@ fn put_chain(rules: &mut Rules, ends: &mut Ends, rule: &[Value]) -> Result<(), N
         bound: u32::try_from(number_at(rule, 2)).unwrap_or(0),
         keeps_bit: true,
     })?;
-    let y = number_at(rule, 0);
-    ends.start.push(Some(Point { x: 0, y }))?;
-    ends.stop.push(Some(Point {
-        x: number_at(rule, 1),
-        y,
-    }))
+    let (x, y) = (number_at(rule, 1), number_at(rule, 0));
+    let is_nowhere = number_at(rule, 3) == 1;
+    let start = Point { x: 0, y };
+    ends.start
+        .push(if is_nowhere { None } else { Some(start) })?;
+    ends.stop.push(if is_nowhere {
+        None
+    } else {
+        Some(Point { x, y })
+    })
 }
 
 /// Puts the units and chains of a row behind others.
@@ -352,165 +354,53 @@ fn make(alloc: Global, seed: &mut u64, rules: &mut Rules, ends: &mut Ends) -> Re
     Ok(())
 }
 
-/// What is wrong with a plan of a search of this effort, which is to be no longer than this.
-fn flaw(
-    alloc: Global,
-    rules: &Rules,
-    ends: &Ends,
-    effort: Effort,
-    plan: &Plan,
-    most: i64,
-) -> Result<&'static str, NoMemory>
+/// What is wrong with the searched plan of made rules: it is to be legal and settled, as long as it says and no longer than the read
+/// one, and the same when it is searched again.
+fn flaw(alloc: Global, rules: &Rules, ends: &Ends, effort: Effort) -> Result<&'static str, NoMemory>
     requires searchable { AreSearchable rules.now ends.now }
 {
-    if !is_legal(rules, plan) {
-        Ok("not legal")
-    } else if length_of(rules, ends, plan) > most {
-        Ok("longer")
-    } else if !is_settled(alloc, effort, rules, ends, plan)? {
-        Ok("not settled")
+    let found = search_plan(alloc, rules, ends, effort, &Quiet)?;
+    let again = search_plan(alloc, rules, ends, effort, &Quiet)?;
+    Ok(if !is_legal(rules, &found.plan) {
+        "not legal"
+    } else if !is_settled(alloc, effort, rules, ends, &found.plan)? {
+        "not settled"
+    } else if found.length != length_of(rules, ends, &found.plan) {
+        "another length"
+    } else if found.length > length_of(rules, ends, &rules.read) {
+        "longer"
+    } else if found.plan.lists() != again.plan.lists() {
+        "another plan when it is searched again"
     } else {
-        Ok("none")
-    }
+        "none"
+    })
 }
 
-/// The settled plan of made rules is legal, no longer, and settled by the plain test.
-fn settles(
-    cases: &mut Cases,
-    rules: &Rules,
-    ends: &Ends,
-    name: &str,
-    effort: Effort,
-) -> Result<(), NoMemory>
-    requires searchable { AreSearchable rules.now ends.now }
-{
-    let search = match effort {
-        Effort::Order => Search::Order,
-        Effort::Full => Search::All,
-    };
-    let read = length_of(rules, ends, &rules.read);
-    let mut plan = rules.read.copy(cases.alloc)?;
-    search_from(cases.alloc, rules, ends, search, &mut plan)?;
-    let flaw = flaw(cases.alloc, rules, ends, effort, &plan, read)?;
-    cases.compare(name, flaw, "none")
-}
-
-/// Puts a plan behind a text, and three lengths.
-fn put_lengths(came: &mut String, plan: &Plan, lengths: [i64; 3]) -> Result<(), NoMemory> {
-    let [read, nearest, own] = lengths;
-    put_plan(came, plan)?;
-    put(
-        came,
-        &[
-            Part::Text(" ["),
-            Part::Signed(read),
-            Part::Text(", "),
-            Part::Signed(nearest),
-            Part::Text(", "),
-            Part::Signed(own),
-            Part::Text("]"),
-        ],
-    )
-}
-
-/// Compares a searched plan and the lengths that it says with the plan that is searched again and these lengths.
-fn compare_plans(
-    cases: &mut Cases,
-    name: &str,
-    made: &MeasuredPlan,
-    again: &MeasuredPlan,
-    lengths: [i64; 3],
-) -> Result<(), NoMemory> {
-    let mut came = String::new(cases.alloc);
-    let said = [made.read_length, made.nearest_length, made.length];
-    put_lengths(&mut came, &made.plan, said)?;
-    let mut wanted = String::new(cases.alloc);
-    put_lengths(&mut wanted, &again.plan, lengths)?;
-    cases.compare(name, came.as_str(), wanted.as_str())
-}
-
-/// The searched plan of made rules is measured, and is the same when it is searched again.
-fn repeats(
-    cases: &mut Cases,
-    rules: &Rules,
-    ends: &Ends,
-    name: &str,
-    effort: Effort,
-    made: &MeasuredPlan,
-    lengths: [i64; 2],
-) -> Result<(), NoMemory>
-    requires searchable { AreSearchable rules.now ends.now }
-    requires legal { IsLegal rules.now made.now.plan }
-{
-    let length = length_of(rules, ends, &made.plan);
-    let again = search_plan(cases.alloc, rules, ends, effort, &Quiet)?;
-    let lengths = [lengths[0], lengths[1], length];
-    compare_plans(cases, name, made, &again, lengths)
-}
-
-/// The searched plan of made rules is as good as the settled one and no longer than the nearest one, is measured, and is the
-/// same when it is searched again.
-fn searches(
-    cases: &mut Cases,
-    rules: &Rules,
-    ends: &Ends,
-    name: &str,
-    effort: Effort,
-) -> Result<(), NoMemory>
-    requires searchable { AreSearchable rules.now ends.now }
-{
-    let nearest = nearest_plan(cases.alloc, rules, ends)?;
-    let lengths = [
-        length_of(rules, ends, &rules.read),
-        length_of(rules, ends, &nearest),
-    ];
-    let made = search_plan(cases.alloc, rules, ends, effort, &Quiet)?;
-    let most = lengths[0].min(lengths[1]);
-    let flaw = flaw(cases.alloc, rules, ends, effort, &made.plan, most)?;
-    cases.compare(name, flaw, "none")?;
-    repeats(cases, rules, ends, name, effort, &made, lengths)
-}
-
-/// Tries made rules, which are filled here, and whose name is put together here.
+/// Tries made rules, which are filled here.
 fn try_rules(
     cases: &mut Cases,
     seed: &mut u64,
-    number: u64,
-    whole: bool,
     rules: &mut Rules,
     ends: &mut Ends,
-    name: &mut String,
 ) -> Result<(), NoMemory> {
     make(cases.alloc, seed, rules, ends)?;
-    put(name, &[Part::Text("made rules "), Part::Number(number)])?;
     if !are_searchable(rules, ends) {
-        return cases.compare(name.as_str(), "not searchable", "searchable");
+        return cases.compare("made rules", "not searchable", "searchable");
     }
     for effort in [Effort::Order, Effort::Full] {
-        if whole {
-            searches(cases, rules, ends, name.as_str(), effort)?;
-        } else {
-            settles(cases, rules, ends, name.as_str(), effort)?;
-        }
-    }
-    Ok(())
-}
-
-/// Tries so many made rules.
-fn try_many(cases: &mut Cases, count: u64, whole: bool) -> Result<(), NoMemory> {
-    let mut seed = 2024;
-    for number in 0..count {
-        let mut rules = no_rules(cases.alloc);
-        let mut ends = no_ends(cases.alloc);
-        let mut name = String::new(cases.alloc);
-        let (all, ways) = (&mut rules, &mut ends);
-        try_rules(cases, &mut seed, number, whole, all, ways, &mut name)?;
+        let flaw = flaw(cases.alloc, rules, ends, effort)?;
+        cases.compare("made rules", flaw, "none")?;
     }
     Ok(())
 }
 
 /// Tries made rules.
 pub(crate) fn try_made(cases: &mut Cases) -> Result<(), NoMemory> {
-    try_many(cases, SETTLED, false)?;
-    try_many(cases, SEARCHED, true)
+    let mut seed = 2024;
+    for _ in 0..MADE {
+        let mut rules = no_rules(cases.alloc);
+        let mut ends = no_ends(cases.alloc);
+        try_rules(cases, &mut seed, &mut rules, &mut ends)?;
+    }
+    Ok(())
 }

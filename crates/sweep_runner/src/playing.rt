@@ -14,9 +14,7 @@ use base_types::{NoMemory, Rows, Text};
 use row_forms::{Cases, Part, put};
 use std::alloc::Global;
 use std::fmt::Write;
-use stil_tester::{
-    Chains, Device, Hold, Mix, PlayLog, Player, Symbol, is_call_for, play, scan_call,
-};
+use stil_tester::{Chains, Device, Hold, Mix, PlayLog, Player, Symbol, is_call_for, play};
 use stil_types::{BodyStatement, PatternStatement, ScanCall};
 use toml::Value;
 
@@ -276,41 +274,5 @@ pub(crate) fn try_row(cases: &mut Cases, row: &Value) -> Result<(), NoMemory> {
         try_rounds(cases, row, &chains)
     } else {
         try_patterns(cases, row, &chains)
-    }
-}
-
-/// Puts the three cells behind a text in which a call leaves them, and its verdict.
-fn put_scanned(
-    alloc: Global,
-    came: &mut String,
-    chains: &Chains,
-    call: &ScanCall,
-) -> Result<(), NoMemory>
-    requires { AreChains chains.now }
-{
-    if !is_call_for(chains, call) || chains.cells != 3 {
-        return put(came, &[Part::Text(NO_CALL)]);
-    }
-    let mut cells = [Symbol::One, Symbol::One, Symbol::Zero];
-    let passed = scan_call(alloc, chains, &mut cells, call)?;
-    put_cells(came, &cells)?;
-    put(came, &[Part::Text(" "), Part::Text(shown(passed))])
-}
-
-/// Plays a load that is shorter than its compare.
-fn try_scanned(cases: &mut Cases, chains: &Chains) -> Result<(), NoMemory>
-    requires { AreChains chains.now }
-{
-    let call = call_by(cases.alloc, "01", "LHX")?;
-    let mut came = String::new(cases.alloc);
-    put_scanned(cases.alloc, &mut came, chains, &call)?;
-    cases.compare("a shorter load", came.as_str(), "[One, Zero, Unknown] true")
-}
-
-/// Plays a call alone.
-pub(crate) fn try_shorter(cases: &mut Cases) -> Result<(), NoMemory> {
-    match chains_of(cases.alloc, "012")? {
-        None => cases.compare("a shorter load", NO_CALL, "a call"),
-        Some(chains) => try_scanned(cases, &chains),
     }
 }

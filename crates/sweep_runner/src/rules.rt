@@ -290,8 +290,15 @@ pub(crate) fn try_row(cases: &mut Cases, row: &Value) -> Result<(), NoMemory> {
     cases.compare(text(row, "name"), came.as_str(), text(row, "wanted"))
 }
 
-/// Puts so many flops behind the steps of a path.
-fn put_flops(steps: &mut Rows<StepSpec>, flops: u32) -> Result<(), NoMemory> {
+/// Puts a path and a chain of so many flops behind others.
+fn put_long(
+    alloc: Global,
+    paths: &mut Vec<PathSpec>,
+    chains: &mut Vec<ChainSpec>,
+    flops: u32,
+) -> Result<(), NoMemory> {
+    let mut steps = Rows::new(alloc);
+    let mut elements = Rows::new(alloc);
     for instance in 1000..flops.saturating_add(1000) {
         steps.push(StepSpec {
             instance,
@@ -299,70 +306,47 @@ fn put_flops(steps: &mut Rows<StepSpec>, flops: u32) -> Result<(), NoMemory> {
             out: 0,
             bits: 1,
         })?;
-    }
-    Ok(())
-}
-
-/// Puts so many flops behind the elements of a list.
-fn put_flop_elements(elements: &mut Rows<ElementSpec>, flops: u32) -> Result<(), NoMemory> {
-    for instance in 1000..flops.saturating_add(1000) {
         elements.push(ElementSpec {
             instance,
             path: 0,
             out: Some(0),
         })?;
     }
-    Ok(())
-}
-
-/// Puts a chain of so many flops behind others.
-fn put_long(alloc: Global, chains: &mut Vec<ChainSpec>, flops: u32) -> Result<(), NoMemory> {
-    let mut elements = Rows::new(alloc);
-    put_flop_elements(&mut elements, flops)?;
+    paths.push(PathSpec {
+        input: 0,
+        output: 100,
+        free_out: true,
+        steps,
+    })?;
     let mut long = no_lists(alloc);
     long.lists.push(ListSpec::Floating(elements))?;
     chains.push(long)?;
     Ok(())
 }
 
-/// Puts a path and a chain of so many flops behind others, and those of one flop.
-fn put_most(
-    alloc: Global,
-    paths: &mut Vec<PathSpec>,
-    chains: &mut Vec<ChainSpec>,
-    flops: u32,
-    statement: &str,
-) -> Result<(), NoMemory> {
-    put_path(alloc, paths, "", true)?;
-    put_path(alloc, paths, "a", true)?;
-    if let Some(long) = paths.first_mut() {
-        put_flops(&mut long.steps, flops)?;
-    }
-    put_long(alloc, chains, flops)?;
-    put_chain(alloc, chains, statement)
-}
-
 /// The rules of so many flops in one chain beside a chain of one flop, of this statement.
 fn most_rules(alloc: Global, flops: u32, statement: &str) -> Result<Option<Rules>, ReadFault> {
     let mut paths = Vec::new(alloc);
     let mut chains = Vec::new(alloc);
-    put_most(alloc, &mut paths, &mut chains, flops, statement)?;
+    put_long(alloc, &mut paths, &mut chains, flops)?;
+    put_path(alloc, &mut paths, "a", true)?;
+    put_chain(alloc, &mut chains, statement)?;
     rules_between(alloc, paths.as_slice(), chains.as_slice())
-}
-
-/// So many flops in one chain beside a chain of one flop, of this statement: how many units a partition may have.
-fn try_units(cases: &mut Cases, flops: u32, statement: &str, wanted: &str) -> Result<(), NoMemory> {
-    let rules = most_rules(cases.alloc, flops, statement);
-    let mut came = String::new(cases.alloc);
-    put_read(&mut came, &rules, false)?;
-    cases.compare("units of a partition", came.as_str(), wanted)
 }
 
 /// How many units a partition may have.
 pub(crate) fn try_most_units(cases: &mut Cases) -> Result<(), NoMemory> {
     let apart = "PORTS=1 LINE=33 FLOATING=a PARTITION=1";
-    try_units(cases, 16384, apart, "16385 units")?;
-    try_units(cases, 16385, apart, "Def Line(32) TooManyUnits")?;
     let beside = "PORTS=1 LINE=33 FLOATING=a PARTITION=0";
-    try_units(cases, 16384, beside, "Def Line(33) TooManyUnits")
+    for (flops, statement, wanted) in [
+        (16384, apart, "16385 units"),
+        (16385, apart, "Def Line(32) TooManyUnits"),
+        (16384, beside, "Def Line(33) TooManyUnits"),
+    ] {
+        let rules = most_rules(cases.alloc, flops, statement);
+        let mut came = String::new(cases.alloc);
+        put_read(&mut came, &rules, false)?;
+        cases.compare("units of a partition", came.as_str(), wanted)?;
+    }
+    Ok(())
 }

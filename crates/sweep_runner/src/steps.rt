@@ -11,7 +11,7 @@ use crate::rows::{list, place_of, text, truth};
 use crate::rules::rules_of;
 use base_types::NoMemory;
 use chain_rules::{Plan, Position, Rules, can_move, can_swap, is_legal};
-use row_forms::{Cases, Part, items_of, put};
+use row_forms::{Cases, items_of};
 use std::alloc::Global;
 use toml::{Table, Value};
 
@@ -99,37 +99,6 @@ fn number_at(step: &[Value], at: usize) -> u32 {
     }
 }
 
-/// Puts a position behind a text.
-fn put_position(text: &mut String, at: Position) -> Result<(), NoMemory> {
-    put(
-        text,
-        &[
-            Part::Text("Position { chain: "),
-            Part::Number(u64::from(at.chain)),
-            Part::Text(", place: "),
-            Part::Number(u64::from(at.place)),
-            Part::Text(" }"),
-        ],
-    )
-}
-
-/// Compares what comes of a step with whether it is legal.
-fn compare_step(
-    cases: &mut Cases,
-    name: &str,
-    from: Position,
-    to: Position,
-    came: &str,
-    wanted: &str,
-) -> Result<(), NoMemory> {
-    let mut step = String::new(cases.alloc);
-    put(&mut step, &[Part::Text(name), Part::Text(", ")])?;
-    put_position(&mut step, from)?;
-    put(&mut step, &[Part::Text(" with ")])?;
-    put_position(&mut step, to)?;
-    cases.compare(step.as_str(), came, wanted)
-}
-
 /// Tries the steps at a key, which are all legal or all not.
 fn try_steps(
     cases: &mut Cases,
@@ -157,7 +126,7 @@ fn try_steps(
         } else {
             moves(rules, plan, from, to)
         };
-        compare_step(cases, text(row, "name"), from, to, came, shown(legal))?;
+        cases.compare(text(row, "name"), came, shown(legal))?;
     }
     Ok(())
 }

@@ -7,7 +7,7 @@ use std::alloc::Global;
 use stil_types::ScanCall;
 
 /// None given, and the strings of at most four of three characters.
-pub(crate) const STRINGS: usize = 122;
+const STRINGS: usize = 122;
 
 /// The first prime number that isn't below the count of strings.
 pub(crate) const PRIME: usize = 127;

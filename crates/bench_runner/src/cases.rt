@@ -1,6 +1,7 @@
 //! Rules and ends made at random, the same on every machine.
-ghost use Rattle.std.specs.Prelude.{ℕ, ◌^◌, ◌<◌};
+ghost use Rattle.std.specs.Prelude.{◌<◌};
 
+use crate::dice::Dice;
 use base_types::{NoMemory, Point, Rows};
 use chain_rules::{ChainRule, Plan, Rules, Unit};
 use std::alloc::Global;
@@ -11,7 +12,7 @@ const SIDE: u64 = 2000000;
 
 /// Where the ends of the chains stand.
 #[derive(Clone, Copy, PartialEq, Eq)]
-pub enum Layout {
+pub(crate) enum Layout {
     /// Starts on the left and stops on the right, each chain at a height of its own; units as the generator places them.
     Generated,
     /// The same with units at random.
@@ -23,57 +24,46 @@ pub enum Layout {
     /// All units and ends at one place; those of each second chain have seven bits and are left far from their entry, the
     /// others have one and are entered there. Each of a chain would stand between two of the other for nothing.
     Opposed,
+    /// One chain along the lower side of a square of 2^20, its units at random by another sequence and each left a little beside its
+    /// entry.
+    Square,
 }
 
-/// How far apart a unit's entry and exit are in the last layout.
+/// The side of the square of one chain.
+const SQUARE: u64 = 1048576;
+
+/// How far apart a unit's entry and exit are where each of a chain would stand between two of the other.
 const FAR: i64 = 200000;
 
 /// What a case is made of.
 #[derive(Clone, Copy)]
-pub struct Case {
-    pub layout: Layout,
-    pub units: u32,
-    pub chains: u32,
+pub(crate) struct Case {
+    pub(crate) layout: Layout,
+    pub(crate) units: u32,
+    pub(crate) chains: u32,
     /// Each unit is left some micrometres beside its entry.
-    pub is_apart: bool,
+    pub(crate) is_apart: bool,
     /// No chain may hold more bits than as read.
-    pub is_tight: bool,
+    pub(crate) is_tight: bool,
     /// Units have one, two, four or eight bits.
-    pub is_uneven: bool,
+    pub(crate) is_uneven: bool,
     /// A tenth of the units have several bits and an exit far from the entry.
-    pub is_ordered: bool,
-    /// Each chain may hold all units.
-    pub is_wide: bool,
-    /// Each chain is a partition.
-    pub is_alone: bool,
+    pub(crate) is_ordered: bool,
 }
 
-/// A sequence by shifts and exclusive ors.
-#[derive(Drop)]
-struct Dice {
-    state: u64,
+/// A number below a million million.
+fn coordinate(dice: &mut Dice, sides: u64) -> i64
+    requires { 0 < sides }
+{
+    (dice.roll(sides) % 1099511627776) as i64
 }
 
-impl Dice {
-    fn roll(&mut self, sides: u64) -> u64 {
-        let mut state = self.state;
-        state ^= state << 13;
-        state ^= state >> 7;
-        state ^= state << 17;
-        self.state = state;
-        state % sides.max(1)
-    }
-
-    /// A number below a million million.
-    fn coordinate(&mut self, sides: u64) -> i64 {
-        (self.roll(sides) % 1099511627776) as i64
-    }
-
-    fn point(&mut self, sides: u64) -> Point {
-        let x = self.coordinate(sides);
-        let y = self.coordinate(sides);
-        Point { x, y }
-    }
+fn point(dice: &mut Dice, sides: u64) -> Point
+    requires { 0 < sides }
+{
+    let x = coordinate(dice, sides);
+    let y = coordinate(dice, sides);
+    Point { x, y }
 }
 
 fn moved(place: Point, x: i64, y: i64) -> Point {
@@ -92,14 +82,31 @@ fn grid(seed: u64) -> i64 {
     ((seed % 1000) as i64).wrapping_mul(2000).wrapping_add(2000)
 }
 
+/// The next number of a sequence of full period.
+fn long_next(seed: u64) -> u64 {
+    seed.wrapping_mul(6364136223846793005)
+        .wrapping_add(1442695040888963407)
+}
+
 /// Where the units are entered.
 fn entries(alloc: Global, case: Case, dice: &mut Dice) -> Result<Vec<Point>, NoMemory> {
     let mut places = Vec::with_capacity(alloc, case.units as usize)?;
-    let mut seed = 1u64;
+    let mut seed = if case.layout == Layout::Square {
+        12345u64
+    } else {
+        1
+    };
     for unit in 0..case.units {
         if case.layout == Layout::Opposed {
             let x = i64::from(unit % 2).wrapping_mul(FAR);
             places.push(Point { x, y: 0 })?;
+        } else if case.layout == Layout::Square {
+            let x = long_next(seed);
+            seed = long_next(x);
+            places.push(Point {
+                x: ((x >> 33) % SQUARE) as i64,
+                y: ((seed >> 33) % SQUARE) as i64,
+            })?;
         } else if case.layout == Layout::Generated {
             let x = next(seed);
             seed = next(x);
@@ -108,7 +115,7 @@ fn entries(alloc: Global, case: Case, dice: &mut Dice) -> Result<Vec<Point>, NoM
                 y: grid(seed),
             })?;
         } else {
-            places.push(dice.point(SIDE))?;
+            places.push(point(dice, SIDE))?;
         }
     }
     Ok(places)
@@ -122,11 +129,14 @@ fn exit(case: Case, dice: &mut Dice, place: Point) -> Point {
             y: place.y,
         };
     }
+    if case.layout == Layout::Square {
+        return moved(place, 400, 0);
+    }
     if !case.is_apart {
         return place;
     }
-    let x = dice.coordinate(4001).wrapping_add(4000);
-    let y = dice.coordinate(1001);
+    let x = coordinate(dice, 4001).wrapping_add(4000);
+    let y = coordinate(dice, 1001);
     let x = if dice.roll(2) == 1 {
         x.wrapping_neg()
     } else {
@@ -167,8 +177,8 @@ fn chain_ends(case: Case, dice: &mut Dice, chain: u32) -> (Point, Point) {
             Point { x: side, y: height },
         ),
         Layout::Middle => {
-            let start = dice.point(40000);
-            let stop = dice.point(40000);
+            let start = point(dice, 40000);
+            let stop = point(dice, 40000);
             let middle = Point {
                 x: side / 2,
                 y: side / 2,
@@ -179,9 +189,13 @@ fn chain_ends(case: Case, dice: &mut Dice, chain: u32) -> (Point, Point) {
             )
         }
         Layout::Opposed => (Point { x: 0, y: 0 }, Point { x: 0, y: 0 }),
+        Layout::Square => {
+            let x = SQUARE as i64;
+            (Point { x: 0, y: 0 }, Point { x, y: 0 })
+        }
         Layout::Random => {
-            let start = dice.point(SIDE);
-            (start, dice.point(SIDE))
+            let start = point(dice, SIDE);
+            (start, point(dice, SIDE))
         }
     }
 }
@@ -202,7 +216,7 @@ fn add_units(
             has = 7;
         }
         if case.is_ordered && dice.roll(10) == 0 {
-            let far = dice.point(400000);
+            let far = point(dice, 400000);
             left = moved(
                 *place,
                 far.x.wrapping_sub(200000),
@@ -229,16 +243,8 @@ fn rule(case: Case, chain: u32, bits: u32) -> ChainRule {
         path: chain,
         first: 0,
         last: 0,
-        partition: if case.is_alone {
-            chain
-        } else if is_generated {
-            chain / 4
-        } else {
-            0
-        },
-        bound: if case.is_wide {
-            case.units
-        } else if case.is_tight {
+        partition: if is_generated { chain / 4 } else { 0 },
+        bound: if case.is_tight {
             bits
         } else {
             bits.wrapping_add(4)
@@ -266,10 +272,8 @@ fn read_chain(
 }
 
 /// The rules and the ends of a case; the units are read in turn into its chains.
-pub fn case_of(alloc: Global, case: Case) -> Result<(Rules, Ends), NoMemory> {
-    let mut dice = Dice {
-        state: 88172645463325252,
-    };
+pub(crate) fn case_of(alloc: Global, case: Case) -> Result<(Rules, Ends), NoMemory> {
+    let mut dice = Dice::new();
     let places = entries(alloc, case, &mut dice)?;
     let (units, exit) = add_units(alloc, case, &mut dice, places.as_slice())?;
     let mut chains = Rows::new(alloc);
@@ -284,17 +288,13 @@ pub fn case_of(alloc: Global, case: Case) -> Result<(Rules, Ends), NoMemory> {
         chains.push(rule(case, chain, bits))?;
         read.push(listed)?;
     }
-    let mut entry = Rows::new(alloc);
-    for place in places.as_slice() {
-        entry.push(*place)?;
-    }
     let rules = Rules {
         units,
         chains,
         read: Plan::of(read),
     };
     let ends = Ends {
-        entry,
+        entry: Rows::of(places),
         exit,
         start,
         stop,

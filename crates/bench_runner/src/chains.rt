@@ -1,12 +1,12 @@
 //! Many chains on one path, each of one element between a START and a STOP cell.
 ghost use Rattle.std.specs.Prelude.{ℕ, ◌<◌, ◌^◌};
 
+use anyhow::{Context, Result, bail, ensure};
 use base_types::{NoMemory, Rows};
 use chain_rules::{
     ChainSpec, ElementSpec, EndSpec, ListSpec, PathSpec, StepSpec, are_chains, units_of,
 };
 use std::alloc::{Alloc, Global};
-use std::io;
 use std::rt::Clock;
 use std::time::Instant;
 
@@ -71,31 +71,32 @@ fn made(alloc: Global, chains: u32) -> Result<(Rows<PathSpec>, Rows<ChainSpec>),
     Ok((paths, made))
 }
 
-/// Reads the units and rules of so many chains, and prints how many units there are and how long it took.
-pub fn run_chains(
+/// Reads the units and rules of so many chains, and prints how many units there are, and how long it took where times are asked for.
+pub(crate) fn run_chains(
     rt: &(impl Clock + Print + Alloc<A = Global>),
     chains: u32,
-) -> io::Result<Result<(), NoMemory>> {
-    let (paths, chains) = match made(rt.alloc(), chains.min(MANY)) {
-        Ok(made) => made,
-        Err(refused) => return Ok(Err(refused)),
+    is_timed: bool,
+) -> Result<()> {
+    let Ok((paths, chains)) = made(rt.alloc(), chains.min(MANY)) else {
+        bail!("no memory");
     };
-    match are_chains(rt.alloc(), paths.as_slice(), chains.as_slice()) {
-        Ok(true) => {}
-        Ok(false) => return Ok(Ok(println!(rt; "not chains")?)),
-        Err(refused) => return Ok(Err(refused)),
-    }
+    let (paths, chains) = (paths.as_slice(), chains.as_slice());
+    let are_sound = are_chains(rt.alloc(), paths, chains).ok();
+    ensure!(are_sound.context("no memory")?, "no chains");
     let start = Instant::now(rt)?;
-    let units = match units_of(rt.alloc(), paths.as_slice(), chains.as_slice()) {
-        Ok(rules) => rules.units.as_slice().len(),
-        Err(_) => 0,
+    let Ok(rules) = units_of(rt.alloc(), paths, chains) else {
+        bail!("a fault");
     };
-    let elapsed = start.elapsed(rt)?;
+    let took = start.elapsed(rt)?;
     println!(rt;
-        "chains {} units {units} read in {elapsed:?}",
-        chains.as_slice().len()
+        "chains {} units {}",
+        chains.len(),
+        rules.units.as_slice().len()
     )?;
-    Ok(Ok(()))
+    if is_timed {
+        println!(rt; "read in {took:?}")?;
+    }
+    Ok(())
 }
 
 const MANY: u32 = 65536;

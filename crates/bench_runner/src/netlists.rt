@@ -1,27 +1,18 @@
-//! Times `read_netlist` on a generated netlist, and then the trace of its one chain. With no word it takes a small one and
-//! prints what is the same at each run; with a number of megabytes it prints the times too.
-//!
-//! Floor: benches, on cell_table, netlist_core, chain_trace, verilog_reader, base_types and `anyhow`.
-#![tactic(auto)]
-
-ghost use Rattle.std.specs.Prelude.{◌<◌, ◌^◌, length};
+//! The tokens of a generated netlist of one chain of flops; and reading it, and tracing its chain.
+ghost use Rattle.std.specs.Prelude.{◌<◌, ◌^◌};
 ghost use Rattle.netlist_core.specs.Netlists.{IsNetlist};
 
 use anyhow::{Context, Result, bail, ensure};
-use base_types::Name;
+use base_types::{Name, Span};
 use cell_table::CellTable;
 use chain_trace::{output_named, trace};
 use netlist_core::{Netlist, classes_of};
-use std::alloc::Global;
-use std::env;
+use std::alloc::{Alloc, Global};
 use std::fmt::Write;
 use std::rt::Clock;
 use std::time::Instant;
 use verilog_reader::read_netlist;
-
-const MEGABYTE: usize = 1_000_000;
-
-const SMALL: usize = 10_000;
+use verilog_syntax::verilog_tokens;
 
 /// So many wires stand in one line, and their flops behind it.
 const BLOCK: u32 = 100;
@@ -77,6 +68,27 @@ fn netlist_text(alloc: Global, size: usize) -> Result<String> {
     Ok(text)
 }
 
+/// Cuts a netlist of so many bytes into its tokens.
+pub(crate) fn run_tokens(
+    rt: &(impl Alloc<A = Global> + Clock + Print),
+    size: usize,
+    is_timed: bool,
+) -> Result<()> {
+    let text = netlist_text(rt.alloc(), size)?;
+    ensure!(text.len() < 0xffff_ffff, "too many megabytes");
+    let start = Instant::now(rt)?;
+    let Ok(spans) = verilog_tokens(rt.alloc(), text.as_bytes()) else {
+        bail!("no memory");
+    };
+    let micros = start.elapsed(rt)?.as_micros();
+    println!(rt; "{} bytes, {} tokens", text.len(), spans.len())?;
+    if is_timed {
+        let room = spans.capacity().saturating_mul(size_of::<Span>());
+        println!(rt; "{micros} microseconds, {room} bytes of memory")?;
+    }
+    Ok(())
+}
+
 /// The number of steps of the chain to its output.
 fn trace_output(alloc: Global, netlist: &Netlist) -> Result<usize>
     requires { IsNetlist netlist.now }
@@ -100,7 +112,7 @@ fn trace_output(alloc: Global, netlist: &Netlist) -> Result<usize>
 }
 
 /// Reads a netlist of so many bytes and traces its chain.
-fn measure(
+pub(crate) fn run_reading(
     rt: &(impl Alloc<A = Global> + Clock + Print),
     size: usize,
     is_timed: bool,
@@ -120,18 +132,9 @@ fn measure(
     println!(rt; "{bytes} bytes, {nets} nets, {steps} steps")?;
     if is_timed {
         let rate = bytes as u128 / to_read.max(1);
-        println!(rt; "read in {to_read} microseconds, {rate} MB/s")?;
-        println!(rt; "traced in {to_trace} microseconds")?;
+        println!(rt;
+            "read in {to_read} microseconds, {rate} MB/s; traced in {to_trace} microseconds"
+        )?;
     }
     Ok(())
-}
-
-fn main(rt: HostRuntime) -> Result<()> {
-    match env::args(&rt)?.nth(1) {
-        Some(word) => {
-            let megabytes: usize = word.parse().ok().context("a number of megabytes")?;
-            measure(&rt, megabytes.saturating_mul(MEGABYTE), true)
-        }
-        None => measure(&rt, SMALL, false),
-    }
 }
