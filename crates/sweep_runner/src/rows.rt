@@ -2,7 +2,7 @@
 //! answer is wrong on purpose.
 //!
 //! Each subject says which keys its rows have. A text is empty where its key is left out, a list is empty too, a number is 0,
-//! and a truth is false. What is under a key must have the key's form, which `scripts/check-rows` says.
+//! and a truth is false. What is under a key must have the key's form, which `scripts/check-sweeps` says.
 use row_forms::items_of;
 use toml::Value;
 
