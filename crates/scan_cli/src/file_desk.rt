@@ -232,9 +232,11 @@ impl Desk for FileDesk {
 
     fn note(&mut self, line: &str) {
         self.progress.erase();
-        if let Some(line) = shown_text(self.rt.alloc(), line) {
-            // What standard error doesn't take is lost, and that is nobody's fault.
-            let _told = self.rt.eprintln(line.as_str());
+        for line in line.split('\n') {
+            if let Some(line) = shown_text(self.rt.alloc(), line) {
+                // What standard error doesn't take is lost, and that is nobody's fault.
+                let _told = self.rt.eprintln(line.as_str());
+            }
         }
     }
 
