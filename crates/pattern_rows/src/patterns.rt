@@ -133,7 +133,12 @@ pub(crate) fn warnings(alloc: Global, source: &[u8]) -> Result<String, ReadFault
     let head = read_head(alloc, source)?;
     let judged = read_judged(alloc, source, &head)?;
     let before = source.get(..head.end as usize).unwrap_or(source);
-    let mut warnings = PatternWarnings::new(alloc, Word::copy(alloc, "s.stil")?, before, &head)?;
+    let mut lengths = Vec::new(alloc);
+    for chain in head.chains.as_slice() {
+        lengths.push(chain.length as usize)?;
+    }
+    let file = Word::copy(alloc, "s.stil")?;
+    let mut warnings = PatternWarnings::new(alloc, file, before, &head, lengths.as_slice())?;
     let statements = judged.stil.statements.as_slice();
     for (k, gap) in judged.gaps.as_slice().iter().enumerate() {
         warnings.pass(gap.bytes());
@@ -141,6 +146,7 @@ pub(crate) fn warnings(alloc: Global, source: &[u8]) -> Result<String, ReadFault
             warnings.look(alloc, statement)?;
         }
     }
+    warnings.end(alloc)?;
     let mut text = String::new(alloc);
     for line in warnings.lines() {
         text.push_str(&format!(in alloc; "{line}\n")?)?;

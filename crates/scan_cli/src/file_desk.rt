@@ -357,7 +357,9 @@ impl Desk for FileDesk {
 
     fn note(&mut self, line: &str) {
         self.progress.erase();
-        self.tell(line);
+        for line in line.split('\n') {
+            self.tell(line);
+        }
     }
 
     fn searching(&self, done: u64, all: u64) {
