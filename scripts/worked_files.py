@@ -1,10 +1,10 @@
-"""The worked files of `command_rows` and runs over them, for the other scripts of this folder: each run in a folder of its own, and what it
+"""The worked files of the rows and runs over them, for the other scripts of this folder: each run in a folder of its own, and what it
 answers and leaves there."""
 import os
 import subprocess
 import tomllib
 
-from rattle_sources import CRATES
+from rattle_sources import TOP
 
 OUTPUTS = ("w.stil", "w.v", "w.def")
 REORDER = ("reorder --table t.toml --lef m.lef --verilog v.v --def d.def --stil s.stil"
@@ -17,7 +17,7 @@ REWIRE = ("rewire --verilog v.v --cell SDF --in-pin SI --out-pin Q --scan-in si 
 
 def all_worked():
     """The bytes of the files of all worked texts, by their names."""
-    with open(os.path.join(CRATES, "command_rows", "data", "worked.toml"), "rb") as file:
+    with open(os.path.join(TOP, "rows", "worked.toml"), "rb") as file:
         return {name: {file_name: text.encode() for file_name, text in texts.items()} for name, texts in tomllib.load(file).items()}
 
 
