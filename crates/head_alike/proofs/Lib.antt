@@ -12,6 +12,8 @@ pub mod Syntax
 pub mod Items
 pub mod Heads
 pub mod Trees
+pub mod Erased
 pub mod Clauses
 pub mod Cells
 pub mod Turning
+pub mod Singles

@@ -1,4 +1,3 @@
 pub mod Headings
-pub mod Cutting
-pub mod NameFronts
-pub mod Passing
+pub mod Clauses
+pub mod Kept

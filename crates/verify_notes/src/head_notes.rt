@@ -3,9 +3,9 @@ ghost use Rattle.std.specs.Prelude.{◌<◌, ◌^◌, length};
 
 use crate::notes::{SetNames, shown};
 use base_types::{NoMemory, line_of};
-use scan_verify::StayingTokens;
+use scan_verify::staying_tokens;
 use std::alloc::Global;
-use token_forms::Lexeme;
+use token_forms::{Lexeme, Tokens};
 
 /// What stands at a place of a head, as a user reads it: the file, the line, and the token; or that the head ends.
 fn token_shown(
@@ -46,8 +46,10 @@ pub(crate) fn head_note(
     requires small { length text.now < 2 ^ 32 }
     requires new_small { length new_text.now < 2 ^ 32 }
 {
-    let mut old = StayingTokens::of(text);
-    let mut new = StayingTokens::of(new_text);
+    let spans = staying_tokens(alloc, text)?;
+    let new_spans = staying_tokens(alloc, new_text)?;
+    let mut old = Tokens::of(text, spans.as_slice());
+    let mut new = Tokens::of(new_text, new_spans.as_slice());
     while let Some(token) = old.next() {
         let token = Some(token);
         let other = new.next();
