@@ -81,6 +81,19 @@ def floor_line_of(floor, below):
     return "\n".join(lines + [line])
 
 
+FLOOR = re.compile(r"^//! Floor: (\w+)[^.]*\.", re.M)
+
+
+def floor_of(crate):
+    match = FLOOR.search(text_of(root_file(crate)))
+    return match.group(1) if match else "?"
+
+
+def proper_crates():
+    """The crates but those that freeze contracts of others."""
+    return [crate for crate in crates() if floor_of(crate) != "contracts"]
+
+
 FUNCTION = re.compile(r"^(?P<front>[ \t]*(?:pub(?:\([a-z]+\))? )?(?:const )?)fn (?P<name>\w+)", re.M)
 
 

@@ -1,8 +1,9 @@
 """By which clause a wrong body is refused: the file `clauses.md` beside the edits says which is meant, and the prover's text which it was."""
+import glob
 import os
 import re
 
-from rattle_sources import functions, text_of
+from rattle_sources import CRATES, TOP, functions, text_of
 
 CLAUSES = "clauses.md"
 # stands in it for what a loop keeps
@@ -23,6 +24,32 @@ def meant(folder):
         if rest:
             told[edit] = (rest.split()[0], rest.split()[1:])
     return told
+
+
+def noted(folder, edit, clauses, others):
+    """Writes a line for an edit, of the first function that its refusal leaves open."""
+    loops = [(name, LOOP) for name, goal in others if goal.startswith("loop-")]
+    if clauses + loops:
+        function = (clauses + loops)[0][0]
+        labels = list(dict.fromkeys(label for name, label in clauses + loops if name == function))
+        path = os.path.join(folder, CLAUSES)
+        lines = text_of(path).split("\n")[:-1] if os.path.isfile(path) else []
+        with open(path, "w", encoding="utf-8") as file:
+            file.write("\n".join(sorted([*lines, "%s: %s %s" % (edit, function, " ".join(labels))])) + "\n")
+        text_of.cache_clear()
+
+
+def wrong_bodies(crate, function):
+    """The wrong bodies that a call's clauses are to refuse, each by its file and these clauses, those of the gate first."""
+    found = []
+    for folder in [*sorted(glob.glob(os.path.join(CRATES, "*", "must-fail"))), os.path.join(TOP, "wrong", crate)]:
+        here = os.path.basename(os.path.dirname(folder))
+        for edit, (place, wanted) in sorted(meant(folder).items()):
+            module, _, name = place.rpartition("::")
+            is_frozen = module.split("::")[0].startswith(crate) and (name == function or name.endswith("_" + function))
+            if is_frozen if here.endswith("_contracts") else name == function and crate in (here, os.path.basename(folder)):
+                found.append((os.path.relpath(os.path.join(folder, edit + ".edit"), TOP), wanted))
+    return found
 
 
 def contracts_in(path):

@@ -75,6 +75,7 @@ pub fn one_fault_law()
     scan_job::one_fault_law()
 }
 
+/// As `scan_job::run`, with another clause `allowed`.
 pub fn run_anywhere<D: Desk>(alloc: Global, words: &[Word], desk: &mut D) -> u8
     requires unopened { AllUnopened (D.state desk.old) }
     requires allowed { (slot : Slot) (name : List ℕ) → IsTrue (D.allows desk.old slot name) }
