@@ -62,6 +62,38 @@ def root_file(crate):
     raise SystemExit("the crate %s has no root file" % crate)
 
 
+def listed(names):
+    if not names:
+        return "nothing"
+    return names[0] if len(names) == 1 else ", ".join(names[:-1]) + " and " + names[-1]
+
+
+def floor_line_of(floor, below):
+    """The line of a crate's root file that says its floor, and on which crates it stands."""
+    words = ("//! Floor: %s, on %s." % (floor, listed(below))).split(" ")
+    lines, line = [], words[0]
+    for word in words[1:]:
+        if len(line) + 1 + len(word) > 120:
+            lines.append(line)
+            line = "//! " + word
+        else:
+            line += " " + word
+    return "\n".join(lines + [line])
+
+
+FLOOR = re.compile(r"^//! Floor: (\w+)[^.]*\.", re.M)
+
+
+def floor_of(crate):
+    match = FLOOR.search(text_of(root_file(crate)))
+    return match.group(1) if match else "?"
+
+
+def proper_crates():
+    """The crates but those that freeze contracts of others."""
+    return [crate for crate in crates() if floor_of(crate) != "contracts"]
+
+
 FUNCTION = re.compile(r"^(?P<front>[ \t]*(?:pub(?:\([a-z]+\))? )?(?:const )?)fn (?P<name>\w+)", re.M)
 
 
