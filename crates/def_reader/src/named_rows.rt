@@ -83,6 +83,9 @@ pub struct ByName<'r, T: Named> {
 }
 
 impl<'r, T: Named> Model for ByName<'r, T> {
+    ghost use Rattle.std.specs.Prelude.{List};
+    ghost use Rattle.def_reader.specs.NamedRows.{IsIndexOf};
+
     ghost Value = { List T };
 
     ghost view = { λ n. n.rows.now };

@@ -4,6 +4,7 @@ use Rattle.std.specs.Prelude.{ℕ, Bool, false, ◌||◌, not, if◌then◌else�
 use Rattle.std.specs.List.{flat_map, list_any}
 use Rattle.std.specs.Str.{bytes_eq}
 use Rattle.base_types.specs.Faults.{at_line}
+use Rattle.list_laws.specs.Leasts.{place_if}
 use Rattle.base_types.specs.Lines.{line_at}
 use Rattle.base_types.specs.declared.fault.Fault.{Fault}
 use Rattle.base_types.specs.declared.fault.FileKind.TheVariants.{Lef}

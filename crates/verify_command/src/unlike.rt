@@ -1,6 +1,6 @@
 //! The first statements of two sets that aren't the same.
 ghost use Rattle.std.specs.Prelude.{◌≡◌, None, IfOk};
-ghost use Rattle.play_command.specs.Progress.{Fits};
+ghost use Rattle.declared_chains.specs.Files.{Fits};
 ghost use Rattle.verify_command.specs.Steps.{AreReady};
 
 use crate::items::next_statement;
