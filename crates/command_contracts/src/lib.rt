@@ -1,9 +1,9 @@
 //! The contracts of the commands and the top call once more, word for word. `scripts/freeze-contracts` writes this crate.
 //!
 //! Floor: contracts, on base_types, scan_words, desk_io, scan_job, stil_types, stil_calls, stil_reader, play_command,
-//! plan_search, design_maker, rewire_command, trace_command, check_command, bound_command, chain_picture, draw_command,
-//! design_files, reorder_command, written_meaning, same_files, verify_command, failmap_command, made_law and
-//! declared_chains.
+//! order_search, plan_search, design_maker, rewire_command, trace_command, check_command, bound_command, chain_picture,
+//! draw_command, design_files, reorder_command, written_meaning, same_files, verify_command, failmap_command, made_law
+//! and declared_chains.
 //! Each function is a public call's contract with the call as its body, so a contract that promises less is not proved here.
 #![tactic(auto)]
 

@@ -7,7 +7,6 @@ use Rattle.std.proofs.lemmas.Slice.Eq.{bytes_eq-Decides}
 use Rattle.base_types.specs.Names.{plain_name}
 use Rattle.base_types.specs.declared.span.Span.{Span}
 use Rattle.token_forms.specs.Tokens.{Token}
-use Rattle.token_forms.specs.Parts.{token_texts}
 use Rattle.token_forms.specs.Classes.{is_among}
 use Rattle.token_forms.specs.Parsing.{◌>>=◌}
 use Rattle.stil_tokens.specs.StilStatements.{is_only}
@@ -20,14 +19,11 @@ use Rattle.stil_blocks.specs.declared.clause.Clause.TheVariants.{Length, In, Out
 use Rattle.stil_blocks.specs.Statements.{span_of, is_whole, is_end}
 use Rattle.stil_blocks.specs.Chains.{length_of, length_at, bit_of, inversion_at, cells_at, cells_span, sole_name, port_at, clause_by, word_clause, unlabelled_clause, clause_of}
 use Rattle.head_alike.specs.Steps.{Step, Keep, Anew, olds, news, AreSteps, starts_behind, changed_words}
-use Rattle.head_alike.specs.Erased.{may_differ, erased_clause}
 use Rattle.head_alike.specs.Chains.{IsNewLength, IsTurned, IsOtherClause, IsTurnedRow, StaysLaw, SaidLaw, LengthLaw, InversionLaw}
 use Rattle.head_alike.proofs.Words.{word_free, changed}
-use Rattle.head_alike.proofs.Names.{Names, NoName, Named, Front, names, old_length, Unlabelled, behind_both}
+use Rattle.head_alike.proofs.Names.{Names, NoName, Named, Front, names, old_length, behind_both}
 use Rattle.head_alike.proofs.Statements.{whole_same}
-use Rattle.head_alike.proofs.Heads.{wider}
-use Rattle.head_alike.proofs.Trees.{old_append, new_append}
-use Rattle.head_alike.proofs.Erased.{texts_same, other_same, turned_same, plain_erased, word_erased}
+use Rattle.head_alike.proofs.Trees.{old_append}
 
 pub end_none : (xs : List Token) (c : Token) (ts : List Token) (t : Token) → is_end (t ∷ (xs ++ c ∷ ts)) ≡ false
 end_none [] c ts t = refl
@@ -187,9 +183,9 @@ module _ (new : ScanChainDecl) where
   if_turned false x y h = refl
 
 -- one that says nothing of what may change
-stays_turned : (new : ScanChainDecl) (s : List Step) → AreSteps true true s → IsOtherClause (clause_of (olds s)) → IsTurned new (clause_of (olds s)) (clause_of (news s))
+pub stays_law : StaysLaw
 unfolding clause_of
-stays_turned new s are other =
+stays_law new s are other =
     let k = behind_both true s are in
     let inner : IsOtherClause (unlabelled_clause (behind_labels (olds s))) → IsTurned new (unlabelled_clause (behind_labels (olds s))) (unlabelled_clause (behind_labels (news s)))
     = λ o. subst (λ (l : List Token). IsTurned new (unlabelled_clause l) (unlabelled_clause (behind_labels (news s)))) (sym k.old)
@@ -197,12 +193,6 @@ stays_turned new s are other =
     (rest_stays new k.rest k.are (subst (λ (l : List Token). IsOtherClause (unlabelled_clause l)) k.old o))) in
     subst (λ (b : Bool). IsTurned new (cond (is_whole (olds s)) (unlabelled_clause (behind_labels (olds s))) NoForm) (cond b (unlabelled_clause (behind_labels (news s))) NoForm)) (whole_same true true s are)
     (if_stays new (is_whole (olds s)) (unlabelled_clause (behind_labels (olds s))) (unlabelled_clause (behind_labels (news s))) inner other)
-
-pub stays_law : StaysLaw
-stays_law new s plain other =
-    let turned = stays_turned new s (wider s true plain) other in
-    let none = other_same (clause_of (olds s)) other in
-    record { turned = turned; same = plain_erased s true plain none (sym (turned_same new (clause_of (olds s)) (clause_of (news s)) turned) ∙ none) }
 
 -- one that does
 longer : (p : Step) (g q : List Step) → length (olds q) < length (olds (p ∷ (g ++ q)))
@@ -218,42 +208,18 @@ suffix_same [] (p ∷ g) r q e l = absurd (let k = longer p g q in let h = ap (�
 suffix_same (p ∷ f) [] r q e l = absurd (let k = longer p f r in let h = ap (λ (s : List Step). length (olds s)) e in omega (arith, k, h, l))
 suffix_same (p ∷ f) (o ∷ g) r q e l = suffix_same f g r q (ap (drop 1) e) l
 
-module _ (new : ScanChainDecl) (b : Bool) (f : List Step) (t u : Token) (xs ys : List Token) (c d : Token) (are : AreSteps true true (f ++ Anew t u xs ys c d ∷ [])) (plain : AreSteps false b f)
-    (behind : behind_labels (olds (f ++ Anew t u xs ys c d ∷ [])) ≡ t ∷ (xs ++ c ∷ [])) (turned : IsTurned new (word_clause t (xs ++ c ∷ [])) (word_clause u (ys ++ d ∷ []))) where
-  abbrev s : List Step
-  s = f ++ Anew t u xs ys c d ∷ []
-
-  k : Unlabelled true (length (olds s)) (length (news s)) s
-  k = behind_both true s are
-
-  rest_is : Anew t u xs ys c d ∷ [] ≡ k.rest
-  rest_is = suffix_same f k.front (Anew t u xs ys c d ∷ []) k.rest k.cut (ap length (sym behind ∙ k.old))
-
-  said_turned : IsTurned new (clause_of (olds s)) (clause_of (news s))
-  unfolding clause_of
-  said_turned =
-      let here : IsTurned new (unlabelled_clause (olds k.rest)) (unlabelled_clause (news k.rest)) = subst (λ (r : List Step). IsTurned new (unlabelled_clause (olds r)) (unlabelled_clause (news r))) rest_is turned in
-      let inner : IsTurned new (unlabelled_clause (behind_labels (olds s))) (unlabelled_clause (behind_labels (news s))) =
-      subst (λ (l : List Token). IsTurned new (unlabelled_clause l) (unlabelled_clause (behind_labels (news s)))) (sym k.old)
-      (subst (λ (l : List Token). IsTurned new (unlabelled_clause (olds k.rest)) (unlabelled_clause l)) (sym k.new) here) in
-      subst (λ (b : Bool). IsTurned new (cond (is_whole (olds s)) (unlabelled_clause (behind_labels (olds s))) NoForm) (cond b (unlabelled_clause (behind_labels (news s))) NoForm)) (whole_same true true s are)
-      (if_turned new (is_whole (olds s)) (unlabelled_clause (behind_labels (olds s))) (unlabelled_clause (behind_labels (news s))) inner)
-
-  said_same : may_differ (clause_of (olds s)) ≡ true → erased_clause (olds s) ≡ erased_clause (news s)
-  said_same differs =
-      let old = old_append f (Anew t u xs ys c d ∷ []) in
-      let new_is = new_append f (Anew t u xs ys c d ∷ []) in
-      let also : may_differ (clause_of (news s)) ≡ true = sym (turned_same new (clause_of (olds s)) (clause_of (news s)) said_turned) ∙ differs in
-      let there : behind_labels (news s) ≡ u ∷ (ys ++ d ∷ []) = k.new ∙ ap news (sym rest_is) in
-      let own : AreSteps true true (Anew t u xs ys c d ∷ []) = subst (AreSteps true true) (sym rest_is) k.are in
-      ap erased_clause old ∙ word_erased (olds f) t xs c (ap (λ (l : List Token). may_differ (clause_of l)) (sym old) ∙ differs) (ap behind_labels (sym old) ∙ behind)
-      ∙ ap (λ (l : List (List ℕ)). (l ++ t.text ∷ []) ++ c.text ∷ []) (texts_same f b plain) ∙ ap (λ (w : List ℕ). (token_texts (news f) ++ w ∷ []) ++ c.text ∷ []) own.0.word
-      ∙ ap (λ (w : List ℕ). (token_texts (news f) ++ u.text ∷ []) ++ w ∷ []) (own.0.old_end ∙ sym own.0.new_end)
-      ∙ sym (ap erased_clause new_is ∙ word_erased (news f) u ys d (ap (λ (l : List Token). may_differ (clause_of l)) (sym new_is) ∙ also) (ap behind_labels (sym new_is) ∙ there))
-
 pub said_law : SaidLaw
-said_law new b f t u xs ys c d are plain behind differs turned =
-    record { turned = said_turned new b f t u xs ys c d are plain behind turned; same = said_same new b f t u xs ys c d are plain behind turned differs }
+unfolding clause_of
+said_law new f t u xs ys c d are behind turned =
+    let s = f ++ Anew t u xs ys c d ∷ [] in
+    let k = behind_both true s are in
+    let same : Anew t u xs ys c d ∷ [] ≡ k.rest = suffix_same f k.front (Anew t u xs ys c d ∷ []) k.rest k.cut (ap length (sym behind ∙ k.old)) in
+    let here : IsTurned new (unlabelled_clause (olds k.rest)) (unlabelled_clause (news k.rest)) = subst (λ (r : List Step). IsTurned new (unlabelled_clause (olds r)) (unlabelled_clause (news r))) same turned in
+    let inner : IsTurned new (unlabelled_clause (behind_labels (olds s))) (unlabelled_clause (behind_labels (news s))) =
+    subst (λ (l : List Token). IsTurned new (unlabelled_clause l) (unlabelled_clause (behind_labels (news s)))) (sym k.old)
+    (subst (λ (l : List Token). IsTurned new (unlabelled_clause (olds k.rest)) (unlabelled_clause l)) (sym k.new) here) in
+    subst (λ (b : Bool). IsTurned new (cond (is_whole (olds s)) (unlabelled_clause (behind_labels (olds s))) NoForm) (cond b (unlabelled_clause (behind_labels (news s))) NoForm)) (whole_same true true s are)
+    (if_turned new (is_whole (olds s)) (unlabelled_clause (behind_labels (olds s))) (unlabelled_clause (behind_labels (news s))) inner)
 
 -- ScanLength
 length_is : (t x c : Token) (n : Option ℕ) → t.text ≡ codes "ScanLength" → c.text ≡ 59 ∷ [] → length_of x.text ≡ n → word_clause t (x ∷ c ∷ []) ≡ clause_by (λ (m : ℕ × Span). Length m.0 m.1) (n >>= λ m. Some (m, span_of x))

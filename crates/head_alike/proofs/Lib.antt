@@ -12,8 +12,6 @@ pub mod Syntax
 pub mod Items
 pub mod Heads
 pub mod Trees
-pub mod Erased
 pub mod Clauses
 pub mod Cells
 pub mod Turning
-pub mod Singles

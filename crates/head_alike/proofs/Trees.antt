@@ -1,16 +1,19 @@
 -- Statements one behind the other, and in blocks.
 use Rattle.std.proofs.Common.{◌≡◌, ℕ, zero, suc, ◌+◌, ◌-◌, ◌<◌, ◌≤◌, Bool, true, false, ◌&&◌, ◌||◌, not, cond, inl, inr, List, [], ◌∷◌, ◌++◌, length, take, drop, map, filter, refl, sym, ap, ◌∙◌, subst, arith, append_assoc, length-drop}
 use Rattle.std.specs.List.{AllByRecursion as Each}
-use Rattle.std.proofs.lemmas.Bool.{cases_Bool}
+use Rattle.std.proofs.lemmas.Bool.{cases_Bool, true≢false}
 use Rattle.std.proofs.lemmas.List.{drop_all, append-nil}
 use Rattle.token_forms.specs.Tokens.{Token}
+use Rattle.token_forms.specs.Classes.{is_among}
 use Rattle.stil_tokens.specs.StilStatements.{is_only, token_ends, depth_behind, closed_in, is_closed, len_in, statement_len, statements_within, stil_statements}
 use Rattle.stil_tokens.proofs.StilCuts.{first_law, statement_len-le}
 use Rattle.stil_syntax.specs.Shapes.{is_empty, body_statements, behind_brace, in_block}
 use Rattle.stil_blocks.specs.Statements.{statements_in}
-use Rattle.head_alike.specs.Steps.{Step, Keep, Anew, olds, news, AreSteps}
+use Rattle.head_alike.specs.Steps.{Step, Keep, Anew, olds, news, AreSteps, AreFree, starts_behind, changed_words}
 use Rattle.head_alike.specs.Laws.{IsOne}
 use Rattle.head_alike.specs.Trees.{joined, IsStatement, counted, JoinedLaw, IsLead, block_steps, InnerLaw}
+use Rattle.head_alike.specs.Erased.{erased_from, ErasedLaw}
+use Rattle.head_alike.proofs.Words.{free_word}
 use Rattle.head_alike.proofs.Cuts.{len_here, len_later, Cut, cut, closed_same}
 use Rattle.head_alike.proofs.Rows.{old_rows, new_rows}
 use Rattle.head_alike.proofs.Names.{old_length, over_length}
@@ -136,3 +139,51 @@ inner_law lead t u v w rows is t_is u_is each =
     let b : in_block (news (lead ++ inner)) ≡ news (joined rows) =
     ap init_of (new_lead lead inner is ∙ brace_here u (news (joined rows ++ Keep v w ∷ [])) (ap (is_only 123) u_is) ∙ new_append (joined rows) (Keep v w ∷ [])) ∙ but_last (news (joined rows)) w in
     (ap body_statements a ∙ j.0, ap body_statements b ∙ j.1)
+
+-- equal tokens
+semicolon_kept : (b : Bool) (c : Token) (ts : List Token) → c.text ≡ 59 ∷ [] → erased_from b true (c ∷ ts) ≡ (59 ∷ []) ∷ erased_from true false ts
+semicolon_kept true c ts e = ap (λ (w : List ℕ). cond (true && not (starts_behind w)) (erased_from false true ts) (w ∷ erased_from (starts_behind w) (true && is_among changed_words w) ts)) e
+semicolon_kept false c ts e = ap (λ (w : List ℕ). cond (true && not (starts_behind w)) (erased_from false true ts) (w ∷ erased_from (starts_behind w) (false && is_among changed_words w) ts)) e
+
+skip_over : (xs : List Token) (c : Token) (ts : List Token) (b : Bool) → AreFree xs → c.text ≡ 59 ∷ [] → erased_from b true (xs ++ c ∷ ts) ≡ (59 ∷ []) ∷ erased_from true false ts
+skip_over [] c ts b f e = semicolon_kept b c ts e
+skip_over (x ∷ xs) c ts b f e =
+    ap (λ (k : Bool). cond (not k) (erased_from false true (xs ++ c ∷ ts)) (x.text ∷ erased_from k (b && is_among changed_words x.text) (xs ++ c ∷ ts))) f.0 ∙ skip_over xs c ts false f.1 e
+
+word_erased : (t : Token) (xs : List Token) (c : Token) (ts : List Token) → is_among changed_words t.text ≡ true → AreFree xs → c.text ≡ 59 ∷ [] → erased_from true false (t ∷ (xs ++ c ∷ ts)) ≡ t.text ∷ (59 ∷ []) ∷ erased_from true false ts
+word_erased t xs c ts which f e =
+    ap (λ (k : Bool). t.text ∷ erased_from (starts_behind t.text) k (xs ++ c ∷ ts)) which
+    ∙ ap (λ (l : List (List ℕ)). t.text ∷ l) (skip_over xs c ts (starts_behind t.text) f e)
+
+keeps : (k : Bool) (a b x y : List (List ℕ)) → (k ≡ true → a ≡ x) → (k ≡ false → b ≡ y) → cond k a b ≡ cond k x y
+keeps true a b x y f g = f refl
+keeps false a b x y f g = g refl
+
+right_of : (a b : Bool) → (a && not b) ≡ true → b ≡ false
+right_of true true e = absurd cc
+right_of true false e = refl
+right_of false b e = absurd cc
+
+changed_free : (w : List ℕ) (b : Bool) → (b && is_among changed_words w) ≡ true → starts_behind w ≡ false
+changed_free w true e = free_word w e
+changed_free w false e = absurd cc
+
+erased_same : (s : List Step) (begins skips : Bool) → AreSteps true begins s → (skips ≡ true → begins ≡ false) → erased_from begins skips (olds s) ≡ erased_from begins skips (news s)
+erased_same [] begins skips are far = refl
+erased_same (Keep t u ∷ s) begins skips are far =
+    keeps (skips && not (starts_behind t.text)) _ _ (erased_from false true (news s)) (t.text ∷ erased_from (starts_behind t.text) (begins && is_among changed_words t.text) (news s))
+    (λ e. erased_same s false true (subst (λ (b : Bool). AreSteps true b s) (right_of skips (starts_behind t.text) e) are.2) (λ k. refl))
+    (λ e. ap (λ (l : List (List ℕ)). t.text ∷ l) (erased_same s (starts_behind t.text) (begins && is_among changed_words t.text) are.2 (λ k. changed_free t.text begins k)))
+    ∙ ap (λ (w : List ℕ). cond (skips && not (starts_behind w)) (erased_from false true (news s)) (w ∷ erased_from (starts_behind w) (begins && is_among changed_words w) (news s))) are.0
+erased_same (Anew t u xs ys c d ∷ s) begins skips are far =
+    let is = are.0 in
+    let none : skips ≡ false = elim (cases_Bool skips) [ inl e ↦ absurd (true≢false (sym is.first ∙ far e)) | inr e ↦ e ] in
+    let which : is_among changed_words u.text ≡ true = ap (is_among changed_words) (sym is.word) ∙ is.which in
+    let modes = λ (ts : List Token). ap (λ (b : Bool). erased_from b skips ts) is.first ∙ ap (λ (b : Bool). erased_from true b ts) none in
+    modes (t ∷ (xs ++ c ∷ olds s)) ∙ word_erased t xs c (olds s) is.which is.old_free is.old_end
+    ∙ ap (λ (l : List (List ℕ)). t.text ∷ (59 ∷ []) ∷ l) (erased_same s true false are.1 (λ e. absurd (true≢false (sym e))))
+    ∙ ap (λ (w : List ℕ). w ∷ (59 ∷ []) ∷ erased_from true false (news s)) is.word
+    ∙ sym (modes (u ∷ (ys ++ d ∷ news s)) ∙ word_erased u ys d (news s) which is.new_free is.new_end)
+
+pub erased_law : ErasedLaw
+erased_law begins s are = erased_same s begins false are (λ e. absurd (true≢false (sym e)))

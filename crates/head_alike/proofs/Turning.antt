@@ -24,7 +24,7 @@ module _ (new : ScanChainDecl) where
   each_turned [] a b = tt
   each_turned (r ∷ rows) a b =
       let more = each_turned rows a.1 b.1 in
-      put_if (not (is_empty (olds r))) r (counted rows) (b.0.turned, more) more
+      put_if (not (is_empty (olds r))) r (counted rows) (b.0, more) more
 
 pub clauses_law : ClausesLaw
 clauses_law new lead t u v w rows is t_is u_is each done =

@@ -4,7 +4,6 @@ use Rattle.std.specs.Prelude.{◌≡◌, ℕ, Bool, true, false, List, [], ◌�
 use Rattle.base_types.specs.declared.span.Span.{Span}
 use Rattle.token_forms.specs.Tokens.{Token}
 use Rattle.token_forms.specs.Classes.{is_among}
-use Rattle.head_alike.specs.Erased.{may_differ, erased_clause}
 use Rattle.head_alike.specs.Steps.{Step, Keep, Anew, olds, news, AreSteps, starts_behind, changed_words}
 use Rattle.stil_types.specs.declared.head.ScanChainDecl.{ScanChainDecl}
 use Rattle.stil_syntax.specs.Shapes.{behind_labels}
@@ -90,20 +89,18 @@ IsOtherClause OutLength = ⊤
 IsOtherClause Passed = ⊤
 IsOtherClause NoForm = ⊥
 
--- a statement that says anew what is declared, and else has the tokens that it had
-pub record IsTurnedRow (new : ScanChainDecl) (s : List Step) : Type 0 where
-  pub turned : IsTurned new (clause_of (olds s)) (clause_of (news s))
-  pub same : erased_clause (olds s) ≡ erased_clause (news s)
+-- a statement that says anew what is declared
+abbrev pub IsTurnedRow : ScanChainDecl → List Step → Type 0
+IsTurnedRow new s = IsTurned new (clause_of (olds s)) (clause_of (news s))
 
--- one that stays and says nothing of what may change does
+-- one that says nothing of what may change does
 abbrev pub StaysLaw : Type 0
-StaysLaw = (new : ScanChainDecl) (s : List Step) → AreSteps false true s → IsOtherClause (clause_of (olds s)) → IsTurnedRow new s
+StaysLaw = (new : ScanChainDecl) (s : List Step) → AreSteps true true s → IsOtherClause (clause_of (olds s)) → IsTurnedRow new s
 
--- one of its form whose word stands last but for what is written anew does, where that says what is declared
+-- one whose word stands last but for what is written anew does, where that says what is declared
 abbrev pub SaidLaw : Type 0
-SaidLaw = (new : ScanChainDecl) (b : Bool) (f : List Step) (t u : Token) (xs ys : List Token) (c d : Token) → AreSteps true true (f ++ Anew t u xs ys c d ∷ []) → AreSteps false b f
-    → behind_labels (olds (f ++ Anew t u xs ys c d ∷ [])) ≡ t ∷ (xs ++ c ∷ []) → may_differ (clause_of (olds (f ++ Anew t u xs ys c d ∷ []))) ≡ true
-    → IsTurned new (word_clause t (xs ++ c ∷ [])) (word_clause u (ys ++ d ∷ []))
+SaidLaw = (new : ScanChainDecl) (f : List Step) (t u : Token) (xs ys : List Token) (c d : Token) → AreSteps true true (f ++ Anew t u xs ys c d ∷ [])
+    → behind_labels (olds (f ++ Anew t u xs ys c d ∷ [])) ≡ t ∷ (xs ++ c ∷ []) → IsTurned new (word_clause t (xs ++ c ∷ [])) (word_clause u (ys ++ d ∷ []))
     → IsTurnedRow new (f ++ Anew t u xs ys c d ∷ [])
 
 -- another number from 1 behind ScanLength

@@ -10,7 +10,6 @@ use Rattle.head_alike.specs.Steps.{Step, Keep, Anew, olds, news, AreSteps, start
 use Rattle.stil_types.specs.declared.head.ScanChainDecl.{ScanChainDecl}
 use Rattle.head_alike.specs.Chains.{AreTurned, clauses_in, IsTurnedRow}
 use Rattle.head_alike.specs.Laws.{IsOne}
-use Rattle.head_alike.specs.Erased.{erased_block}
 
 -- one behind the other
 abbrev pub joined : List (List Step) → List Step
@@ -50,9 +49,3 @@ InnerLaw = (lead : List Step) (t u v w : Token) (rows : List (List Step)) → Is
 abbrev pub ClausesLaw : Type 0
 ClausesLaw = (new : ScanChainDecl) (lead : List Step) (t u v w : Token) (rows : List (List Step)) → IsLead lead → t.text ≡ 123 ∷ [] → u.text ≡ 123 ∷ [] → Each IsStatement rows → Each (IsTurnedRow new) rows
     → AreTurned new (clauses_in (olds (block_steps lead t u rows v w))) (clauses_in (news (block_steps lead t u rows v w)))
-
--- a block each statement of which has equal tokens in both but for what may differ: so has all of it
-abbrev pub BlockLaw : Type 0
-BlockLaw = (erased : List Token → List (List ℕ)) (lead : List Step) (t u v w : Token) (rows : List (List Step)) → IsLead lead → t.text ≡ 123 ∷ [] → u.text ≡ 123 ∷ [] → Each IsStatement rows
-    → Each (λ r. erased (olds r) ≡ erased (news r)) rows → erased (v ∷ []) ≡ erased (w ∷ [])
-    → erased_block erased (olds (block_steps lead t u rows v w)) ≡ erased_block erased (news (block_steps lead t u rows v w))

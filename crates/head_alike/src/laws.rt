@@ -2,7 +2,8 @@
 ghost use Rattle.head_alike.specs.Laws.{SplitLaw, ChainLaw, HeadLaw};
 ghost use Rattle.head_alike.specs.Chains.{StaysLaw, SaidLaw, LengthLaw, InversionLaw};
 ghost use Rattle.head_alike.specs.Cells.{CellsLaw};
-ghost use Rattle.head_alike.specs.Trees.{JoinedLaw, InnerLaw, ClausesLaw, BlockLaw};
+ghost use Rattle.head_alike.specs.Trees.{JoinedLaw, InnerLaw, ClausesLaw};
+ghost use Rattle.head_alike.specs.Erased.{ErasedLaw};
 
 /// A statement in a ScanChain says anew what is declared: another number behind ScanLength, another bit behind ScanInversion, and
 /// cells one behind the other up to a `;`. It does nothing; its contract is the law.
@@ -14,12 +15,12 @@ pub fn clause_law()
     ensures cells { CellsLaw }
 {}
 
-/// Statements one behind the other are the statements of both texts, and so are those in a block; and where these have equal tokens
-/// but for what may differ, so has the block. It does nothing; its contract is the law.
+/// Statements one behind the other are the statements of both texts, and so are those in a block; and without what may be written
+/// anew the tokens of both are equal. It does nothing; its contract is the law.
 pub fn tree_law()
     ensures joined { JoinedLaw }
     ensures inner { InnerLaw }
-    ensures block { BlockLaw }
+    ensures erased { ErasedLaw }
     ensures clauses { ClausesLaw }
 {}
 

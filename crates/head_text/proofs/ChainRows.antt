@@ -26,12 +26,9 @@ use Rattle.stil_blocks.specs.declared.chain.ReadChain.{ReadChain}
 use Rattle.stil_blocks.specs.Statements.{start_of, is_whole, behind_word, opens, statements_in}
 use Rattle.stil_blocks.specs.Chains.{put_clause, no_parts, value_of, place_in, cell_names, whole_chain, parts_of, block_chain, named_chain, chain_at, unlabelled_clause, clause_of}
 use Rattle.head_alike.specs.Steps.{Step, Keep, olds, news, AreSteps}
-use Rattle.head_alike.specs.Erased.{erased_clause, erased_block}
 use Rattle.head_alike.specs.Chains.{AreTurned, clauses_in, IsNewFor, IsTurnedRow}
 use Rattle.head_alike.specs.Trees.{joined, IsStatement, IsLead, block_steps}
 use Rattle.head_alike.proofs.Turning.{clauses_law}
-use Rattle.head_alike.proofs.Erased.{block_law}
-use Rattle.head_alike.proofs.Singles.{single_clause}
 use Rattle.head_alike.proofs.Trees.{no_statements}
 use Rattle.head_text.specs.Mixes.{bytes_in, AreLaid, laid, token_of_bytes, Mix, new_pieces, steps}
 use Rattle.head_text.specs.Ready.{AreBlank}
@@ -62,7 +59,6 @@ pub record Opens (Fs : List (List Step) → Type 0) (s : List Step) : Type 0 whe
   pub w : Token
   pub rows : List (List Step)
   pub is : s ≡ block_steps lead t u rows v w
-  pub last_same : v.text ≡ w.text
   pub is_lead : IsLead lead
   pub t_is : t.text ≡ 123 ∷ []
   pub u_is : u.text ≡ 123 ∷ []
@@ -116,7 +112,6 @@ module _ (at : ℕ) (lead body : Pieces) (last : List ℕ) (tail : Pieces) (edit
         w = w;
         rows = r.rows;
         is = a ∙ ap (λ (l : List Step). steps at to (stays lead) ++ l) (b ∙ ap (λ (l : List Step). Keep t u ∷ l) (c ∙ ap (λ (l : List Step). l ++ steps (inside + length (bytes_in body)) to3 (stays ((true, last) ∷ tail))) r.is ∙ ap (λ (l : List Step). joined r.rows ++ l) d));
-        last_same = refl;
         is_lead = stays_lead lead at to no_brace;
         t_is = refl;
         u_is = refl;
@@ -274,13 +269,9 @@ parts_none = refl
 pub block_statements_none : (s : List Token) → in_block s ≡ [] → statements_in s ≡ []
 block_statements_none s e = ap body_statements e ∙ ap (λ (l : List (List Token)). filter (λ s. not (is_empty s)) l) no_statements
 
-each_same : (new : ScanChainDecl) (rows : List (List Step)) → Each (IsTurnedRow new) rows → Each (λ r. erased_clause (olds r) ≡ erased_clause (news r)) rows
-each_same new [] each = tt
-each_same new (r ∷ rows) each = (each.0.same, each_same new rows each.1)
-
--- a ScanChain: what it was, what it says anew, and that else it has the tokens that it had
+-- a ScanChain: what it was, and what it says anew
 abbrev pub ChainFact : List Token → ScanChainDecl → List Step → Type 0
-ChainFact tokens new s = (olds s ≡ tokens) × AreTurned new (clauses_in (olds s)) (clauses_in (news s)) × (erased_block erased_clause (olds s) ≡ erased_block erased_clause (news s))
+ChainFact tokens new s = (olds s ≡ tokens) × AreTurned new (clauses_in (olds s)) (clauses_in (news s))
 
 module _ (marks : Bool) (n : NewChain) (text : List ℕ) (tokens : List Token) (c : ReadChain) (is : chain_at text tokens ≡ Some c) (fit : FitShape c.decl n) where
   abbrev new : ScanChainDecl
@@ -366,8 +357,6 @@ module _ (marks : Bool) (n : NewChain) (text : List ℕ) (tokens : List Token) (
         let o = block_opens at p.lead p.body p.last p.tail flat (Each (IsTurnedRow new)) inner p.none (subst NoBrace (sym p.lead_is) b.none) to in (
           made_tokens at (block_pieces at p.lead p.body p.last p.tail) ([] ++ ([] ++ (flat ++ []))) made to ∙ here,
           subst (λ (s : List Step). AreTurned new (clauses_in (olds s)) (clauses_in (news s))) (sym o.is) (clauses_law new o.lead o.t o.u o.v o.w o.rows o.is_lead o.t_is o.u_is o.each o.facts),
-          subst (λ (s : List Step). erased_block erased_clause (olds s) ≡ erased_block erased_clause (news s)) (sym o.is)
-              (block_law erased_clause o.lead o.t o.u o.v o.w o.rows o.is_lead o.t_is o.u_is o.each (each_same new o.rows o.facts) (single_clause o.v o.w o.last_same)),
         ) in
         let row = row_of_made at (block_pieces at p.lead p.body p.last p.tail) ([] ++ ([] ++ (flat ++ []))) made (ChainFact tokens new) (some_laid z (block_pieces at p.lead p.body p.last p.tail) laid_whole)
         (subst (λ (l : List Token). len_in 0 l ≡ length l) (sym here) one) (subst (λ (l : List Token). is_closed l ≡ true) (sym here) closed) fact in

@@ -29,9 +29,9 @@ use Rattle.stil_blocks.specs.declared.clause.Clause.TheVariants.{Length, In, Out
 use Rattle.stil_blocks.specs.Statements.{span_of, start_of, is_whole, begins_word, is_end}
 use Rattle.stil_blocks.specs.Chains.{length_of, length_at, bit_of, inversion_at, cell_by, cell_at, put_cell, no_cells, cells_within, cells_at, cells_span, clause_by, word_clause, unlabelled_clause, clause_of}
 use Rattle.head_alike.specs.Steps.{Step, olds, AreSteps, AreFree, starts_behind, changed_words}
-use Rattle.head_alike.specs.Erased.{may_differ}
 use Rattle.head_alike.specs.Chains.{IsTurned, IsTurnedRow, IsOtherClause, IsNewCells}
 use Rattle.head_alike.proofs.Words.{only_is, word_free, string_free}
+use Rattle.head_alike.proofs.Heads.{wider}
 use Rattle.head_alike.proofs.Names.{name_word, name_string, name_none}
 use Rattle.head_alike.proofs.Clauses.{WordIs, IsLength, IsInversion, IsCells, IsOther, IsBad, word_cases, as_cells, stays_law, length_law, inversion_law}
 use Rattle.head_text.specs.Mixes.{bytes_in, piece_for, AreLaid, laid, token_of_bytes, AreFreePieces, IsReady}
@@ -276,8 +276,8 @@ free_pieces at ((false, w) ∷ ps) free = (λ e. absurd cc, free_pieces (at + le
 module _ (new : ScanChainDecl) (at : ℕ) (z : List ℕ) (qs : Pieces) (are : AreLaid z qs) (one : len_in 0 (laid at qs) ≡ length (laid at qs)) (closed : is_closed (laid at qs) ≡ true) where
   -- a number behind the word
   number_row : (t x c : Token) (ts : List Token) (y : List ℕ) → behind_labels (laid at qs) ≡ t ∷ ts → is_among changed_words t.text ≡ true → ts ≡ x ∷ c ∷ [] → c.text ≡ 59 ∷ [] → IsNumber x.text → IsNumber y
-      → may_differ (clause_of (laid at qs)) ≡ true → NumberTurns new t.text x.text y → Row (IsTurnedRow new) at qs (edit_at (span_of x) y ∷ [])
-  number_row t x c ts y behind which two semicolon number other differs turns =
+      → NumberTurns new t.text x.text y → Row (IsTurnedRow new) at qs (edit_at (span_of x) y ∷ [])
+  number_row t x c ts y behind which two semicolon number other turns =
       let w = word_cut at qs t ts behind in
       let place = at + length (bytes_in w.lead) in
       let n = number_cut (place + length w.word) w.rest x c (w.rest_is ∙ two) semicolon in
@@ -312,8 +312,7 @@ module _ (new : ScanChainDecl) (at : ℕ) (z : List ℕ) (qs : Pieces) (are : Ar
       let row = said_row at w.lead w.word n.front ((true, n.word) ∷ []) ((true, y) ∷ []) n.behind n.tail w.after_is ready n.tail_none new (some_laid z _ laid_whole)
       (subst (λ (q : Pieces). len_in 0 (laid at q) ≡ length (laid at q)) whole one) (subst (λ (q : Pieces). is_closed (laid at q) ≡ true) whole closed)
       (subst (λ (q : Pieces). behind_labels (laid at q) ≡ token_of_bytes w.word place ∷ laid (place + length w.word) (old_number_run ++ (true, 59 ∷ []) ∷ n.tail)) whole
-      (behind ∙ ap (λ (k : Token). k ∷ ts) w.token ∙ ap (λ (l : List Token). token_of_bytes w.word place ∷ l) (sym w.rest_is ∙ ap (laid (place + length w.word)) n.is)))
-      (subst (λ (q : Pieces). may_differ (clause_of (laid at q)) ≡ true) whole differs) turned in
+      (behind ∙ ap (λ (k : Token). k ∷ ts) w.token ∙ ap (λ (l : List Token). token_of_bytes w.word place ∷ l) (sym w.rest_is ∙ ap (laid (place + length w.word)) n.is))) turned in
       let len_a = length-append (bytes_in w.lead) (w.word ++ bytes_in n.front) in
       let len_b = length-append w.word (bytes_in n.front) in
       let start : x.start ≡ place + length w.word + length (bytes_in n.front) = ap (λ (t : Token). t.start) n.token in
@@ -324,9 +323,9 @@ module _ (new : ScanChainDecl) (at : ℕ) (z : List ℕ) (qs : Pieces) (are : Ar
       (edit_same _ _ x.start x.end _ y (omega (arith, len_a, len_b, start)) (omega (arith, len_a, len_b, len_x, end)) (append-nil y)) row)
 
   -- a list of cells behind it
-  cells_row : (marks : Bool) (n : NewChain) (t : Token) (ts : List Token) (v : CellList × ℕ) → behind_labels (laid at qs) ≡ t ∷ ts → t.text ≡ codes "ScanCells" → cells_at ts ≡ Some v → may_differ (clause_of (laid at qs)) ≡ true
+  cells_row : (marks : Bool) (n : NewChain) (t : Token) (ts : List Token) (v : CellList × ℕ) → behind_labels (laid at qs) ≡ t ∷ ts → t.text ≡ codes "ScanCells" → cells_at ts ≡ Some v
       → new.cells ≡ Some (map (λ (b : NewBit). name_read b.name) n.bits) → Shapes n.bits → Row (IsTurnedRow new) at qs (edit_at (cells_span t v.1) (cells_text marks n) ∷ [])
-  cells_row marks n t ts v behind is e differs meant shapes =
+  cells_row marks n t ts v behind is e meant shapes =
       let w = word_cut at qs t ts behind in
       let place = at + length (bytes_in w.lead) in
       let out = marks && n.out_inverts in
@@ -368,8 +367,7 @@ module _ (new : ScanChainDecl) (at : ℕ) (z : List ℕ) (qs : Pieces) (are : Ar
       let row = said_row at w.lead w.word [] run fresh [] o.rest w.after_is ready none new (some_laid z _ laid_whole)
       (subst (λ (q : Pieces). len_in 0 (laid at q) ≡ length (laid at q)) whole one) (subst (λ (q : Pieces). is_closed (laid at q) ≡ true) whole closed)
       (subst (λ (q : Pieces). behind_labels (laid at q) ≡ token_of_bytes w.word place ∷ laid (place + length w.word) ((run ++ []) ++ (true, 59 ∷ []) ∷ o.rest)) whole
-      (behind ∙ ap (λ (k : Token). k ∷ ts) w.token ∙ ap (λ (l : List Token). token_of_bytes w.word place ∷ l) (sym w.rest_is ∙ ap (laid (place + length w.word)) rest_is)))
-      (subst (λ (q : Pieces). may_differ (clause_of (laid at q)) ≡ true) whole differs) turned in
+      (behind ∙ ap (λ (k : Token). k ∷ ts) w.token ∙ ap (λ (l : List Token). token_of_bytes w.word place ∷ l) (sym w.rest_is ∙ ap (laid (place + length w.word)) rest_is))) turned in
       let len_a = length-append (bytes_in w.lead) (w.word ++ []) in
       let len_b = ap length (append-nil w.word) in
       let len_c = ap length (bytes_append p.front o.blanks) ∙ length-append (bytes_in p.front) (bytes_in o.blanks) in
@@ -383,7 +381,7 @@ module _ (new : ScanChainDecl) (at : ℕ) (z : List ℕ) (qs : Pieces) (are : Ar
   -- a statement that says nothing of what may change
   other_row : IsOtherClause (clause_of (laid at qs)) → Row (IsTurnedRow new) at qs []
   other_row other = stays_row (IsTurnedRow new) at qs (some_laid z qs are) one closed
-      (λ s plain is. stays_law new s plain (subst (λ (l : List Token). IsOtherClause (clause_of l)) (sym is) other))
+      (λ s plain is. stays_law new s (wider s true plain) (subst (λ (l : List Token). IsOtherClause (clause_of l)) (sym is) other))
 
 -- what the new declaration and the new chain are to one another for a statement
 abbrev pub FitsClause : ScanChainDecl → NewChain → Clause → Type 0
@@ -410,28 +408,28 @@ module _ (marks : Bool) (n : NewChain) (new : ScanChainDecl) (at : ℕ) (z : Lis
   row_of : (c : Clause) → clause_of (laid at qs) ≡ c → IsOtherClause c → Row (IsTurnedRow new) at qs (clause_edits marks n c)
   row_of c e o = subst (Row (IsTurnedRow new) at qs) (sym (no_edits marks n c o)) (other_row new at z qs are one closed (subst IsOtherClause (sym e) o))
 
-  length_row : (t : Token) (ts : List Token) (v : ℕ × Span) → behind_labels (laid at qs) ≡ t ∷ ts → t.text ≡ codes "ScanLength" → length_at ts ≡ Some v → may_differ (clause_of (laid at qs)) ≡ true → FitsClause new n (Length v.0 v.1) → Row (IsTurnedRow new) at qs (clause_edits marks n (Length v.0 v.1))
-  length_row t ts v behind is e differs fits =
+  length_row : (t : Token) (ts : List Token) (v : ℕ × Span) → behind_labels (laid at qs) ≡ t ∷ ts → t.text ≡ codes "ScanLength" → length_at ts ≡ Some v → FitsClause new n (Length v.0 v.1) → Row (IsTurnedRow new) at qs (clause_edits marks n (Length v.0 v.1))
+  length_row t ts v behind is e fits =
       let k = length_here ts v e in
       let size = length n.bits in
       subst (λ (s : Span). Row (IsTurnedRow new) at qs (edit_at s (decimal size) ∷ [])) (sym k.place)
-      (number_row new at z qs are one closed t k.number k.last ts (decimal size) behind (ap (is_among changed_words) is) k.two k.semicolon (length_number k.number.text v.0 k.value) (decimal_number size (let few = fits.2 in omega arith)) differs
+      (number_row new at z qs are one closed t k.number k.last ts (decimal size) behind (ap (is_among changed_words) is) k.two k.semicolon (length_number k.number.text v.0 k.value) (decimal_number size (let few = fits.2 in omega arith))
       (λ t u x z c d p q r s i j. length_law new t u x z c d (p ∙ is) (q ∙ is) i j (ap is_some (ap length_of r ∙ k.value)) (ap length_of s ∙ length_back size fits.1 fits.2 ∙ ap Some (sym fits.0))))
 
-  inversion_row : (t : Token) (ts : List Token) (v : Bool × Span) → behind_labels (laid at qs) ≡ t ∷ ts → t.text ≡ codes "ScanInversion" → inversion_at ts ≡ Some v → may_differ (clause_of (laid at qs)) ≡ true → FitsClause new n (Inversion v.0 v.1) → Row (IsTurnedRow new) at qs (clause_edits marks n (Inversion v.0 v.1))
-  inversion_row t ts v behind is e differs fits =
+  inversion_row : (t : Token) (ts : List Token) (v : Bool × Span) → behind_labels (laid at qs) ≡ t ∷ ts → t.text ≡ codes "ScanInversion" → inversion_at ts ≡ Some v → FitsClause new n (Inversion v.0 v.1) → Row (IsTurnedRow new) at qs (clause_edits marks n (Inversion v.0 v.1))
+  inversion_row t ts v behind is e fits =
       let k = inversion_here ts v e in
       subst (λ (s : Span). Row (IsTurnedRow new) at qs (edit_at s (bit_text n.inversion) ∷ [])) (sym k.place)
-      (number_row new at z qs are one closed t k.number k.last ts (bit_text n.inversion) behind (ap (is_among changed_words) is) k.two k.semicolon (bit_is_number k.number.text v.0 k.value) (bit_number n.inversion) differs
+      (number_row new at z qs are one closed t k.number k.last ts (bit_text n.inversion) behind (ap (is_among changed_words) is) k.two k.semicolon (bit_is_number k.number.text v.0 k.value) (bit_number n.inversion)
       (λ t u x z c d p q r s i j. inversion_law new n.inversion t u x z c d (p ∙ is) (q ∙ is) i j (ap is_some (ap bit_of r ∙ k.value)) (ap bit_of s ∙ bit_back n.inversion) fits))
 
   by_word : (t : Token) (ts : List Token) → behind_labels (laid at qs) ≡ t ∷ ts → (c : Clause) → clause_of (laid at qs) ≡ c → WordIs t ts c → FitsClause new n c → Row (IsTurnedRow new) at qs (clause_edits marks n c)
   by_word t ts behind c says w fits = elim w [
-    | IsLength is v e k ↦ subst (λ (c : Clause). Row (IsTurnedRow new) at qs (clause_edits marks n c)) (sym k) (length_row t ts v behind is e (ap may_differ (says ∙ k)) (subst (FitsClause new n) k fits))
-    | IsInversion is v e k ↦ subst (λ (c : Clause). Row (IsTurnedRow new) at qs (clause_edits marks n c)) (sym k) (inversion_row t ts v behind is e (ap may_differ (says ∙ k)) (subst (FitsClause new n) k fits))
+    | IsLength is v e k ↦ subst (λ (c : Clause). Row (IsTurnedRow new) at qs (clause_edits marks n c)) (sym k) (length_row t ts v behind is e (subst (FitsClause new n) k fits))
+    | IsInversion is v e k ↦ subst (λ (c : Clause). Row (IsTurnedRow new) at qs (clause_edits marks n c)) (sym k) (inversion_row t ts v behind is e (subst (FitsClause new n) k fits))
     | IsCells is v e k ↦ (
         let f = subst (FitsClause new n) k fits in
-        subst (λ (c : Clause). Row (IsTurnedRow new) at qs (clause_edits marks n c)) (sym k) (cells_row new at z qs are one closed marks n t ts v behind is e (ap may_differ (says ∙ k)) f.0 f.1))
+        subst (λ (c : Clause). Row (IsTurnedRow new) at qs (clause_edits marks n c)) (sym k) (cells_row new at z qs are one closed marks n t ts v behind is e f.0 f.1))
     | IsOther k o ↦ row_of c says o
     | IsBad k ↦ absurd (subst (FitsClause new n) k fits)
   ]

@@ -6,7 +6,6 @@ use Rattle.std.proofs.lemmas.Bool.{cases_Bool, true≢false}
 use Rattle.std.proofs.lemmas.List.{append-nil}
 use Rattle.base_types.proofs.TruthValues.{and_first}
 use Rattle.token_forms.specs.Tokens.{Token}
-use Rattle.token_forms.specs.Parts.{token_texts}
 use Rattle.splice.specs.declared.Edit.{Edit}
 use Rattle.stil_tokens.specs.StilStatements.{is_closed, len_in, stil_statements}
 use Rattle.stil_types.specs.declared.head.ScanChainDecl.{ScanChainDecl}
@@ -17,16 +16,12 @@ use Rattle.stil_blocks.specs.Chains.{chain_at, listed, chain_in, structure_chain
 use Rattle.list_laws.specs.Leasts.{place_if}
 use Rattle.stil_head.specs.Faults.{is_bad_item, item_places}
 use Rattle.head_alike.specs.Steps.{Step, olds, news, AreSteps}
-use Rattle.head_alike.specs.Erased.{erased_clause, erased_block, erased_item}
 use Rattle.head_alike.specs.Heads.{IsOther, IsChain, AreItems}
 use Rattle.head_alike.specs.Trees.{joined, IsStatement, counted}
 use Rattle.head_alike.proofs.Empties.{no_front, no_back, if_none}
 use Rattle.head_alike.proofs.Heads.{wider}
 use Rattle.head_alike.proofs.Plain.{Inner, inner_plain}
-use Rattle.head_alike.proofs.Statements.{has_same}
 use Rattle.head_alike.proofs.Trees.{inner_law, no_statements}
-use Rattle.head_alike.proofs.Erased.{texts_same, bare_same, block_law}
-use Rattle.head_alike.proofs.Singles.{single_same}
 use Rattle.head_text.specs.Mixes.{bytes_in, AreLaid, laid, new_pieces, steps}
 use Rattle.head_text.specs.Ready.{AreBlank}
 use Rattle.head_text.specs.Written.{NewChain, chain_edits, head_edits, declared_chain, declared}
@@ -44,10 +39,6 @@ AllFit ds ns = ⊥
 
 abbrev pub decls_of : List ReadChain → List ScanChainDecl
 decls_of cs = map (λ (c : ReadChain). c.decl) cs
-
--- its tokens are equal in both but for what may differ
-abbrev pub IsSame : List Step → Type 0
-IsSame r = erased_item (olds r) ≡ erased_item (news r)
 
 -- a statement in ScanStructures that is no fault
 pub record IsItem (text : List ℕ) (s : List Token) : Type 0 where
@@ -91,20 +82,11 @@ module _ (text : List ℕ) where
 
   -- rows that don't count
   abbrev pub Counted : List ScanChainDecl → List (List Step) → Type 0
-  Counted new rows = AreItems text new (counted rows) × Each IsSame rows
+  Counted new rows = AreItems text new (counted rows)
 
   put_other : (b : Bool) (r : List Step) (rows : List (List Step)) (new : List ScanChainDecl) → IsOther r → AreItems text new rows → AreItems text new (cond b (r ∷ rows) rows)
   put_other true r rows new k more = inl (k, more)
   put_other false r rows new k more = more
-
-  item_by : (b : Bool) (s : List Token) → has_word (codes "ScanChain") s ≡ b → erased_item s ≡ cond b (erased_block erased_clause s) (token_texts s)
-  item_by b s e = ap (λ (k : Bool). cond k (erased_block erased_clause s) (token_texts s)) e
-
-  plain_same : (r : List Step) → AreSteps false true r → has_word (codes "ScanChain") (olds r) ≡ false → IsSame r
-  plain_same r plain apart = item_by false (olds r) apart ∙ texts_same r true plain ∙ sym (item_by false (news r) (sym (has_same false r plain (codes "ScanChain")) ∙ apart))
-
-  chain_same : (r : List Step) → AreSteps true true r → has_word (codes "ScanChain") (olds r) ≡ true → erased_block erased_clause (olds r) ≡ erased_block erased_clause (news r) → IsSame r
-  chain_same r are has e = item_by true (olds r) has ∙ e ∙ sym (item_by true (news r) (sym (has_same true r are (codes "ScanChain")) ∙ has))
 
   module _ (marks : Bool) where
     abbrev Out : List ReadChain → List NewChain → ℕ → Pieces → Type 0
@@ -117,12 +99,10 @@ module _ (text : List ℕ) where
       -- another statement
       other : (cs : List ReadChain) (ns : List NewChain) → has_word (codes "ScanChain") s ≡ false → Out cs ns (at + length (bytes_in front)) rest → Out cs ns at (front ++ rest)
       other cs ns apart more =
-          let row = stays_row (λ r. IsOther r × IsSame r) at front (some_laid (bytes_in rest ++ z) front front_laid) (subst (λ (l : List Token). len_in 0 l ≡ length l) (sym front_is) one) (ap is_closed front_is ∙ item.closed)
-          (λ r plain is.
-          let none : has_word (codes "ScanChain") (olds r) ≡ false = ap (has_word (codes "ScanChain")) (is ∙ front_is) ∙ apart in
-          (record { other = none; steps = wider r true plain }, plain_same r plain none)) in
-          rows_more (λ r. IsOther r × IsSame r) (Counted (declared (decls_of cs) ns)) (Counted (declared (decls_of cs) ns)) at front rest [] (head_edits marks (decls_of cs) ns)
-          (λ r rows k more. (put_other (not (is_empty (olds r))) r (counted rows) (declared (decls_of cs) ns) k.0 more.0, (k.1, more.1))) row more
+          let row = stays_row IsOther at front (some_laid (bytes_in rest ++ z) front front_laid) (subst (λ (l : List Token). len_in 0 l ≡ length l) (sym front_is) one) (ap is_closed front_is ∙ item.closed)
+          (λ r plain is. record { other = ap (has_word (codes "ScanChain")) (is ∙ front_is) ∙ apart; steps = wider r true plain }) in
+          rows_more IsOther (Counted (declared (decls_of cs) ns)) (Counted (declared (decls_of cs) ns)) at front rest [] (head_edits marks (decls_of cs) ns)
+          (λ r rows k more. put_other (not (is_empty (olds r))) r (counted rows) (declared (decls_of cs) ns) k more) row more
 
       -- a ScanChain counts
       not_empty : has_word (codes "ScanChain") s ≡ true → is_empty s ≡ false
@@ -138,23 +118,19 @@ module _ (text : List ℕ) where
           let row = chain_row marks n text s c is fit at (bytes_in rest ++ z) front front_laid front_is one item.closed in
           let both : Row (λ r. ChainFact s new r × AreSteps true true r) at front (chain_edits marks c.decl n) = record { made = row.made; ends = row.ends; is = row.is; fact = λ to. (row.fact to, (row.is to).steps) } in
           rows_more (λ r. ChainFact s new r × AreSteps true true r) (Counted (declared (decls_of cs) ns)) (Counted (declared (decls_of (c ∷ cs)) (n ∷ ns))) at front rest (chain_edits marks c.decl n) (head_edits marks (decls_of cs) ns)
-          (λ r rows k more.
-          let chained : has_word (codes "ScanChain") (olds r) ≡ true = ap (has_word (codes "ScanChain")) k.0.0 ∙ has in (
-            subst (λ (b : Bool). AreItems text (new ∷ declared (decls_of cs) ns) (cond b (r ∷ counted rows) (counted rows))) (sym (ap not (ap is_empty k.0.0 ∙ not_empty has)))
-                (inr (record {
-                  new = new;
-                  left = declared (decls_of cs) ns;
-                  is = refl;
-                  steps = k.1;
-                  has = chained;
-                  chain = c;
-                  was = ap (chain_at text) k.0.0 ∙ is;
-                  fits = fits_new c.decl n;
-                  turned = k.0.1;
-                  more = more.0;
-                })),
-            (chain_same r k.1 chained k.0.2, more.1),
-          )) both more
+          (λ r rows k more. subst (λ (b : Bool). AreItems text (new ∷ declared (decls_of cs) ns) (cond b (r ∷ counted rows) (counted rows))) (sym (ap not (ap is_empty k.0.0 ∙ not_empty has)))
+          (inr (record {
+            new = new;
+            left = declared (decls_of cs) ns;
+            is = refl;
+            steps = k.1;
+            has = ap (has_word (codes "ScanChain")) k.0.0 ∙ has;
+            chain = c;
+            was = ap (chain_at text) k.0.0 ∙ is;
+            fits = fits_new c.decl n;
+            turned = k.0.1;
+            more = more;
+          }))) both more
 
       chain_by : (o : Option ReadChain) (tail cs : List ReadChain) (ns : List NewChain) → has_word (codes "ScanChain") s ≡ true → chain_at text s ≡ o → is_some o ≡ true
           → listed o ++ tail ≡ cs → AllFit (decls_of cs) ns → ((cs : List ReadChain) (ns : List NewChain) → tail ≡ cs → AllFit (decls_of cs) ns → Out cs ns (at + length (bytes_in front)) rest) → Out cs ns at (front ++ rest)
@@ -167,7 +143,7 @@ module _ (text : List ℕ) where
           chain d cs n ns has (is ∙ ap Some first) fits.0 (more cs ns behind fits.1)
 
     pub item_rows : (ss : List (List Token)) (at : ℕ) (z : List ℕ) (ps : Pieces) (cs : List ReadChain) (ns : List NewChain) → AreLaid z ps → AreCut ss (laid at ps) → Each (IsItem text) ss → flat_map (chain_in text) ss ≡ cs → AllFit (decls_of cs) ns → Out cs ns at ps
-    item_rows [] at z ps [] [] are cut each e fits = rows_none (Counted []) at ps (no_tokens at ps cut) (refl, tt)
+    item_rows [] at z ps [] [] are cut each e fits = rows_none (Counted []) at ps (no_tokens at ps cut) refl
     item_rows [] at z ps [] (n ∷ ns) are cut each e fits = absurd fits
     item_rows [] at z ps (c ∷ cs) ns are cut each e fits = absurd cc
     item_rows (s ∷ ss) at z ps cs ns are cut each e fits =
@@ -188,7 +164,6 @@ pub record IsStructures (text : List ℕ) (new : List ScanChainDecl) (tokens : L
   pub old_items : statements_in (olds s) ≡ map olds items
   pub new_items : statements_in (news s) ≡ map news items
   pub are_items : AreItems text new items
-  pub same : erased_block erased_item (olds s) ≡ erased_block erased_item (news s)
 
 no_items : (s : List Token) → in_block s ≡ [] → statements_in s ≡ []
 no_items s e = ap body_statements e ∙ ap (λ (l : List (List Token)). filter (λ s. not (is_empty s)) l) no_statements
@@ -242,7 +217,7 @@ module _ (marks : Bool) (text : List ℕ) (tokens : List Token) (cs : List ReadC
       let i = inner_plain s plain in
       let old : statements_in (olds s) ≡ [] = ap statements_in (is ∙ tokens_are) ∙ none in
       let rows = none_map olds i.rows (sym i.old_is ∙ old) in
-      record { olds_are = is ∙ tokens_are; items = []; old_items = old; new_items = i.new_is ∙ ap (map news) rows; are_items = k.0; same = bare_same erased_item single_same s true plain (ap in_block (is ∙ tokens_are) ∙ e) }) in
+      record { olds_are = is ∙ tokens_are; items = []; old_items = old; new_items = i.new_is ∙ ap (map news) rows; are_items = k.0 }) in
       subst (StructuresMade text new tokens at qs) (sym k.1) (record { row = row; kept = inl (new_stays qs) })
 
   of_pieces : (b : BlockCut tokens) → BlockPieces at qs b.lead b.body → StructuresMade text new tokens at qs edits
@@ -266,9 +241,7 @@ module _ (marks : Bool) (text : List ℕ) (tokens : List Token) (cs : List ReadC
         items = counted o.rows;
         old_items = ap (λ (s : List Step). statements_in (olds s)) o.is ∙ l.0;
         new_items = ap (λ (s : List Step). statements_in (news s)) o.is ∙ l.1;
-        are_items = o.facts.0;
-        same = subst (λ (s : List Step). erased_block erased_item (olds s) ≡ erased_block erased_item (news s)) (sym o.is)
-            (block_law erased_item o.lead o.t o.u o.v o.w o.rows o.is_lead o.t_is o.u_is o.each o.facts.1 (single_same o.v o.w o.last_same));
+        are_items = o.facts;
       } in
       let row = row_of_made at (block_pieces at p.lead p.body p.last p.tail) ([] ++ ([] ++ (edits ++ []))) made (IsStructures text new tokens) (some_laid z (block_pieces at p.lead p.body p.last p.tail) laid_whole)
       (subst (λ (l : List Token). len_in 0 l ≡ length l) (sym here) one) (subst (λ (l : List Token). is_closed l ≡ true) (sym here) closed) fact in

@@ -7,9 +7,8 @@ use Rattle.splice.specs.declared.Edit.{Edit}
 use Rattle.stil_tokens.specs.StilStatements.{is_closed, len_in}
 use Rattle.stil_types.specs.declared.head.ScanChainDecl.{ScanChainDecl}
 use Rattle.stil_syntax.specs.Shapes.{behind_labels}
-use Rattle.stil_blocks.specs.Chains.{word_clause, clause_of}
+use Rattle.stil_blocks.specs.Chains.{word_clause}
 use Rattle.head_alike.specs.Steps.{Step, Keep, Anew, olds, news, AreSteps}
-use Rattle.head_alike.specs.Erased.{may_differ}
 use Rattle.head_alike.specs.Chains.{IsTurned, IsTurnedRow}
 use Rattle.head_alike.specs.Trees.{IsStatement}
 use Rattle.head_alike.proofs.Clauses.{said_law}
@@ -20,7 +19,7 @@ use Rattle.head_text.proofs.Mixes.{bytes_append, laid_append, AreSome, are_steps
 use Rattle.head_text.proofs.Ready.{steps_law}
 use Rattle.head_text.proofs.Cutting.{Pieces, after_tokens, blank_laid, LabelCut, label_cut, PieceCut, piece_cut, OnePiece, one_piece}
 use Rattle.head_text.proofs.Patches.{Patch, Same, Swap, was, now, patch_edits}
-use Rattle.head_text.proofs.Makes.{stays, old_stays, new_stays, stays_ready, stays_plain, stays_none, after, after_append, after_stays, after_blank, ready_append, old_mixes, new_mixes, Made, Row}
+use Rattle.head_text.proofs.Makes.{stays, old_stays, new_stays, stays_ready, stays_none, after, after_append, after_stays, after_blank, ready_append, old_mixes, new_mixes, Made, Row}
 
 flat : (a w f x b z : List ℕ) → (a ++ (w ++ f)) ++ (x ++ ((b ++ z) ++ [])) ≡ a ++ (w ++ ((f ++ (x ++ b)) ++ z))
 flat a w f x b z =
@@ -29,10 +28,6 @@ flat a w f x b z =
 
 pub blank_front : (at : ℕ) (f ps : Pieces) → AreBlank f → laid at (f ++ ps) ≡ laid (at + length (bytes_in f)) ps
 blank_front at f ps none = laid_append at f ps ∙ ap (λ (l : List Token). l ++ laid (at + length (bytes_in f)) ps) (blank_laid at f none)
-
-some_front : (ps qs : Pieces) → AreSome (ps ++ qs) → AreSome ps
-some_front [] qs some = tt
-some_front (p ∷ ps) qs some = (some.0, some_front ps qs some.1)
 
 module _ (at : ℕ) (lp : Pieces) (w : List ℕ) (f x y b tail : Pieces) where
   abbrev pub old_run : Pieces
@@ -110,7 +105,7 @@ module _ (at : ℕ) (lp : Pieces) (w : List ℕ) (f x y b tail : Pieces) where
           ∙ ap (λ (l : List Token). laid (old_word + length w) old_run ++ old_end ∷ l) (blank_laid (old_word + length w + length (bytes_in old_run) + 1) tail none)
 
       module _ (new : ScanChainDecl) (some : AreSome said_pieces) (one : len_in 0 (laid at said_pieces) ≡ length (laid at said_pieces)) (closed : is_closed (laid at said_pieces) ≡ true)
-          (behind : behind_labels (laid at said_pieces) ≡ token_of_bytes w old_word ∷ laid (old_word + length w) (old_run ++ (true, 59 ∷ []) ∷ tail)) (differs : may_differ (clause_of (laid at said_pieces)) ≡ true) (turns : Turns new) where
+          (behind : behind_labels (laid at said_pieces) ≡ token_of_bytes w old_word ∷ laid (old_word + length w) (old_run ++ (true, 59 ∷ []) ∷ tail)) (turns : Turns new) where
         said_steps : (to : ℕ) → AreSteps true true (steps at to said_mixes)
         said_steps to = are_steps said_mixes true at to (subst AreSome (sym old_is) some) said_ready
 
@@ -119,11 +114,10 @@ module _ (at : ℕ) (lp : Pieces) (w : List ℕ) (f x y b tail : Pieces) where
             let e = shape to in
             let there : behind_labels (olds (steps at to said_mixes)) ≡ token_of_bytes w old_word ∷ (laid (old_word + length w) old_run ++ old_end ∷ []) =
             subst (λ (l : List Token). behind_labels l ≡ token_of_bytes w old_word ∷ (laid (old_word + length w) old_run ++ old_end ∷ [])) (sym (tokens_are to)) (behind ∙ ap (λ (l : List Token). token_of_bytes w old_word ∷ l) behind_word_is) in
-            subst (IsTurnedRow new) (sym e) (said_law new true (steps at to (stays lp)) (token_of_bytes w old_word) (token_of_bytes w (to + length (bytes_in lp))) (laid (old_word + length w) old_run)
+            subst (IsTurnedRow new) (sym e) (said_law new (steps at to (stays lp)) (token_of_bytes w old_word) (token_of_bytes w (to + length (bytes_in lp))) (laid (old_word + length w) old_run)
             (laid (to + length (bytes_in lp) + length w) new_run) old_end (token_of_bytes (59 ∷ []) (to + length (bytes_in lp) + length w + length (bytes_in new_run)))
-            (subst (AreSteps true true) e (said_steps to)) (stays_plain lp true at to (some_front lp ((true, w) ∷ (old_run ++ (true, 59 ∷ []) ∷ tail)) some))
-            (subst (λ (s : List Step). behind_labels (olds s) ≡ token_of_bytes w old_word ∷ (laid (old_word + length w) old_run ++ old_end ∷ [])) e there)
-            (subst (λ (s : List Step). may_differ (clause_of (olds s)) ≡ true) e (ap (λ (l : List Token). may_differ (clause_of l)) (tokens_are to) ∙ differs)) (turns (to + length (bytes_in lp))))
+            (subst (AreSteps true true) e (said_steps to))
+            (subst (λ (s : List Step). behind_labels (olds s) ≡ token_of_bytes w old_word ∷ (laid (old_word + length w) old_run ++ old_end ∷ [])) e there) (turns (to + length (bytes_in lp))))
 
         pub said_row : Row (IsTurnedRow new) at said_pieces said_edits
         said_row = record {

@@ -5,7 +5,6 @@ use Rattle.std.specs.List.{flat_map, list_any, AllByRecursion as Each}
 use Rattle.std.proofs.lemmas.Bool.{cases_Bool, true≢false}
 use Rattle.std.proofs.lemmas.List.{append-nil}
 use Rattle.token_forms.specs.Tokens.{Token}
-use Rattle.token_forms.specs.Parts.{token_texts}
 use Rattle.splice.specs.declared.Edit.{Edit}
 use Rattle.splice.specs.Spliced.{spliced, AreRising}
 use Rattle.stil_tokens.specs.StilTokens.{tokens_in}
@@ -20,15 +19,14 @@ use Rattle.stil_head.specs.Faults.{first_places, statement_faults, syntax_in}
 use Rattle.list_laws.specs.Leasts.{place_if}
 use Rattle.stil_head.specs.Unsupported.{later_places, unlisted_places, out_length_places, structures_again, unsupported_places}
 use Rattle.stil_head.specs.Heads.{IsHead}
-use Rattle.head_alike.specs.Steps.{Step, olds, news, AreSteps}
+use Rattle.head_alike.specs.Steps.{Step, Keep, Anew, olds, news, AreSteps}
 use Rattle.head_alike.specs.Heads.{IsKept, StandBeside}
 use Rattle.head_alike.specs.Trees.{joined, counted}
-use Rattle.head_alike.specs.Erased.{erased_block, erased_item, erased_statement, head_tokens}
+use Rattle.head_alike.specs.Erased.{erased_from, erased_statement, head_tokens}
 use Rattle.head_alike.proofs.Empties.{no_front, no_back}
 use Rattle.head_alike.proofs.Rows.{each_rows}
 use Rattle.head_alike.proofs.Statements.{has_same}
-use Rattle.head_alike.proofs.Trees.{joined_law, old_joined, new_joined}
-use Rattle.head_alike.proofs.Erased.{texts_same}
+use Rattle.head_alike.proofs.Trees.{joined_law, old_joined, new_joined, erased_law}
 use Rattle.head_text.specs.Mixes.{bytes_in, AreLaid, laid, Mix, new_pieces, old_pieces, steps, AreTokensBeside}
 use Rattle.head_text.specs.Written.{NewChain, head_edits, written_head, declared}
 use Rattle.head_text.proofs.Mixes.{tokens_laid, new_stand, mix_law}
@@ -46,17 +44,26 @@ pub record Stands (text text' : List ℕ) (new : List ScanChainDecl) (edits : Li
   pub tokens : head_tokens text' ≡ head_tokens text
   pub rising : AreRising 0 (length text) edits
 
+-- tokens that stay have the same bytes
+texts_same : (s : List Step) (b : Bool) → AreSteps false b s → map (λ (t : Token). t.text) (olds s) ≡ map (λ (t : Token). t.text) (news s)
+texts_same [] b are = refl
+texts_same (Keep t u ∷ s) b are = ap (λ (w : List ℕ). w ∷ map (λ (t : Token). t.text) (olds s)) are.0 ∙ ap (λ (l : List (List ℕ)). u.text ∷ l) (texts_same s _ are.2)
+texts_same (Anew t u xs ys c d ∷ s) b are = absurd (true≢false (sym are.0.allowed))
+
 abbrev is_structures : List Token → Bool
 is_structures s = has_word (codes "ScanStructures") s
 
-by_word : (b : Bool) (s : List Token) → is_structures s ≡ b → erased_statement s ≡ cond b (erased_block erased_item s) (token_texts s)
-by_word b s e = ap (λ (k : Bool). cond k (erased_block erased_item s) (token_texts s)) e
-
 kept_erased : (r : List Step) → IsKept r → erased_statement (olds r) ≡ erased_statement (news r)
-kept_erased r k = by_word false (olds r) k.other ∙ texts_same r true k.plain ∙ sym (by_word false (news r) (sym (has_same false r k.plain (codes "ScanStructures")) ∙ k.other))
+kept_erased r k =
+    let again : is_structures (news r) ≡ false = sym (has_same false r k.plain (codes "ScanStructures")) ∙ k.other in
+    ap (λ (b : Bool). cond b (erased_from true false (olds r)) (map (λ (t : Token). t.text) (olds r))) k.other ∙ texts_same r true k.plain
+    ∙ sym (ap (λ (b : Bool). cond b (erased_from true false (news r)) (map (λ (t : Token). t.text) (news r))) again)
 
-structures_erased : (r : List Step) → AreSteps true true r → is_structures (olds r) ≡ true → erased_block erased_item (olds r) ≡ erased_block erased_item (news r) → erased_statement (olds r) ≡ erased_statement (news r)
-structures_erased r are has same = by_word true (olds r) has ∙ same ∙ sym (by_word true (news r) (sym (has_same true r are (codes "ScanStructures")) ∙ has))
+structures_erased : (r : List Step) → AreSteps true true r → is_structures (olds r) ≡ true → erased_statement (olds r) ≡ erased_statement (news r)
+structures_erased r are has =
+    let again : is_structures (news r) ≡ true = sym (has_same true r are (codes "ScanStructures")) ∙ has in
+    ap (λ (b : Bool). cond b (erased_from true false (olds r)) (map (λ (t : Token). t.text) (olds r))) has ∙ erased_law true r are
+    ∙ sym (ap (λ (b : Bool). cond b (erased_from true false (news r)) (map (λ (t : Token). t.text) (news r))) again)
 
 abbrev old_erased : List (List Step) → List (List ℕ)
 old_erased rows = flat_map erased_statement (map olds rows)
@@ -68,11 +75,11 @@ all_erased : (rows : List (List Step)) → Each IsKept rows → old_erased rows 
 all_erased [] each = refl
 all_erased (r ∷ rows) each = ap (λ (l : List (List ℕ)). l ++ old_erased rows) (kept_erased r each.0) ∙ ap (λ (l : List (List ℕ)). erased_statement (news r) ++ l) (all_erased rows each.1)
 
-top_erased : (front : List (List Step)) (s : List Step) (behind : List (List Step)) → Each IsKept front → AreSteps true true s → is_structures (olds s) ≡ true → erased_block erased_item (olds s) ≡ erased_block erased_item (news s) → Each IsKept behind
+top_erased : (front : List (List Step)) (s : List Step) (behind : List (List Step)) → Each IsKept front → AreSteps true true s → is_structures (olds s) ≡ true → Each IsKept behind
     → old_erased (front ++ s ∷ behind) ≡ new_erased (front ++ s ∷ behind)
-top_erased [] s behind f are has same b = ap (λ (l : List (List ℕ)). l ++ old_erased behind) (structures_erased s are has same) ∙ ap (λ (l : List (List ℕ)). erased_statement (news s) ++ l) (all_erased behind b)
-top_erased (r ∷ front) s behind f are has same b =
-    ap (λ (l : List (List ℕ)). l ++ old_erased (front ++ s ∷ behind)) (kept_erased r f.0) ∙ ap (λ (l : List (List ℕ)). erased_statement (news r) ++ l) (top_erased front s behind f.1 are has same b)
+top_erased [] s behind f are has b = ap (λ (l : List (List ℕ)). l ++ old_erased behind) (structures_erased s are has) ∙ ap (λ (l : List (List ℕ)). erased_statement (news s) ++ l) (all_erased behind b)
+top_erased (r ∷ front) s behind f are has b =
+    ap (λ (l : List (List ℕ)). l ++ old_erased (front ++ s ∷ behind)) (kept_erased r f.0) ∙ ap (λ (l : List (List ℕ)). erased_statement (news r) ++ l) (top_erased front s behind f.1 are has b)
 
 -- ScanStructures counts
 counted_one : (b : Bool) (s : List Step) (rows : List (List Step)) → b ≡ true → cond b (s ∷ rows) rows ≡ s ∷ rows
@@ -129,7 +136,7 @@ module _ (text text' : List ℕ) (new : List ScanChainDecl) (edits : List Edit) 
       are_items = t.said.are_items;
     };
     tokens = ap (λ (ts : List Token). flat_map erased_statement (stil_statements ts)) new_tokens ∙ ap (flat_map erased_statement) (new_joined r.rows r.each)
-        ∙ ap new_erased t.is ∙ sym (top_erased t.front t.structures t.behind t.front_kept t.steps has_here t.said.same t.behind_kept) ∙ sym (ap old_erased t.is)
+        ∙ ap new_erased t.is ∙ sym (top_erased t.front t.structures t.behind t.front_kept t.steps has_here t.behind_kept) ∙ sym (ap old_erased t.is)
         ∙ sym (ap (λ (ts : List Token). flat_map erased_statement (stil_statements ts)) old_tokens ∙ ap (flat_map erased_statement) (old_joined r.rows r.each));
     rising = rising;
   }

@@ -48,7 +48,7 @@ fn ends_data(token: &[u8]) -> bool {
 
 /// Where the name begins that ends with the second of two tokens: with the first, where that is in quotes and the second follows it
 /// without a blank.
-pub(crate) fn name_start(first: Option<Lexeme<'_>>, second: &Lexeme<'_>) -> usize {
+fn name_start(first: Option<Lexeme<'_>>, second: &Lexeme<'_>) -> usize {
     match first {
         Some(first) => {
             if first.text.first() == Some(&b'"') && first.span.end == second.span.start {
@@ -62,7 +62,7 @@ pub(crate) fn name_start(first: Option<Lexeme<'_>>, second: &Lexeme<'_>) -> usiz
 }
 
 /// The bytes between two places of a text.
-pub(crate) fn between(text: &[u8], start: usize, end: usize) -> &[u8] {
+fn between(text: &[u8], start: usize, end: usize) -> &[u8] {
     match text.get(start..end) {
         Some(bytes) => bytes,
         None => b"",

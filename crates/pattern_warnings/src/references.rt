@@ -63,7 +63,7 @@ fn quoted_len(bytes: &[u8]) -> usize
     bytes.iter().position(|b| *b == b'"').unwrap_or(bytes.len())
 }
 
-/// Takes the names of an expression of signals one by one, and tells which a `-` takes out of it.
+/// Takes the names of an expression of signals one by one, but for those that a `-` takes out of it.
 #[derive(Drop)]
 pub(crate) struct References<'a> {
     rest: &'a [u8],
@@ -110,14 +110,17 @@ impl<'a> References<'a> {
         None
     }
 
-    /// Takes the next name, and whether it is taken out of the expression.
-    pub(crate) fn next(&mut self) -> Option<(Reference<'a>, bool)>
+    /// Takes the next name.
+    pub(crate) fn next(&mut self) -> Option<Reference<'a>>
         ensures shorter { IfSome result (λ name. length self.new.rest.now < length self.old.rest.now) }
     {
-        let name = self.name()?;
-        let taken_out = self.taken_out;
-        self.taken_out = false;
-        Some((name, taken_out))
+        while let Some(name) = self.name() {
+            if !self.taken_out {
+                return Some(name);
+            }
+            self.taken_out = false;
+        }
+        None
     }
 }
 
@@ -139,8 +142,8 @@ fn number_of(digits: &[u8]) -> Option<u64> {
 #[derive(Drop)]
 pub(crate) struct BitRange<'a> {
     base: &'a [u8],
-    left: u64,
-    right: u64,
+    low: u64,
+    high: u64,
 }
 
 impl<'a> BitRange<'a> {
@@ -153,40 +156,21 @@ impl<'a> BitRange<'a> {
             return None;
         }
         let (left, right) = (number_of(left)?, number_of(&right[2..])?);
-        Some(BitRange { base, left, right })
+        Some(BitRange {
+            base,
+            low: left.min(right),
+            high: left.max(right),
+        })
     }
 
-    /// The name without its bits.
-    pub(crate) fn base(&self) -> &'a [u8] {
-        self.base
-    }
-
-    /// How many bits they are, less one.
-    fn steps(&self) -> u64 {
-        self.left
-            .max(self.right)
-            .saturating_sub(self.left.min(self.right))
-    }
-
-    /// Whether they are no more than so many.
-    pub(crate) fn are_few(&self, most: u64) -> bool {
-        self.steps() < most
-    }
-
-    /// The names of the bits, from the left.
-    pub(crate) fn names(&self, alloc: Global) -> Result<Vec<Vec<u8>>, NoMemory> {
-        let mut names = Vec::new(alloc);
-        for step in 0..=self.steps() {
-            let bit = if self.left < self.right {
-                self.left.saturating_add(step)
-            } else {
-                self.left.saturating_sub(step)
-            };
-            let bit = format!(in alloc; "[{bit}]")?;
-            let mut name = Vec::from_slice(alloc, self.base)?;
-            name.extend_from_slice(bit.as_bytes())?;
-            names.push(name)?;
+    /// Whether a name is that of one of these bits.
+    pub(crate) fn has(&self, name: &[u8]) -> bool {
+        let Some((base, inside)) = parts_of(name) else {
+            return false;
+        };
+        match number_of(inside) {
+            Some(bit) => base == self.base && self.low <= bit && bit <= self.high,
+            None => false,
         }
-        Ok(names)
     }
 }

@@ -1,30 +1,23 @@
 //! The warnings of patterns that come statement by statement.
 
 use crate::given::{Given, Givens};
-use crate::heads::{Known, Warned, known_of};
-use crate::procedures::called_by;
-use crate::scope::{Compares, Scope};
-use crate::shifting::HeadText;
+use crate::groups::{Names, add_groups};
+use crate::references::{BitRange, References};
 use base_types::{Lines, NoMemory, Word, line_of};
+use indexmap::IndexMap;
 use std::alloc::Global;
-use std::mem;
 use stil_types::{BodyStatement, PatternStatement, StilHead};
 
-/// What is to be warned of in patterns, as their text comes (IEEE 1450-1999, Signals, SignalGroups, ScanStructures, Procedures and Pattern
-/// statements): a statement between scans that compares a scan-out port, or a group of signals in which one is compared, once a name; a scan
-/// procedure that is called and doesn't shift every chain, or does more than shifting; lengths of signals that the new chains don't have; and
-/// patterns without a scan call.
+/// What is to be warned of in patterns, as their text comes: a statement between scans that gives data to a scan-out port, or to a group of
+/// signals whose definition names one, warns once a name (IEEE 1450-1999, SignalGroups, ScanStructures and Pattern statements).
 #[derive(Drop)]
 pub struct PatternWarnings {
     /// The name of the file.
     file: Word,
-    scope: Scope,
-    /// How many names of scan-out ports, and of groups with one, gave no warning.
+    /// The ports and groups, and whether of each a warning was given.
+    names: Names,
+    /// How many of them gave none.
     left: usize,
-    /// The scan procedures and macros that weren't called yet.
-    procedures: Vec<Warned>,
-    has_scan: bool,
-    has_statement: bool,
     /// The line of what comes next, from 1.
     line: u64,
     lines: Vec<String>,
@@ -43,33 +36,26 @@ fn warning(alloc: Global, file: &str, line: u64, name: &[u8]) -> Result<String, 
 }
 
 impl PatternWarnings {
-    /// What the head of a file is warned of, whose chains get these lengths and whose patterns come next. Or want of memory.
+    /// Nothing is warned of yet: the head of a file was read, whose patterns come next. Or want of memory.
     pub fn new(
         alloc: Global,
         file: Word,
         text: &[u8],
         head: &StilHead,
-        lengths: &[usize],
     ) -> Result<PatternWarnings, NoMemory> {
-        let own = HeadText {
-            file: file.as_str(),
-            text,
-            head,
-        };
-        let Known {
-            scope,
-            procedures,
-            lines,
-        } = known_of(alloc, own, lengths)?;
+        let mut names = IndexMap::new(alloc);
+        for chain in head.chains.as_slice() {
+            names.insert(Vec::from_slice(alloc, chain.scan_out.bytes())?, false)?;
+        }
+        if text.len() <= u32::MAX as usize {
+            add_groups(alloc, &mut names, text)?;
+        }
         Ok(PatternWarnings {
             file,
-            left: scope.shown(),
-            scope,
-            procedures,
-            has_scan: false,
-            has_statement: false,
+            left: names.len(),
+            names,
             line: line_of(text, text.len()),
-            lines,
+            lines: Vec::new(alloc),
         })
     }
 
@@ -83,26 +69,10 @@ impl PatternWarnings {
         self.line = self.line.saturating_add(line_feeds(text));
     }
 
-    /// Warns of what the patterns have not, behind their last statement. Or want of memory.
-    pub fn end(&mut self, alloc: Global) -> Result<(), NoMemory> {
-        if self.has_statement && !self.has_scan {
-            let file = self.file.as_str();
-            let text = format!(in alloc;
-                "warning: {file}: no scan call stands in the patterns, so their data stay as they are"
-            )?;
-            self.lines.push(text)?;
-        }
-        Ok(())
-    }
-
     /// Looks at a statement, and passes it. Or want of memory.
     pub fn look(&mut self, alloc: Global, statement: &PatternStatement) -> Result<(), NoMemory> {
-        self.has_statement = true;
         match statement {
-            PatternStatement::Scan { text, .. } => {
-                self.call(alloc, text.bytes())?;
-                self.pass(text.bytes());
-            }
+            PatternStatement::Scan { text, .. } => self.pass(text.bytes()),
             PatternStatement::Other { text, .. } => {
                 self.look_at(alloc, text.bytes(), self.line)?;
                 self.pass(text.bytes());
@@ -115,7 +85,7 @@ impl PatternWarnings {
         Ok(())
     }
 
-    /// Looks at the statements in the block of a Loop.
+    /// Looks at the statements between scans in the block of a Loop.
     fn look_into(
         &mut self,
         alloc: Global,
@@ -123,33 +93,10 @@ impl PatternWarnings {
         body: &[BodyStatement],
     ) -> Result<(), NoMemory> {
         for statement in body {
-            if let Some(bytes) = text.get(statement.start as usize..statement.end as usize) {
-                if statement.call.is_some() {
-                    self.call(alloc, bytes)?;
-                } else {
+            if statement.call.is_none() {
+                if let Some(bytes) = text.get(statement.start as usize..statement.end as usize) {
                     self.look_at(alloc, bytes, statement.line)?;
                 }
-            }
-        }
-        Ok(())
-    }
-
-    /// Takes a scan call, and tells what its procedure is warned of, once.
-    fn call(&mut self, alloc: Global, text: &[u8]) -> Result<(), NoMemory> {
-        self.has_scan = true;
-        if self.procedures.is_empty() {
-            return Ok(());
-        }
-        let Some((is_macro, name)) = called_by(alloc, text)? else {
-            return Ok(());
-        };
-        for procedure in mem::replace(&mut self.procedures, Vec::new(alloc)) {
-            if procedure.is_macro == is_macro && procedure.name == name {
-                for line in procedure.lines {
-                    self.lines.push(line)?;
-                }
-            } else {
-                self.procedures.push(procedure)?;
             }
         }
         Ok(())
@@ -171,31 +118,55 @@ impl PatternWarnings {
         Ok(())
     }
 
-    /// Finds the scan-out ports that data compare.
+    /// Finds the names to which data are given.
     fn find(&mut self, alloc: Global, given: &Given<'_>, line: u64) -> Result<(), NoMemory> {
-        if self.scope.is_settled(given.expression) {
-            return Ok(());
+        let mut references = References::of(given.expression);
+        while let Some(reference) = references.next() {
+            match reference.whole() {
+                Some(name) => self.find_name(alloc, name, line)?,
+                None => {
+                    let name = reference.joined(alloc)?;
+                    self.find_name(alloc, name.as_slice(), line)?;
+                }
+            }
         }
-        let slots = self.scope.slots(alloc, given.expression)?;
-        if !self.scope.shows_any(&slots) {
-            return Ok(());
+        Ok(())
+    }
+
+    /// Finds a name, or the bits that it names.
+    fn find_name(&mut self, alloc: Global, name: &[u8], line: u64) -> Result<(), NoMemory> {
+        if let Some(at) = self.names.get_index_of(name) {
+            return self.warn(alloc, at, line);
         }
-        let compares = Compares::of(alloc, &slots, given.data)?;
-        for (at, slot) in slots.all.iter().enumerate() {
-            if self.scope.shows(slot.signal) && compares.has(at) {
-                self.warn(alloc, slot.named, line)?;
+        let Some(bits) = BitRange::of(name) else {
+            return Ok(());
+        };
+        for at in 0..self.names.len() {
+            if let Some((known, _warned)) = self.names.get_index(at) {
+                if bits.has(known.as_slice()) {
+                    self.warn(alloc, at, line)?;
+                }
             }
         }
         Ok(())
     }
 
     /// Warns of a name, once.
-    fn warn(&mut self, alloc: Global, named: u32, line: u64) -> Result<(), NoMemory> {
-        if self.scope.tell(named) {
-            let text = warning(alloc, self.file.as_str(), line, self.scope.name(named))?;
-            self.lines.push(text)?;
-            self.left = self.left.saturating_sub(1);
+    fn warn(&mut self, alloc: Global, at: usize, line: u64) -> Result<(), NoMemory> {
+        match self.names.get_index(at) {
+            Some((name, warned)) => {
+                if *warned {
+                    return Ok(());
+                }
+                let text = warning(alloc, self.file.as_str(), line, name.as_slice())?;
+                self.lines.push(text)?;
+            }
+            None => return Ok(()),
         }
+        if let Some(warned) = self.names.get_index_mut(at) {
+            *warned = true;
+        }
+        self.left = self.left.saturating_sub(1);
         Ok(())
     }
 }

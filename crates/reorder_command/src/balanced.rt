@@ -12,13 +12,12 @@ ghost use Rattle.reorder_command.specs.Planned.{IsGoodIn, AreMeasuredIn};
 
 use crate::figures::{FoundPlan, Longest, Measured};
 use crate::fixed::fixed_bits;
-use crate::reading::read_design;
+use crate::limits::limit_note;
 use base_types::{Name, NoMemory, Rows};
 use chain_balance::{balance, least_law, longest};
 use chain_rules::Plan;
 use chain_trace::{Path, plain_of};
 use design_files::DesignFiles;
-use design_warnings::limit_note;
 use netlist_core::Netlist;
 use order_search::{Effort, settle_order};
 use plan_search::{Progress, shorten};
@@ -109,10 +108,7 @@ pub(crate) fn balanced_plan<P: Progress>(
     order_within(alloc, files, fixed, &mut plan, progress)?;
     // Each chain has its units still, so that none moves now; this tells the cut of the plan as it is.
     let cut = balance(alloc, rules, fixed, &mut plan)?;
-    let note = match limit_note(alloc, read_design(files), &plan, fixed, cut.is_some()) {
-        Ok(note) => note,
-        Err(NoMemory) => None,
-    };
+    let note = limit_note(alloc, files, &plan, &cut)?;
     let longest = Longest {
         read: longest(rules, fixed, &rules.read) as u64,
         written: longest(rules, fixed, &plan) as u64,

@@ -15,7 +15,6 @@ use crate::figures::{Figures, FoundPlan, Measured, figures_of};
 use crate::goal::Goal;
 use crate::patterns::{PatternPlan, plan_patterns};
 use crate::plans::plan_for;
-use crate::reading::read_design;
 use base_types::{NoMemory, ReadFault, Text};
 use cell_table::pins_law;
 use chain_maps::keeps_law;
@@ -23,7 +22,6 @@ use chain_rules::Plan;
 use chain_trace::{Path, names_law};
 use def_writer::{agreement_law, def_text, placing_law};
 use design_files::{DesignFiles, read_design_files};
-use design_warnings::{DesignWarning, design_warnings};
 use net_edit::{edits_for, edits_law};
 use path_laws::declared_law;
 use plan_paths::{new_paths, plan_law};
@@ -39,8 +37,6 @@ pub struct Reordered {
     pub figures: Figures,
     /// What is planned for the patterns, where a head of some was given.
     pub patterns: Option<PatternPlan>,
-    /// What the user is warned of. No clause speaks of it.
-    pub warnings: Vec<DesignWarning>,
 }
 
 /// What is written of the design.
@@ -184,16 +180,6 @@ fn patterns_of(
     Ok(Some(plan))
 }
 
-/// What the user is warned of where the paths of the files become these; nothing where there is no memory for it.
-fn warnings_of(alloc: Global, files: &DesignFiles, def: &[u8], new: &[Path]) -> Vec<DesignWarning>
-    requires def { length def.now < 2 ^ 32 }
-{
-    match design_warnings(alloc, read_design(files), def, new) {
-        Ok(warnings) => warnings,
-        Err(NoMemory) => Vec::new(alloc),
-    }
-}
-
 /// The Verilog and the DEF in which the units of the design's scan chains (LEF/DEF 5.8, SCANCHAINS) stand at other places, by a plan that
 /// obeys every rule of the DEF. Searched for short chains it is one that no step of the effort makes shorter, and no longer than the plan as
 /// read and the nearest one. Searched for a short longest path, in bits, it is one in which no single unit of a longest path can go to another
@@ -234,13 +220,11 @@ pub fn reorder_texts<P: Progress>(
         new,
         made,
     } = planned;
-    let warnings = warnings_of(alloc, &files, def, new.as_slice());
     let patterns = patterns_of(alloc, head, &mut files, new.as_slice())?;
     Ok(Reordered {
         verilog: made.verilog,
         def: made.def,
         figures: made.figures,
         patterns,
-        warnings,
     })
 }

@@ -24,7 +24,6 @@ use crate::putting::{PutStop, put_patterns};
 use crate::say::{refuse, size_fault};
 use crate::searching::Searching;
 use crate::stop::Stop;
-use crate::warning::note_with;
 use base_types::{NoMemory, Text, Word};
 use desk_io::{Desk, Inputs, InputsFault, Names, Outputs, Slot, put_outputs, take_inputs};
 use pattern_warnings::PatternWarnings;
@@ -33,6 +32,7 @@ use retargeted_patterns::{PatternFigures, Retargeting, figures_law};
 use scan_words::Order;
 use std::alloc::Global;
 use stil_input::{StilInput, StilStop};
+use stil_types::StilHead;
 use written_meaning::meaning_law;
 
 /// What is written of the design, and what is said of it.
@@ -60,14 +60,10 @@ fn warnings_of(
     alloc: Global,
     request: &PatternsRequest,
     text: &[u8],
-    plan: &PatternPlan,
+    head: &StilHead,
 ) -> Result<PatternWarnings, NoMemory> {
     let file = Word::copy(alloc, request.stil.as_str())?;
-    let mut lengths = Vec::new(alloc);
-    for chain in plan.map.new_chains().chains.as_slice() {
-        lengths.push(chain.cells.as_slice().len())?;
-    }
-    PatternWarnings::new(alloc, file, text, &plan.head, lengths.as_slice())
+    PatternWarnings::new(alloc, file, text, head)
 }
 
 /// What stands ready once the design is reordered with a head, whose text this is, or want of memory.
@@ -87,11 +83,9 @@ fn ready_of(
         def,
         figures,
         patterns,
-        warnings: told,
     } = reordered;
-    let note = note_with(alloc, note, &request.design, told.as_slice());
     let Some(plan) = patterns else { unreachable!() };
-    let warnings = warnings_of(alloc, request, head, &plan)?;
+    let warnings = warnings_of(alloc, request, head, &plan.head)?;
     let made = Made {
         verilog,
         def,
@@ -146,9 +140,8 @@ fn has_failed(put: &Result<PatternFigures, PutStop>) -> bool {
 
 /// Tells the user what the patterns are warned of.
 fn tell_warnings<D: Desk>(
-    alloc: Global,
     put: &Result<PatternFigures, PutStop>,
-    warnings: &mut PatternWarnings,
+    warnings: &PatternWarnings,
     desk: &mut D,
 )
     ensures slots { SameSlots (D.state desk.old) (D.state desk.new) }
@@ -156,10 +149,6 @@ fn tell_warnings<D: Desk>(
 {
     if has_failed(put) {
         return;
-    }
-    if put.is_ok() {
-        // Without memory for it there is no warning.
-        let _told = warnings.end(alloc);
     }
     for line in warnings.lines() {
         desk.note(line.as_str());
@@ -200,7 +189,7 @@ fn put_stil<D: Desk>(
         &mut input,
         desk,
     );
-    tell_warnings(alloc, &put, &mut warnings, desk);
+    tell_warnings(&put, &warnings, desk);
     put
 }
 

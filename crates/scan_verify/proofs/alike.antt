@@ -1,3 +1,4 @@
 pub mod Headings
-pub mod Clauses
-pub mod Kept
+pub mod Cutting
+pub mod NameFronts
+pub mod Passing

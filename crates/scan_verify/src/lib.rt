@@ -13,7 +13,7 @@ mod laws;
 mod patterns;
 mod statement;
 
-pub use alike::{have_same_heading, have_same_names, have_same_tokens, same_head, staying_tokens};
+pub use alike::{StayingTokens, have_same_heading, have_same_names, have_same_tokens, same_head};
 pub use call::{expected_by, first_difference, loaded_by, same_call};
 pub use laws::back_law;
 pub use patterns::{Sameness, same_patterns};

@@ -11,7 +11,7 @@ use Rattle.same_files.specs.Cells.{HaveSameScanCells}
 use Rattle.path_chains.specs.Ranked.{bits_of_all}
 use Rattle.verify_command.specs.declared.places.Difference.{Difference}
 use Rattle.verify_command.specs.declared.places.Place.{Place}
-use Rattle.verify_command.specs.declared.unlike.Unlike.{Unlike}
+use Rattle.verify_command.specs.declared.statement_notes.Unlike.{Unlike}
 
 -- names were passed, and no statement
 pub record Passes (old new : Ahead) : Type 0 where

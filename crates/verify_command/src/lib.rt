@@ -6,18 +6,21 @@
 //! stil_reader, stil_tester, stil_written, head_alike, scan_verify, retarget, same_files, declared_chains and `itoa`.
 //! Contract: `verify_text` says what `specs/Texts.antt` says, or answers the first fault of `specs/Faults.antt`; it says `same` exactly
 //! where the sets are the same (`specs/Same.antt` of same_files). `read_new`, `are_same_sets` and
-//! `next_statement` serve whoever goes on with two sets that are the same, and `first_unlike` whoever says what differs. Begin with
-//! `verify.rt`.
+//! `next_statement` serve whoever goes on with two sets that are the same. `difference_note` tells a user what differs; no clause speaks
+//! of that. Begin with `verify.rt`.
 #![tactic(auto)]
 
+mod head_notes;
 mod items;
+mod notes;
+mod pair_notes;
 mod places;
 mod sets;
+mod statement_notes;
 mod text;
-mod unlike;
 mod verify;
 
 pub use items::next_statement;
+pub use notes::{SetNames, difference_note};
 pub use sets::are_same_sets;
-pub use unlike::{Unlike, first_unlike};
 pub use verify::{read_new, verify_text};

@@ -11,7 +11,7 @@ use scan_verify::{have_same_names, same_head};
 use std::alloc::Global;
 
 /// Whether two sets, each with its STIL text of less than 4 GiB, are the same to a tester: equal
-/// heads but for the lengths, inversions and cells of ScanChains, as many chains with the same scan cells, Patterns
+/// heads but for lengths, inversions and cells, as many chains with the same scan cells, Patterns
 /// of equal names, and the same statements but for the data of scan calls, which show the same. One
 /// statement of each is held at a time; want of memory is the only refusal.
 pub fn are_same_sets(
@@ -27,7 +27,7 @@ pub fn are_same_sets(
     requires new_patterns { ArePatternsOf new_stil.now new.now }
     ensures value { IfOk result (λ same. IsTrue same ↔ AreSameSets old.now stil.now new.now new_stil.now) }
 {
-    if !same_head(alloc, head_text(stil, old), head_text(new_stil, new))? {
+    if !same_head(head_text(stil, old), head_text(new_stil, new)) {
         return Ok(false);
     }
     if !have_same_cells(alloc, old, new)? {

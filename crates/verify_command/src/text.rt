@@ -63,7 +63,7 @@ pub(crate) fn compared(
     requires new_patterns { ArePatternsOf new_stil.now new.now }
     ensures value { IfOk result (Says (meant_by old.now stil.now) (meant_by new.now new_stil.now) (AreAlikeSets old.now new.now)) }
 {
-    if !same_head(alloc, head_text(stil, old), head_text(new_stil, new))? {
+    if !same_head(head_text(stil, old), head_text(new_stil, new)) {
         return Text::copy(alloc, b"differs head\n");
     }
     if !have_same_cells(alloc, old, new)? {

@@ -82,7 +82,6 @@ fn reorder_made<P: Progress>(alloc: Global, files: &Files, progress: &P) -> Resu
         def: _def,
         figures,
         patterns,
-        warnings: _warnings,
     } = reorder_texts(
         alloc,
         files.table.bytes(),

@@ -5,7 +5,6 @@ ghost use Rattle.scan_job.specs.Commands.Reorder.{design_request, figure_line, m
 
 use crate::commands::{Command, Whole};
 use crate::copying::word_of;
-use crate::warning::note_with;
 use base_types::{Name, NoMemory, ReadFault, Rows, Text, Word};
 use desk_io::{Inputs, Names, Outputs, Slot};
 use order_search::Effort;
@@ -220,15 +219,13 @@ impl Whole for ReorderRequest {
         let def = inputs.text(Slot::Def);
         let made = reorder_texts(alloc, table, lef, verilog, def, None, self.goal, progress)?;
         let console = Text::of(figure_lines(alloc, &made.figures)?);
-        let note = note_of(alloc, &made.figures.measured)?;
-        let note = note_with(alloc, note, self, made.warnings.as_slice());
         Ok(Outputs {
             verilog: made.verilog,
             def: made.def,
             stil: Text::of(Vec::new(alloc)),
             svg: Text::of(Vec::new(alloc)),
             console,
-            note,
+            note: note_of(alloc, &made.figures.measured)?,
         })
     }
 

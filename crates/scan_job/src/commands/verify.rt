@@ -9,8 +9,7 @@ use desk_io::{Inputs, Names, Outputs, Slot};
 use reorder_command::Progress;
 use scan_words::Order;
 use std::alloc::Global;
-use verify_command::verify_text;
-use verify_notes::{SetNames, difference_note};
+use verify_command::{SetNames, difference_note, verify_text};
 
 /// What is said of two sets that are the same.
 const SAME: &[u8] = b"same\n";

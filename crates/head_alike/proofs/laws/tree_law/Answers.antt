@@ -1,7 +1,6 @@
-use Rattle.head_alike.proofs.Trees.{joined_law, inner_law}
-use Rattle.head_alike.proofs.Erased.{block_law}
+use Rattle.head_alike.proofs.Trees.{joined_law, inner_law, erased_law}
 use Rattle.head_alike.proofs.Turning.{clauses_law}
 use Rattle.head_alike.proofs.laws.tree_law.Goals as goal
 
 pub returns : goal.returns
-returns c = record { joined = joined_law; inner = inner_law; block = block_law; clauses = clauses_law }
+returns c = record { joined = joined_law; inner = inner_law; erased = erased_law; clauses = clauses_law }

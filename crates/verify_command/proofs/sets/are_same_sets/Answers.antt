@@ -8,17 +8,17 @@ use Rattle.verify_command.proofs.Ahead.{same_meaning}
 use Rattle.verify_command.proofs.SameSets.{not_same}
 use Rattle.verify_command.proofs.sets.are_same_sets.Goals as goal
 
-pub returns-then-not-branch : goal.returns-then-not-branch
-returns-then-not-branch c =
+pub returns-then-not-same_head : goal.returns-then-not-same_head
+returns-then-not-same_head c =
     let a = meant_by c.args.old.now c.args.stil.now in
     let b = meant_by c.args.new.now c.args.new_stil.now in
     let differ : a.head ≡ b.head → ⊥ =
-    λ e. true≢false (sym (c.in_ok-same_head.ensures.value.1 (ap head_tokens c.head_text.ensures.value ∙ e ∙ sym (ap head_tokens c.head_text-2.ensures.value))) ∙ c.if-not-branch.true) in
+    λ e. true≢false (sym (c.same_head.ensures.value.1 (ap head_tokens c.head_text.ensures.value ∙ e ∙ sym (ap head_tokens c.head_text-2.ensures.value))) ∙ c.if-not-same_head.true) in
     record { value = (λ e. absurd (false≢true e), λ s. absurd (differ s.meaning.head)) }
 
-pub returns-then-not-branch-2 : goal.returns-then-not-branch-2
-returns-then-not-branch-2 c =
-    let differ : AreAlikeSets c.args.old.now c.args.new.now → ⊥ = λ cells. true≢false (sym (c.in_ok-have_same_cells.ensures.value.1 cells) ∙ c.if-not-branch-2.true) in
+pub returns-then-not-branch : goal.returns-then-not-branch
+returns-then-not-branch c =
+    let differ : AreAlikeSets c.args.old.now c.args.new.now → ⊥ = λ cells. true≢false (sym (c.in_ok-have_same_cells.ensures.value.1 cells) ∙ c.if-not-branch.true) in
     record { value = (λ e. absurd (false≢true e), λ s. absurd (differ s.cells)) }
 
 pub returns-then-not-have_same_names : goal.returns-then-not-have_same_names
@@ -40,10 +40,10 @@ pub returns-in-None : goal.returns-in-None
 returns-in-None c =
     let a = meant_by c.args.old.now c.args.stil.now in
     let b = meant_by c.args.new.now c.args.new_stil.now in
-    let head : a.head ≡ b.head = sym (ap head_tokens c.head_text.ensures.value) ∙ c.in_ok-same_head.ensures.value.0 c.if-not-branch.false ∙ ap head_tokens c.head_text-2.ensures.value in
-    let cells : AreAlikeSets c.args.old.now c.args.new.now = c.in_ok-have_same_cells.ensures.value.0 c.if-not-branch-2.false in
+    let head : a.head ≡ b.head = sym (ap head_tokens c.head_text.ensures.value) ∙ c.same_head.ensures.value.0 c.if-not-same_head.false ∙ ap head_tokens c.head_text-2.ensures.value in
+    let cells : AreAlikeSets c.args.old.now c.args.new.now = c.in_ok-have_same_cells.ensures.value.0 c.if-not-branch.false in
     let names : a.names ≡ b.names = sym c.names.ensures.value ∙ c.have_same_names.ensures.value.0 c.if-not-have_same_names.false ∙ c.names-2.ensures.value in
     let same = subst (λ (o : Option Place). IsPlaceOf a.played b.played o) c.in-None.is c.in_ok-_differs.ensures.value in
     let meaning = same_meaning c.args.old.now c.args.new.now c.args.stil.now c.args.new_stil.now c.requires.old_patterns c.requires.new_patterns head names
-    (c.in_ok-have_same_cells.ensures.count c.if-not-branch-2.false) same in
+    (c.in_ok-have_same_cells.ensures.count c.if-not-branch.false) same in
     record { value = (λ e. record { cells = cells; meaning = meaning }, λ s. refl) }

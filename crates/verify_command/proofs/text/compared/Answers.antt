@@ -9,31 +9,31 @@ use Rattle.verify_command.specs.Steps.{AreAlikeSets, IsPlaceOf}
 use Rattle.verify_command.proofs.Ahead.{same_meaning}
 use Rattle.verify_command.proofs.text.compared.Goals as goal
 
+pub returns-then-not-same_head : goal.returns-then-not-same_head
+returns-then-not-same_head c =
+    let a = meant_by c.args.old.now c.args.stil.now in
+    let b = meant_by c.args.new.now c.args.new_stil.now in
+    let alike = AreAlikeSets c.args.old.now c.args.new.now in
+    let differ : a.head ≡ b.head → ⊥ =
+    λ e. true≢false (sym (c.same_head.ensures.value.1 (ap head_tokens c.head_text.ensures.value ∙ e ∙ sym (ap head_tokens c.head_text-2.ensures.value))) ∙ c.if-not-same_head.true) in
+    record { value = IfOk-weaker c.copy.result _ _ (λ text e. subst (Says a b alike) (sym e) (Head differ)) c.copy.ensures.value }
+
 pub returns-then-not-branch : goal.returns-then-not-branch
 returns-then-not-branch c =
     let a = meant_by c.args.old.now c.args.stil.now in
     let b = meant_by c.args.new.now c.args.new_stil.now in
     let alike = AreAlikeSets c.args.old.now c.args.new.now in
-    let differ : a.head ≡ b.head → ⊥ =
-    λ e. true≢false (sym (c.in_ok-same_head.ensures.value.1 (ap head_tokens c.head_text.ensures.value ∙ e ∙ sym (ap head_tokens c.head_text-2.ensures.value))) ∙ c.if-not-branch.true) in
-    record { value = IfOk-weaker c.copy.result _ _ (λ text e. subst (Says a b alike) (sym e) (Head differ)) c.copy.ensures.value }
-
-pub returns-then-not-branch-2 : goal.returns-then-not-branch-2
-returns-then-not-branch-2 c =
-    let a = meant_by c.args.old.now c.args.stil.now in
-    let b = meant_by c.args.new.now c.args.new_stil.now in
-    let alike = AreAlikeSets c.args.old.now c.args.new.now in
-    let head : a.head ≡ b.head = sym (ap head_tokens c.head_text.ensures.value) ∙ c.in_ok-same_head.ensures.value.0 c.if-not-branch.false ∙ ap head_tokens c.head_text-2.ensures.value in
-    let differ : alike → ⊥ = λ cells. true≢false (sym (c.in_ok-have_same_cells.ensures.value.1 cells) ∙ c.if-not-branch-2.true) in
-    record { value = IfOk-weaker c.copy-then-not-branch-2.result _ _ (λ text e. subst (Says a b alike) (sym e) (Cells head differ)) c.copy-then-not-branch-2.ensures.value }
+    let head : a.head ≡ b.head = sym (ap head_tokens c.head_text.ensures.value) ∙ c.same_head.ensures.value.0 c.if-not-same_head.false ∙ ap head_tokens c.head_text-2.ensures.value in
+    let differ : alike → ⊥ = λ cells. true≢false (sym (c.in_ok-have_same_cells.ensures.value.1 cells) ∙ c.if-not-branch.true) in
+    record { value = IfOk-weaker c.copy-then-not-branch.result _ _ (λ text e. subst (Says a b alike) (sym e) (Cells head differ)) c.copy-then-not-branch.ensures.value }
 
 pub returns-then-not-have_same_names : goal.returns-then-not-have_same_names
 returns-then-not-have_same_names c =
     let a = meant_by c.args.old.now c.args.stil.now in
     let b = meant_by c.args.new.now c.args.new_stil.now in
     let alike = AreAlikeSets c.args.old.now c.args.new.now in
-    let head : a.head ≡ b.head = sym (ap head_tokens c.head_text.ensures.value) ∙ c.in_ok-same_head.ensures.value.0 c.if-not-branch.false ∙ ap head_tokens c.head_text-2.ensures.value in
-    let cells : alike = c.in_ok-have_same_cells.ensures.value.0 c.if-not-branch-2.false in
+    let head : a.head ≡ b.head = sym (ap head_tokens c.head_text.ensures.value) ∙ c.same_head.ensures.value.0 c.if-not-same_head.false ∙ ap head_tokens c.head_text-2.ensures.value in
+    let cells : alike = c.in_ok-have_same_cells.ensures.value.0 c.if-not-branch.false in
     let differ : a.names ≡ b.names → ⊥ = λ e. false≢true (c.if-not-have_same_names.ensures.value.1 (c.names.ensures.value ∙ e ∙ sym c.names-2.ensures.value)) in
     record { value = IfOk-weaker c.copy-then-not-have_same_names.result _ _ (λ text e. subst (Says a b alike) (sym e) (Patterns head cells differ)) c.copy-then-not-have_same_names.ensures.value }
 
@@ -43,8 +43,8 @@ returns-in-Some c =
     let b = meant_by c.args.new.now c.args.new_stil.now in
     let alike = AreAlikeSets c.args.old.now c.args.new.now in
     let place = c.in-Some.place in
-    let head : a.head ≡ b.head = sym (ap head_tokens c.head_text.ensures.value) ∙ c.in_ok-same_head.ensures.value.0 c.if-not-branch.false ∙ ap head_tokens c.head_text-2.ensures.value in
-    let cells : alike = c.in_ok-have_same_cells.ensures.value.0 c.if-not-branch-2.false in
+    let head : a.head ≡ b.head = sym (ap head_tokens c.head_text.ensures.value) ∙ c.same_head.ensures.value.0 c.if-not-same_head.false ∙ ap head_tokens c.head_text-2.ensures.value in
+    let cells : alike = c.in_ok-have_same_cells.ensures.value.0 c.if-not-branch.false in
     let names : a.names ≡ b.names = sym c.names.ensures.value ∙ c.have_same_names.ensures.value.0 c.if-not-have_same_names.false ∙ c.names-2.ensures.value in
     let differs = subst (λ (o : Option Place). IsPlaceOf a.played b.played o) c.in-Some.is c.in_ok-place.ensures.value in
     record {
@@ -60,10 +60,10 @@ returns-in-None c =
     let a = meant_by c.args.old.now c.args.stil.now in
     let b = meant_by c.args.new.now c.args.new_stil.now in
     let alike = AreAlikeSets c.args.old.now c.args.new.now in
-    let head : a.head ≡ b.head = sym (ap head_tokens c.head_text.ensures.value) ∙ c.in_ok-same_head.ensures.value.0 c.if-not-branch.false ∙ ap head_tokens c.head_text-2.ensures.value in
-    let cells : alike = c.in_ok-have_same_cells.ensures.value.0 c.if-not-branch-2.false in
+    let head : a.head ≡ b.head = sym (ap head_tokens c.head_text.ensures.value) ∙ c.same_head.ensures.value.0 c.if-not-same_head.false ∙ ap head_tokens c.head_text-2.ensures.value in
+    let cells : alike = c.in_ok-have_same_cells.ensures.value.0 c.if-not-branch.false in
     let names : a.names ≡ b.names = sym c.names.ensures.value ∙ c.have_same_names.ensures.value.0 c.if-not-have_same_names.false ∙ c.names-2.ensures.value in
     let same = subst (λ (o : Option Place). IsPlaceOf a.played b.played o) c.in-None.is c.in_ok-place.ensures.value in
     let meaning = same_meaning c.args.old.now c.args.new.now c.args.stil.now c.args.new_stil.now c.requires.old_patterns c.requires.new_patterns head names
-    (c.in_ok-have_same_cells.ensures.count c.if-not-branch-2.false) same in
+    (c.in_ok-have_same_cells.ensures.count c.if-not-branch.false) same in
     record { value = IfOk-weaker c.copy-in-None.result _ _ (λ text e. subst (Says a b alike) (sym e) (Same cells meaning)) c.copy-in-None.ensures.value }

@@ -1,8 +1,0 @@
-use Rattle.std.proofs.Common.{length}
-use Rattle.design_warnings.proofs.texts.behind_end.Given as goal
-
-abbrev pub invariant-loop-token : goal.invariant-loop-token
-invariant-loop-token l = Unit {0}
-
-abbrev pub decreases-loop-token : goal.decreases-loop-token
-decreases-loop-token l = length l.lexer.spans
