@@ -73,15 +73,18 @@ fn is_apart(form: ValueForm) -> bool {
 
 /// The first two options with one value that may not have one, in the order in which they stand.
 fn same_reason<'a>(given: &[GivenOption<'a>]) -> Option<Reason<'a>> {
-    let mut rest = given;
-    while let [one, others @ ..] = rest {
+    for (place, one) in given.iter().enumerate() {
         let form = one.name.value_form();
-        for other in others {
-            if is_apart(form) && other.name.value_form() == form && other.value == one.value {
+        for other in given.iter().skip(place) {
+            let is_other = other.name != one.name;
+            if is_other
+                && is_apart(form)
+                && other.name.value_form() == form
+                && other.value == one.value
+            {
                 return Some(Reason::Same(one.name, other.name, one.value));
             }
         }
-        rest = others;
     }
     None
 }
