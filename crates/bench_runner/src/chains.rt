@@ -1,7 +1,7 @@
 //! Many chains on one path, each of one element between a START and a STOP cell.
 ghost use Rattle.std.specs.Prelude.{ℕ, ◌<◌, ◌^◌};
 
-use anyhow::{Context, Result, bail, ensure};
+use anyhow::{Result, bail};
 use base_types::{NoMemory, Rows};
 use chain_rules::{
     ChainSpec, ElementSpec, EndSpec, ListSpec, PathSpec, StepSpec, are_chains, units_of,
@@ -81,8 +81,11 @@ pub(crate) fn run_chains(
         bail!("no memory");
     };
     let (paths, chains) = (paths.as_slice(), chains.as_slice());
-    let are_sound = are_chains(rt.alloc(), paths, chains).ok();
-    ensure!(are_sound.context("no memory")?, "no chains");
+    match are_chains(rt.alloc(), paths, chains) {
+        Ok(true) => {}
+        Ok(false) => bail!("no chains"),
+        Err(_) => bail!("no memory"),
+    }
     let start = Instant::now(rt)?;
     let Ok(rules) = units_of(rt.alloc(), paths, chains) else {
         bail!("a fault");
