@@ -8,6 +8,7 @@ ghost use Rattle.desk_io.specs.Number.{number};
 use crate::failure::{Act, Cause, Failure, file_text};
 use crate::progress::{Progress, shown_text};
 use desk_io::{Desk, Failed, SLOTS, Slot, Stage, Way};
+use std::alloc::Global;
 use std::fs::{File, Metadata};
 use std::io::{ErrorKind, Read, Write};
 use std::os::unix::fs::MetadataExt;
@@ -102,13 +103,64 @@ struct Use {
     file: Option<Identity>,
 }
 
+/// What is known of all slots that were to be opened.
+#[derive(Drop)]
+struct Uses {
+    slots: [Option<Use>; SLOTS],
+}
+
+impl Uses {
+    /// No slot was to be opened.
+    fn new() -> Uses {
+        Uses {
+            slots: [
+                None, None, None, None, None, None, None, None, None, None, None, None, None,
+            ],
+        }
+    }
+
+    /// Notes by which name a slot is opened, and which file that is.
+    fn note(&mut self, alloc: Global, slot: Slot, name: &str, file: Option<Identity>) {
+        self.slots[slot.number()] = Some(Use {
+            slot,
+            name: String::from_str(alloc, name).ok(),
+            file,
+        });
+    }
+
+    /// At which slot the file was opened, under whatever name.
+    fn slot_of(&self, file: Option<Identity>) -> Option<Slot> {
+        for known in &self.slots {
+            if let Some(known) = known {
+                if file.is_some() && known.file == file {
+                    return Some(known.slot);
+                }
+            }
+        }
+        None
+    }
+
+    /// The name of a slot's file, empty where it isn't known.
+    fn name_of(&self, slot: Slot) -> &str {
+        match &self.slots[slot.number()] {
+            Some(
+                Use {
+                    name: Some(name),
+                    ..
+                },
+            ) => name.as_str(),
+            _ => "",
+        }
+    }
+}
+
 /// Real files, opened by their names, and standard output as the console. How far it is, it tells on a terminal, and at the end why a call
 /// failed.
 #[derive(Drop)]
 pub struct FileDesk {
     rt: HostRuntime,
     files: [Option<File>; SLOTS],
-    uses: [Option<Use>; SLOTS],
+    uses: Uses,
     stages: [Stage; SLOTS],
     faults: [u64; SLOTS],
     failure: Option<Failure>,
@@ -126,26 +178,12 @@ impl FileDesk {
             files: [
                 None, None, None, None, None, None, None, None, None, None, None, None, None,
             ],
-            uses: [
-                None, None, None, None, None, None, None, None, None, None, None, None, None,
-            ],
+            uses: Uses::new(),
             stages: [Stage::Unopened; SLOTS],
             faults: [0; SLOTS],
             failure: None,
             progress: Progress::new(rt),
         }
-    }
-
-    /// At which slot this run has opened the file, under whatever name.
-    fn slot_of(&self, file: Option<Identity>) -> Option<Slot> {
-        for known in &self.uses {
-            if let Some(known) = known {
-                if file.is_some() && known.file == file {
-                    return Some(known.slot);
-                }
-            }
-        }
-        None
     }
 
     /// Which file stands there.
@@ -157,7 +195,7 @@ impl FileDesk {
     /// the figures or the notes go, as these would stand in its text.
     fn create(&self, name: &str) -> Result<File, Cause> {
         let file = self.file_at(name);
-        if let Some(slot) = self.slot_of(file) {
+        if let Some(slot) = self.uses.slot_of(file) {
             return Err(Cause::FileOf(slot));
         }
         if file.is_some() && self.file_at(CONSOLE) == file {
@@ -171,31 +209,9 @@ impl FileDesk {
 
     /// Finds that the console isn't a file that this run has opened.
     fn open_console(&self) -> Result<Option<File>, Cause> {
-        match self.slot_of(self.file_at(CONSOLE)) {
+        match self.uses.slot_of(self.file_at(CONSOLE)) {
             Some(slot) => Err(Cause::FileOf(slot)),
             None => Ok(None),
-        }
-    }
-
-    /// Notes by which name a slot is opened, and which file that is.
-    fn use_of(&self, slot: Slot, name: &str, file: Option<Identity>) -> Use {
-        Use {
-            slot,
-            name: String::from_str(self.rt.alloc(), name).ok(),
-            file,
-        }
-    }
-
-    /// The name of a slot's file, empty where it isn't known.
-    fn name_of(&self, slot: Slot) -> &str {
-        match &self.uses[slot.number()] {
-            Some(
-                Use {
-                    name: Some(name),
-                    ..
-                },
-            ) => name.as_str(),
-            _ => "",
         }
     }
 
@@ -209,10 +225,10 @@ impl FileDesk {
     /// What was done with the first file that is still open, where memory suffices for it.
     fn open_file_text(&self) -> Option<String> {
         let alloc = self.rt.alloc();
-        for known in &self.uses {
+        for known in &self.uses.slots {
             if let Some(known) = known {
                 if self.files[known.slot.number()].is_some() {
-                    let file = file_text(alloc, known.slot, self.name_of(known.slot))?;
+                    let file = file_text(alloc, known.slot, self.uses.name_of(known.slot))?;
                     let act = match known.slot.way() {
                         Way::In(_) => "read",
                         Way::Out(_) => "written",
@@ -238,7 +254,7 @@ impl FileDesk {
     pub fn end(&self) {
         self.progress.erase();
         if let Some(failure) = &self.failure {
-            let name = self.name_of(failure.slot);
+            let name = self.uses.name_of(failure.slot);
             if let Some(line) = failure.text(self.rt.alloc(), name) {
                 self.tell(line.as_str());
             }
@@ -267,13 +283,13 @@ impl Desk for FileDesk {
             Ok(file) => {
                 self.progress.open(slot, name, &file);
                 let identity = file.as_ref().and_then(|file| identity_of(file.metadata()));
-                self.uses[at] = Some(self.use_of(slot, name, identity));
+                self.uses.note(self.rt.alloc(), slot, name, identity);
                 self.files[at] = file;
                 self.stages[at] = Stage::Open;
                 Ok(())
             }
             Err(cause) => {
-                self.uses[at] = Some(self.use_of(slot, name, None));
+                self.uses.note(self.rt.alloc(), slot, name, None);
                 self.failure = Some(Failure {
                     slot,
                     act: Act::Open,
