@@ -103,10 +103,11 @@ struct Use {
     file: Option<Identity>,
 }
 
-/// What is known of all slots that were to be opened.
+/// What is known of all slots that were to be opened, and why a call failed.
 #[derive(Drop)]
 struct Uses {
     slots: [Option<Use>; SLOTS],
+    failure: Option<Failure>,
 }
 
 impl Uses {
@@ -116,7 +117,19 @@ impl Uses {
             slots: [
                 None, None, None, None, None, None, None, None, None, None, None, None, None,
             ],
+            failure: None,
         }
+    }
+
+    /// Notes why a call failed.
+    fn fail(&mut self, slot: Slot, act: Act, cause: Cause) {
+        self.failure = Some(Failure { slot, act, cause });
+    }
+
+    /// Notes why a slot can't be opened by a name.
+    fn refuse(&mut self, alloc: Global, slot: Slot, name: &str, cause: Cause) {
+        self.note(alloc, slot, name, None);
+        self.fail(slot, Act::Open, cause);
     }
 
     /// Notes by which name a slot is opened, and which file that is.
@@ -163,7 +176,6 @@ pub struct FileDesk {
     uses: Uses,
     stages: [Stage; SLOTS],
     faults: [u64; SLOTS],
-    failure: Option<Failure>,
     progress: Progress,
 }
 
@@ -181,7 +193,6 @@ impl FileDesk {
             uses: Uses::new(),
             stages: [Stage::Unopened; SLOTS],
             faults: [0; SLOTS],
-            failure: None,
             progress: Progress::new(rt),
         }
     }
@@ -253,7 +264,7 @@ impl FileDesk {
     /// Takes away what was told of how far it is, and tells which call failed.
     pub fn end(&self) {
         self.progress.erase();
-        if let Some(failure) = &self.failure {
+        if let Some(failure) = &self.uses.failure {
             let name = self.uses.name_of(failure.slot);
             if let Some(line) = failure.text(self.rt.alloc(), name) {
                 self.tell(line.as_str());
@@ -289,12 +300,7 @@ impl Desk for FileDesk {
                 Ok(())
             }
             Err(cause) => {
-                self.uses.note(self.rt.alloc(), slot, name, None);
-                self.failure = Some(Failure {
-                    slot,
-                    act: Act::Open,
-                    cause,
-                });
+                self.uses.refuse(self.rt.alloc(), slot, name, cause);
                 self.faults[at] = self.faults[at].saturating_add(1);
                 Err(Failed)
             }
@@ -313,11 +319,7 @@ impl Desk for FileDesk {
                 Ok(count)
             }
             Err(cause) => {
-                self.failure = Some(Failure {
-                    slot,
-                    act: Act::Read,
-                    cause,
-                });
+                self.uses.fail(slot, Act::Read, cause);
                 self.faults[at] = self.faults[at].saturating_add(1);
                 Err(Failed)
             }
@@ -341,11 +343,7 @@ impl Desk for FileDesk {
             }
             Err(error) => (Err(Failed), Cause::System(error)),
         };
-        self.failure = Some(Failure {
-            slot,
-            act: Act::Write,
-            cause,
-        });
+        self.uses.fail(slot, Act::Write, cause);
         self.faults[at] = self.faults[at].saturating_add(1);
         answer
     }
@@ -357,11 +355,7 @@ impl Desk for FileDesk {
             _ => Ok(()),
         };
         if let Err(error) = kept {
-            self.failure = Some(Failure {
-                slot,
-                act: Act::Sync,
-                cause: Cause::System(error),
-            });
+            self.uses.fail(slot, Act::Sync, Cause::System(error));
             self.faults[at] = self.faults[at].saturating_add(1);
             return Err(Failed);
         }
