@@ -9,7 +9,7 @@ CLAUSES = "clauses.md"
 # stands in it for what a loop keeps
 LOOP = "loop"
 # what the prover says of a goal that a search left open: its place, what it is about, and its name
-OPEN = re.compile(r"(src/[\w/]+\.rt):(\d+):\d+: (?:error[^:]*: )?it is not proved that ([^(`]*)\(`([^`]+)`\)")
+OPEN = re.compile(r"(src/[\w/]+\.rt):(\d+):\d+: (?:error[^:]*: )?it is not proved that ([^(]*)\(`([^`]+)`\)")
 RETURNS = "what the function ensures holds when it returns"
 # what it says of a goal that a file of answers no longer proves
 ANSWERED = re.compile(r"proofs/([\w/+]+)/\w+\.antt:\d+:\d+: error: `([\w+-]+)`")
@@ -17,7 +17,7 @@ ANSWERED = re.compile(r"proofs/([\w/+]+)/\w+\.antt:\d+:\d+: error: `([\w+-]+)`")
 
 def meant(folder):
     """Of each edit of a folder the function and the clauses that are to refuse it, by a line `EDIT: MODULE::FUNCTION CLAUSE..`: `-` for one without a
-    label, and `loop` for what a loop of the function keeps."""
+    label, `loop` for what a loop of the function keeps, and `CALL-requires..`, as the prover names it, for what an inner call asks for."""
     path, told = os.path.join(folder, CLAUSES), {}
     for line in text_of(path).split("\n") if os.path.isfile(path) else ():
         edit, _, rest = line.partition(": ")
@@ -97,6 +97,9 @@ def judged(edit, told, clauses, others):
         return "no line of %s says which clause is to refuse it" % CLAUSES
     function, wanted = told[edit]
     if any(name == function and label in wanted for name, label in clauses):
+        return None
+    # (a wrong line inside a body may break what an inner call asks for)
+    if any(name == function and "-requires" in goal and goal in wanted for name, goal in others):
         return None
     if LOOP in wanted and any(name == function and goal.startswith("loop-") for name, goal in others):
         return None
