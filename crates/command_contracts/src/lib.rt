@@ -7,18 +7,18 @@
 //! Each function is a public call's contract with the call as its body, so a contract that promises less is not proved here.
 #![tactic(auto)]
 
-pub mod bound_command;
-pub mod check_command;
-pub mod design_maker;
-pub mod draw_command;
-pub mod failmap_command;
-pub mod made_law;
+pub mod bound_command_calls;
+pub mod check_command_calls;
+pub mod design_maker_calls;
+pub mod draw_command_calls;
+pub mod failmap_command_calls;
+pub mod made_law_calls;
 pub mod made_law_laws;
 pub mod made_law_paths;
-pub mod play_command;
-pub mod reorder_command;
-pub mod rewire_command;
-pub mod scan_job;
-pub mod trace_command;
-pub mod verify_command;
-pub mod written_meaning;
+pub mod play_command_calls;
+pub mod reorder_command_calls;
+pub mod rewire_command_calls;
+pub mod scan_job_calls;
+pub mod trace_command_calls;
+pub mod verify_command_calls;
+pub mod written_meaning_calls;

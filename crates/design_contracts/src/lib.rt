@@ -6,9 +6,9 @@
 //! Each function is a public call's contract with the call as its body, so a contract that promises less is not proved here.
 #![tactic(auto)]
 
-pub mod chain_trace;
-pub mod def_writer;
-pub mod head_writer;
-pub mod net_edit;
-pub mod path_links;
-pub mod verilog_writer;
+pub mod chain_trace_calls;
+pub mod def_writer_calls;
+pub mod head_writer_calls;
+pub mod net_edit_calls;
+pub mod path_links_calls;
+pub mod verilog_writer_calls;

@@ -4,6 +4,6 @@
 //! Each function is a public call's contract with the call as its body, so a contract that promises less is not proved here.
 #![tactic(auto)]
 
-pub mod desk_io;
-pub mod scan_words;
-pub mod stil_input;
+pub mod desk_io_calls;
+pub mod scan_words_calls;
+pub mod stil_input_calls;

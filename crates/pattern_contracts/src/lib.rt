@@ -5,8 +5,8 @@
 //! Each function is a public call's contract with the call as its body, so a contract that promises less is not proved here.
 #![tactic(auto)]
 
-pub mod retarget;
-pub mod retargeted_patterns;
-pub mod scan_verify;
-pub mod stil_tester;
-pub mod stil_writer;
+pub mod retarget_calls;
+pub mod retargeted_patterns_calls;
+pub mod scan_verify_calls;
+pub mod stil_tester_calls;
+pub mod stil_writer_calls;

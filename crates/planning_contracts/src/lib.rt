@@ -5,9 +5,9 @@
 //! Each function is a public call's contract with the call as its body, so a contract that promises less is not proved here.
 #![tactic(auto)]
 
-pub mod chain_rules;
-pub mod lane_kernels;
-pub mod length_bound;
-pub mod order_search;
-pub mod partition_moves;
-pub mod wire_cost;
+pub mod chain_rules_calls;
+pub mod lane_kernels_calls;
+pub mod length_bound_calls;
+pub mod order_search_calls;
+pub mod partition_moves_calls;
+pub mod wire_cost_calls;

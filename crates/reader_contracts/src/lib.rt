@@ -5,12 +5,12 @@
 //! Each function is a public call's contract with the call as its body, so a contract that promises less is not proved here.
 #![tactic(auto)]
 
-pub mod cell_table;
-pub mod def_reader;
-pub mod lef_pins;
-pub mod netlist_core;
-pub mod stil_head;
-pub mod stil_parts;
-pub mod stil_reader;
-pub mod stil_stream;
-pub mod verilog_reader;
+pub mod cell_table_calls;
+pub mod def_reader_calls;
+pub mod lef_pins_calls;
+pub mod netlist_core_calls;
+pub mod stil_head_calls;
+pub mod stil_parts_calls;
+pub mod stil_reader_calls;
+pub mod stil_stream_calls;
+pub mod verilog_reader_calls;
