@@ -83,8 +83,9 @@ impl<'r> Giving<'r> {
         let mut numbers: HashMap<u32, usize> = HashMap::new(alloc);
         for (rule, units) in rules.chains.as_slice().iter().zip(plan.lists()) {
             let bits = bits_of(rules, units.as_slice());
-            let group = match numbers.get(&rule.partition) {
-                Some(group) => *group,
+            let known = numbers.get(&rule.partition).copied();
+            let group = match known {
+                Some(group) => group,
                 None => {
                     let group = giving.groups.len();
                     numbers.insert(rule.partition, group)?;
@@ -150,11 +151,10 @@ impl<'r> Giving<'r> {
         reached: &mut Vec<Reached>,
         queue: &mut Vec<usize>,
     ) -> Result<Option<usize>, NoMemory> {
-        let group = self
-            .group_of
-            .get(giver)
-            .and_then(|group| self.groups.get(*group));
-        let Some(chains) = group else {
+        let Some(group) = self.group_of.get(giver) else {
+            return Ok(None);
+        };
+        let Some(chains) = self.groups.get(*group) else {
             return Ok(None);
         };
         for taker in chains {

@@ -39,6 +39,9 @@ fn listed(alloc: Global, chains: &[ChainSpec]) -> Result<HashSet<Key>, NoMemory>
 
 /// A net of a step's out pins that has another reader than the next sink of the path.
 fn read_beside(read: &ReadDesign<'_>, readers: &Readers, step: Step) -> Option<NetId> {
+    if step.instance as usize >= read.netlist.instances.as_slice().len() {
+        return None;
+    }
     let path = scan_path(read.netlist, read.table, step.instance, step.path)?;
     for at in 0..path.outs.as_slice().len() {
         if let Some(out) = path.outs.as_slice().get(at) {

@@ -83,9 +83,9 @@ fn behind_end(def: &[u8]) -> Option<(usize, bool)>
     while let Some(token) = lexer.next() {
         if ends && token.text == b"DESIGN".as_slice() {
             let first = lexer.next()?;
-            let has_chains = first.text == b"SCANCHAINS".as_slice()
-                || lexer.has_word(b"SCANCHAINS");
-            return Some((first.span.start as usize, has_chains));
+            let is_chains = first.text == b"SCANCHAINS".as_slice();
+            let has_chains = lexer.has_word(b"SCANCHAINS");
+            return Some((first.span.start as usize, is_chains || has_chains));
         }
         ends = token.text == b"END".as_slice();
     }

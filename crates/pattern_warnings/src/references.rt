@@ -176,7 +176,7 @@ impl<'a> BitRange<'a> {
     /// The names of the bits, from the left.
     pub(crate) fn names(&self, alloc: Global) -> Result<Vec<Vec<u8>>, NoMemory> {
         let mut names = Vec::new(alloc);
-        for step in 0..=self.steps() {
+        for step in 0..self.steps().saturating_add(1) {
             let bit = if self.left < self.right {
                 self.left.saturating_add(step)
             } else {

@@ -21,7 +21,7 @@ struct Entry {
     /// Whether a warning was given of it.
     told: bool,
     /// The signals of a group in their order.
-    members: Option<Vec<u32>>,
+    members: Option<Vec<usize>>,
     /// Whether this order is known.
     exact: bool,
 }
@@ -29,8 +29,8 @@ struct Entry {
 /// A signal of an expression, and by which entry it is named there.
 #[derive(Clone, Copy)]
 pub(crate) struct Slot {
-    pub(crate) signal: u32,
-    pub(crate) named: u32,
+    pub(crate) signal: usize,
+    pub(crate) named: usize,
 }
 
 /// The signals of an expression.
@@ -96,12 +96,15 @@ impl Compares {
         if !slots.exact {
             return Ok(Compares { letters: None });
         }
-        match letters_of(alloc, data)? {
-            Some(letters) if letters.len() == slots.all.len() => Ok(Compares {
-                letters: Some(letters),
-            }),
-            _ => Ok(Compares { letters: None }),
+        let Some(letters) = letters_of(alloc, data)? else {
+            return Ok(Compares { letters: None });
+        };
+        if letters.len() != slots.all.len() {
+            return Ok(Compares { letters: None });
         }
+        Ok(Compares {
+            letters: Some(letters),
+        })
     }
 
     /// Whether the signal at a place may be compared.
@@ -122,20 +125,26 @@ impl Scope {
 
     /// How many names are scan-out ports or groups with one.
     pub(crate) fn shown(&self) -> usize {
-        self.entries.values().filter(|entry| entry.shows).count()
+        let mut shown = 0usize;
+        for at in 0..self.entries.len() {
+            if self.shows(at) {
+                shown = shown.saturating_add(1);
+            }
+        }
+        shown
     }
 
     /// The name of an entry.
-    pub(crate) fn name(&self, at: u32) -> &[u8] {
-        match self.entries.get_index(at as usize) {
+    pub(crate) fn name(&self, at: usize) -> &[u8] {
+        match self.entries.get_index(at) {
             Some((name, _entry)) => name.as_slice(),
             None => b"",
         }
     }
 
     /// Whether an entry is a scan-out port, or a group with one.
-    pub(crate) fn shows(&self, at: u32) -> bool {
-        match self.entries.get_index(at as usize) {
+    pub(crate) fn shows(&self, at: usize) -> bool {
+        match self.entries.get_index(at) {
             Some((_name, entry)) => entry.shows,
             None => false,
         }
@@ -165,8 +174,8 @@ impl Scope {
     }
 
     /// Tells an entry; whether it wasn't told before.
-    pub(crate) fn tell(&mut self, at: u32) -> bool {
-        match self.entries.get_index_mut(at as usize) {
+    pub(crate) fn tell(&mut self, at: usize) -> bool {
+        match self.entries.get_index_mut(at) {
             Some(entry) => {
                 let fresh = !entry.told;
                 entry.told = true;
@@ -177,9 +186,9 @@ impl Scope {
     }
 
     /// The place of a signal, which is known from here on.
-    pub(crate) fn signal(&mut self, alloc: Global, name: &[u8]) -> Result<u32, NoMemory> {
+    pub(crate) fn signal(&mut self, alloc: Global, name: &[u8]) -> Result<usize, NoMemory> {
         if let Some(at) = self.entries.get_index_of(name) {
-            return Ok(at as u32);
+            return Ok(at);
         }
         let at = self.entries.len();
         let entry = Entry {
@@ -189,21 +198,21 @@ impl Scope {
             exact: true,
         };
         self.entries.insert(Vec::from_slice(alloc, name)?, entry)?;
-        Ok(at as u32)
+        Ok(at)
     }
 
     /// Makes a signal a scan-out port.
     pub(crate) fn add_output(&mut self, alloc: Global, name: &[u8]) -> Result<(), NoMemory> {
         let at = self.signal(alloc, name)?;
-        if let Some(entry) = self.entries.get_index_mut(at as usize) {
+        if let Some(entry) = self.entries.get_index_mut(at) {
             entry.shows = true;
         }
         Ok(())
     }
 
     /// Puts the signals of an entry, which it names.
-    fn put_entry(&self, at: u32, slots: &mut Slots) -> Result<(), NoMemory> {
-        let Some((_name, entry)) = self.entries.get_index(at as usize) else {
+    fn put_entry(&self, at: usize, slots: &mut Slots) -> Result<(), NoMemory> {
+        let Some((_name, entry)) = self.entries.get_index(at) else {
             return Ok(());
         };
         match &entry.members {
@@ -252,7 +261,7 @@ impl Scope {
             exact: true,
         };
         if let Some(at) = self.entries.get_index_of(name) {
-            self.put_entry(at as u32, &mut slots)?;
+            self.put_entry(at, &mut slots)?;
             return Ok(slots);
         }
         match BitRange::of(name) {
@@ -292,7 +301,7 @@ impl Scope {
         }
         let shows = self.shows_any(slots);
         let at = self.signal(alloc, name)?;
-        if let Some(entry) = self.entries.get_index_mut(at as usize) {
+        if let Some(entry) = self.entries.get_index_mut(at) {
             entry.shows = entry.shows || shows;
             entry.members = Some(members);
             entry.exact = slots.exact;

@@ -67,7 +67,7 @@ struct Judging<'a> {
     own: HeadText<'a>,
     name: String,
     /// The signals that get data as the Shift goes.
-    shifted: HashSet<u32>,
+    shifted: HashSet<usize>,
     lines: Vec<String>,
 }
 

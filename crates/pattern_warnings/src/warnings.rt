@@ -145,7 +145,12 @@ impl PatternWarnings {
         };
         for procedure in mem::replace(&mut self.procedures, Vec::new(alloc)) {
             if procedure.is_macro == is_macro && procedure.name == name {
-                for line in procedure.lines {
+                let Warned {
+                    name: _name,
+                    is_macro: _is_macro,
+                    lines,
+                } = procedure;
+                for line in lines {
                     self.lines.push(line)?;
                 }
             } else {
@@ -190,7 +195,7 @@ impl PatternWarnings {
     }
 
     /// Warns of a name, once.
-    fn warn(&mut self, alloc: Global, named: u32, line: u64) -> Result<(), NoMemory> {
+    fn warn(&mut self, alloc: Global, named: usize, line: u64) -> Result<(), NoMemory> {
         if self.scope.tell(named) {
             let text = warning(alloc, self.file.as_str(), line, self.scope.name(named))?;
             self.lines.push(text)?;

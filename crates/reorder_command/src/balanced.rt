@@ -87,6 +87,20 @@ fn order_within<P: Progress>(
     settle_order(alloc, rules, &files.ends, plan)
 }
 
+/// What limits the longest path of a plan; nothing where there is no memory for it.
+fn note_of(
+    alloc: Global,
+    files: &DesignFiles,
+    plan: &Plan,
+    fixed: &[u32],
+    have_one_bit: bool,
+) -> Option<String> {
+    match limit_note(alloc, read_design(files), plan, fixed, have_one_bit) {
+        Ok(note) => note,
+        Err(NoMemory) => None,
+    }
+}
+
 /// A plan of checked files in which no single unit of a longest path can go to another path so that both are then shorter than the longest
 /// one, which is no longer than as read; and what is measured of it.
 pub(crate) fn balanced_plan<P: Progress>(
@@ -109,10 +123,7 @@ pub(crate) fn balanced_plan<P: Progress>(
     order_within(alloc, files, fixed, &mut plan, progress)?;
     // Each chain has its units still, so that none moves now; this tells the cut of the plan as it is.
     let cut = balance(alloc, rules, fixed, &mut plan)?;
-    let note = match limit_note(alloc, read_design(files), &plan, fixed, cut.is_some()) {
-        Ok(note) => note,
-        Err(NoMemory) => None,
-    };
+    let note = note_of(alloc, files, &plan, fixed, cut.is_some());
     let longest = Longest {
         read: longest(rules, fixed, &rules.read) as u64,
         written: longest(rules, fixed, &plan) as u64,

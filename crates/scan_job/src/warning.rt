@@ -29,11 +29,12 @@ fn push_warning(
         FileKind::Verilog => request.verilog.as_str(),
         _ => request.def.as_str(),
     };
-    lines.push_str(if warning.is_warning {
+    let kind = if warning.is_warning {
         "warning: "
     } else {
         "note: "
-    })?;
+    };
+    lines.push_str(kind)?;
     push_name(lines, file)?;
     if let Some(line) = warning.line {
         lines.push_str(format!(in alloc; ":{line}")?.as_str())?;

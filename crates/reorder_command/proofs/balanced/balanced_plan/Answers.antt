@@ -35,7 +35,7 @@ returns g c =
     let last = c.in_ok-cut.ensures in
     let plan = c.balance-2.new.plan in
     let items : Vec Bool Global → List Bool = λ set. set.items in
-    let bits : Longest = record { read = c.longest.result; written = c.longest-2.result; cut = c.in_ok-cut_names.field-0; note = c.in_ok-note.note } in
+    let bits : Longest = record { read = c.longest.result; written = c.longest-2.result; cut = c.in_ok-cut_names.field-0; note = c.note_of-note.result } in
     let kept = longest_kept rules fixed c.balance.new.plan c.order_within.new.plan first.legal c.in_ok-order_within.ensures.members in
     let read = ap (longest rules fixed) c.in_ok-plan.ensures.value in
     let no_longer : longest rules fixed plan ≤ longest rules fixed rules.read = let one = first.no_longer in let two = last.no_longer in omega (arith, kept, read, one, two) in
