@@ -2,7 +2,7 @@
 use Rattle.std.proofs.Common.{◌≡◌, ℕ, ◌-◌, ◌<◌, Bool, true, false, cond, List, [], ◌∷◌, ◌++◌, length, take, drop, map, refl, sym, ap, ◌∙◌, subst, arith, append_assoc}
 use Rattle.std.specs.List.{flat_map}
 use Rattle.std.proofs.lemmas.List.{map-append, take-map, drop-map, length-map, append-nil}
-use Rattle.std.proofs.lemmas.List.Elements.{All-append}
+use Rattle.std.proofs.lemmas.List.Elements.{All-append, All-drop}
 use Rattle.base_types.specs.declared.span.Span.{Span}
 use Rattle.token_forms.specs.Tokens.{Token, token_of, tokens_of, IsSpanOf, AreSpansOf}
 use Rattle.token_forms.specs.Parts.{token_texts}
@@ -42,16 +42,16 @@ pub clause_put : (b : Bool) (text : List ℕ) (a d s : List Span) → b ≡ may_
     → AreMore text a d (erased_clause (tokens_of text s))
 clause_put b text a d s e f m = more_same text a d _ _ (sym (clause_by true (tokens_of text s) (sym e ∙ f))) m
 
-pub ends_put : (text : List ℕ) (a b c s front end : List Span) (n : ℕ) → n ≡ length (behind_word (tokens_of text s)) → front ≡ take (length s - n) s → end ≡ drop (length s - 1) s
+pub ends_put : (text : List ℕ) (a b c s front end : List Span) (n mid last : ℕ) → n ≡ length (behind_word (tokens_of text s)) → mid ≡ length s - n → last ≡ length s - 1 → front ≡ take mid s → end ≡ drop last s
     → AreMore text a b (texts_at text front) → AreMore text b c (texts_at text end) → AreMore text a c (token_texts (up_to_word (tokens_of text s)) ++ token_texts (end_of (tokens_of text s)))
-ends_put text a b c s front end n size f g m k =
+ends_put text a b c s front end n mid last size p q f g m k =
     let len : length (tokens_of text s) ≡ length s = length-map (token_of text) s in
     let word : texts_at text front ≡ token_texts (up_to_word (tokens_of text s)) =
-    ap (texts_at text) f ∙ ap token_texts (sym (take-map (token_of text) (length s - n) s))
+    ap (texts_at text) (f ∙ ap (λ (k : ℕ). take k s) p) ∙ ap token_texts (sym (take-map (token_of text) (length s - n) s))
     ∙ ap (λ (k : ℕ). token_texts (take (k - n) (tokens_of text s))) (sym len) ∙ ap (λ (k : ℕ). token_texts (take (length (tokens_of text s) - k) (tokens_of text s))) size in
-    let last : texts_at text end ≡ token_texts (end_of (tokens_of text s)) =
-    ap (texts_at text) g ∙ ap token_texts (sym (drop-map (token_of text) (length s - 1) s)) ∙ ap (λ (k : ℕ). token_texts (drop (k - 1) (tokens_of text s))) (sym len) in
-    more_same text a c _ _ (ap (λ (l : List (List ℕ)). l ++ texts_at text end) word ∙ ap (λ (l : List (List ℕ)). token_texts (up_to_word (tokens_of text s)) ++ l) last) (more_both text a b c _ _ m k)
+    let ends : texts_at text end ≡ token_texts (end_of (tokens_of text s)) =
+    ap (texts_at text) (g ∙ ap (λ (k : ℕ). drop k s) q) ∙ ap token_texts (sym (drop-map (token_of text) (length s - 1) s)) ∙ ap (λ (k : ℕ). token_texts (drop (k - 1) (tokens_of text s))) (sym len) in
+    more_same text a c _ _ (ap (λ (l : List (List ℕ)). l ++ texts_at text end) word ∙ ap (λ (l : List (List ℕ)). token_texts (up_to_word (tokens_of text s)) ++ l) ends) (more_both text a b c _ _ m k)
 
 -- a statement by its word
 module _ (word : List ℕ) (erased : List Token → List (List ℕ)) where
@@ -86,13 +86,20 @@ module _ (erased : List Token → List (List ℕ)) (text : List ℕ) where
   pub fewer_all : (a s : List Span) → AreSpansOf text s → AreFewer erased text a a s s
   fewer_all a s within = record { texts = refl; kept = λ k. k; within = within }
 
+  pub fewer_first : (all left kept : List Span) → kept ≡ [] → left ≡ all → AreSpansOf text all → AreFewer erased text [] kept all left
+  fewer_first all left kept none same within = record {
+    texts = ap (λ (l : List Span). texts_at text l ++ all_of left) none ∙ ap (λ (l : List Span). texts_at text [] ++ all_of l) same;
+    kept = λ k. subst (AreSpansOf text) (sym none) k;
+    within = subst (AreSpansOf text) (sym same) within;
+  }
+
   first_of : (s : List Token) → 0 < length s → flat_map erased (stil_statements s) ≡ erased (take (statement_len s) s) ++ flat_map erased (stil_statements (drop (statement_len s) s))
   first_of [] some = absurd (omega arith)
   first_of (t ∷ ts) some = ap (flat_map erased) (first_law t ts)
 
-  pub fewer_one : (a b c all left first behind : List Span) (n : ℕ) → AreFewer erased text a b all left → 0 < length left → n ≡ statement_len (tokens_of text left) → first ≡ take n left → behind ≡ drop n left → AreSpansOf text behind
+  pub fewer_one : (a b c all left first behind : List Span) (n : ℕ) → AreFewer erased text a b all left → 0 < length left → n ≡ statement_len (tokens_of text left) → first ≡ take n left → behind ≡ drop n left
       → AreMore text b c (erased (tokens_of text first)) → AreFewer erased text a c all behind
-  fewer_one a b c all left first behind n is some size f g within m =
+  fewer_one a b c all left first behind n is some size f g m =
       let len : length (tokens_of text left) ≡ length left = length-map (token_of text) left in
       let front : tokens_of text first ≡ take (statement_len (tokens_of text left)) (tokens_of text left) =
       ap (tokens_of text) f ∙ sym (take-map (token_of text) n left) ∙ ap (λ (k : ℕ). take k (tokens_of text left)) size in
@@ -105,7 +112,7 @@ module _ (erased : List Token → List (List ℕ)) (text : List ℕ) where
             ∙ sym (first_of (tokens_of text left) (subst (λ (k : ℕ). 0 < k) (sym len) some)))
             ∙ is.texts;
         kept = λ k. m.within (is.kept k);
-        within = within;
+        within = subst (AreSpansOf text) (sym g) (All-drop (IsSpanOf text) n left is.within);
       }
 
   none_left : (left : List Span) → length left ≡ 0 → all_of left ≡ []
