@@ -8,6 +8,7 @@ ghost use Rattle.scan_job.specs.Faults.{IsCommandFault, HasNoCommandFault, IsFou
 ghost use Rattle.scan_job.specs.Texts.{AreTexts};
 ghost use Rattle.scan_job.specs.Phases.{AreInLimits};
 
+use crate::refusing::Asks;
 use base_types::{NoMemory, ReadFault};
 use desk_io::{Inputs, Names, Outputs};
 use reorder_command::Progress;
@@ -43,6 +44,9 @@ pub(crate) trait Command: Sized + Drop {
 
 /// A command that takes its files whole, and judges them before it writes.
 pub(crate) trait Whole: Command {
+    /// What its words ask for beside its files, for what a user is told of a refusal.
+    fn asks(&self) -> Asks<'_>;
+
     /// The texts of its outputs, or the first fault that it finds in its files. A search tells how far it is.
     fn judge<P: Progress>(
         &self,

@@ -21,13 +21,16 @@ use crate::commands::patterns::{PatternsRequest, all_figure_lines, first_names, 
 use crate::commands::reorder::note_of;
 use crate::play::close_stil;
 use crate::putting::{PutStop, put_patterns};
-use crate::say::{refuse, size_fault};
+use crate::refusing::{
+    no_texts, refuse_noting, refuse_telling, reorder_noting, statement_notes_of,
+};
+use crate::say::size_fault;
 use crate::searching::Searching;
 use crate::stop::Stop;
 use base_types::{NoMemory, Text, Word};
 use desk_io::{Desk, Inputs, InputsFault, Names, Outputs, Slot, put_outputs, take_inputs};
 use pattern_warnings::PatternWarnings;
-use reorder_command::{Figures, PatternPlan, Reordered, reorder_texts};
+use reorder_command::{Figures, PatternPlan, Reordered};
 use retargeted_patterns::{PatternFigures, Retargeting, figures_law};
 use scan_words::Order;
 use std::alloc::Global;
@@ -105,6 +108,7 @@ fn plan_taken<D: Desk>(
     alloc: Global,
     request: &PatternsRequest,
     inputs: &Inputs,
+    notes: &mut Vec<String>,
     desk: &mut D,
 ) -> Result<Ready, StilStop>
     requires open { IsOpen (D.state desk.old Stil) }
@@ -117,7 +121,7 @@ fn plan_taken<D: Desk>(
 {
     let mut input = StilInput::new(alloc)?;
     let head = input.next_head(alloc, desk)?;
-    let reordered = reorder_texts(
+    let reordered = reorder_noting(
         alloc,
         inputs.text(Slot::Table),
         inputs.text(Slot::Lef),
@@ -126,6 +130,7 @@ fn plan_taken<D: Desk>(
         Some(head.bytes()),
         request.design.goal,
         &Searching { desk },
+        notes,
     )?;
     Ok(ready_of(alloc, request, head.bytes(), reordered, input)?)
 }
@@ -162,6 +167,7 @@ fn put_stil<D: Desk>(
     plan: PatternPlan,
     mut warnings: PatternWarnings,
     mut input: StilInput,
+    notes: &mut Vec<String>,
     desk: &mut D,
 ) -> Result<PatternFigures, PutStop>
     requires draws { Draws input (D.state desk.old Stil) }
@@ -189,6 +195,9 @@ fn put_stil<D: Desk>(
         &mut input,
         desk,
     );
+    if let Err(PutStop::Input(StilStop::Fault(fault))) = &put {
+        *notes = statement_notes_of(alloc, fault, retargeting.head());
+    }
     tell_warnings(&put, &warnings, desk);
     put
 }
@@ -254,14 +263,15 @@ fn write_ready<D: Desk>(
         warnings,
         input,
     } = ready;
-    match put_stil(alloc, &request.out_stil, plan, warnings, input, desk) {
+    let mut notes = Vec::new(alloc);
+    match put_stil(alloc, &request.out_stil, plan, warnings, input, &mut notes, desk) {
         Ok(patterns) => {
             close_both(desk)?;
             put_others(alloc, last, made, &patterns, desk)
         }
         Err(PutStop::Input(StilStop::Fault(fault))) => {
             close_both(desk)?;
-            refuse(alloc, names, &fault, desk)
+            refuse_noting(alloc, names, &fault, notes.as_slice(), desk)
         }
         Err(PutStop::Input(StilStop::Read)) => Err(Stop::InputFailed),
         Err(PutStop::Input(StilStop::NoMemory)) => Err(Stop::NoMemory),
@@ -293,11 +303,12 @@ fn patterns_taken<D: Desk>(
     figures_law();
     desk.open(Slot::Stil, request.stil.as_str())
         .map_err(|_| Stop::InputFailed)?;
-    match plan_taken(alloc, request, inputs, desk) {
+    let mut notes = Vec::new(alloc);
+    match plan_taken(alloc, request, inputs, &mut notes, desk) {
         Ok(ready) => write_ready(alloc, request, names, last, ready, desk),
         Err(StilStop::Fault(fault)) => {
             close_stil(desk)?;
-            refuse(alloc, names, &fault, desk)
+            refuse_noting(alloc, names, &fault, notes.as_slice(), desk)
         }
         Err(StilStop::Read) => Err(Stop::InputFailed),
         Err(StilStop::NoMemory) => Err(Stop::NoMemory),
@@ -322,7 +333,9 @@ fn patterns_named<D: Desk>(
 {
     match take_inputs(alloc, first, desk) {
         Ok(inputs) => patterns_taken(alloc, request, names, last, &inputs, desk),
-        Err(InputsFault::TooLarge(slot)) => refuse(alloc, names, &size_fault(slot), desk),
+        Err(InputsFault::TooLarge(slot)) => {
+            refuse_telling(alloc, names, &size_fault(slot), &no_texts(false), desk)
+        }
         Err(InputsFault::Read) => Err(Stop::InputFailed),
         Err(InputsFault::NoMemory) => Err(Stop::NoMemory),
     }

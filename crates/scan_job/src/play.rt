@@ -15,7 +15,8 @@ ghost use Rattle.scan_job.specs.Ended.{HasEnded, HasRunOrder};
 use crate::commands::Command;
 use crate::commands::play::{PlayRequest, first_names};
 use crate::playing::play_stil;
-use crate::say::{refuse, size_fault, tell};
+use crate::refusing::{no_texts, refuse_noting, refuse_telling};
+use crate::say::{size_fault, tell};
 use crate::stop::Stop;
 use desk_io::{Desk, Inputs, InputsFault, Names, Slot, take_inputs};
 use scan_words::Order;
@@ -53,14 +54,15 @@ fn play_taken<D: Desk>(
         .map_err(|_| Stop::InputFailed)?;
     let table = inputs.text(Slot::Table);
     let verilog = inputs.text(Slot::Verilog);
-    match play_stil(alloc, table, verilog, play.device, desk) {
+    let mut notes = Vec::new(alloc);
+    match play_stil(alloc, table, verilog, play.device, &mut notes, desk) {
         Ok(text) => {
             close_stil(desk)?;
             tell(text.bytes(), desk)
         }
         Err(StilStop::Fault(fault)) => {
             close_stil(desk)?;
-            refuse(alloc, names, &fault, desk)
+            refuse_noting(alloc, names, &fault, notes.as_slice(), desk)
         }
         Err(StilStop::Read) => Err(Stop::InputFailed),
         Err(StilStop::NoMemory) => Err(Stop::NoMemory),
@@ -83,7 +85,9 @@ fn play_named<D: Desk>(
 {
     match take_inputs(alloc, first, desk) {
         Ok(inputs) => play_taken(alloc, play, names, &inputs, desk),
-        Err(InputsFault::TooLarge(slot)) => refuse(alloc, names, &size_fault(slot), desk),
+        Err(InputsFault::TooLarge(slot)) => {
+            refuse_telling(alloc, names, &size_fault(slot), &no_texts(false), desk)
+        }
         Err(InputsFault::Read) => Err(Stop::InputFailed),
         Err(InputsFault::NoMemory) => Err(Stop::NoMemory),
     }

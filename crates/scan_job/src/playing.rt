@@ -8,6 +8,7 @@ ghost use Rattle.stil_input.specs.Inputs.{Draws};
 ghost use Rattle.play_command.specs.Progress.{after_saying, after_sayings};
 ghost use Rattle.scan_job.specs.Playing.{HasPlayed, HasPlayedOn};
 
+use crate::refusing::play_noting;
 use base_types::{Name, NoMemory, Text};
 use desk_io::Desk;
 use play_command::{DeviceKind, Playing, progress_law};
@@ -66,6 +67,7 @@ pub(crate) fn play_stil<D: Desk>(
     table: &[u8],
     verilog: &[u8],
     device: DeviceKind,
+    notes: &mut Vec<String>,
     desk: &mut D,
 ) -> Result<Text, StilStop>
     requires open { IsOpen (D.state desk.old Stil) }
@@ -77,6 +79,6 @@ pub(crate) fn play_stil<D: Desk>(
     progress_law();
     let mut input = StilInput::new(alloc)?;
     let head = input.next_head(alloc, desk)?;
-    let playing = Playing::new(alloc, table, verilog, head.bytes(), device)?;
+    let playing = play_noting(alloc, table, verilog, head.bytes(), device, notes)?;
     play_patterns(alloc, playing, &mut input, desk)
 }

@@ -7,7 +7,8 @@ ghost use Rattle.scan_job.specs.Phases.{AreInLimits, HasFinished};
 ghost use Rattle.scan_job.specs.Ended.{HasEnded, HasRunOrder};
 
 use crate::commands::Whole;
-use crate::say::{refuse, size_fault};
+use crate::refusing::{no_texts, refuse_telling, texts_of};
+use crate::say::size_fault;
 use crate::searching::Searching;
 use crate::stop::Stop;
 use base_types::ReadFault;
@@ -36,7 +37,10 @@ fn finish<C: Whole, D: Desk>(
             Ok(()) => Ok(()),
             Err(_) => Err(Stop::OutputFailed),
         },
-        Err(ReadFault::Fault(fault)) => refuse(alloc, names, &fault, desk),
+        Err(ReadFault::Fault(fault)) => {
+            let texts = texts_of(inputs, command.asks());
+            refuse_telling(alloc, names, &fault, &texts, desk)
+        }
         Err(ReadFault::NoMemory) => Err(Stop::NoMemory),
     }
 }
@@ -56,7 +60,9 @@ fn run_named<C: Whole, D: Desk>(
 {
     match take_inputs(alloc, names, desk) {
         Ok(inputs) => finish(alloc, command, names, &inputs, desk),
-        Err(InputsFault::TooLarge(slot)) => refuse(alloc, names, &size_fault(slot), desk),
+        Err(InputsFault::TooLarge(slot)) => {
+            refuse_telling(alloc, names, &size_fault(slot), &no_texts(false), desk)
+        }
         Err(InputsFault::Read) => Err(Stop::InputFailed),
         Err(InputsFault::NoMemory) => Err(Stop::NoMemory),
     }

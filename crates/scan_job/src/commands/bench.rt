@@ -17,6 +17,7 @@ ghost use Rattle.scan_job.specs.Commands.Bench.{IsSaid, bench_text};
 use crate::commands::patterns::all_figure_lines;
 use crate::commands::{Command, Whole};
 use crate::copying::{number_of, word_of};
+use crate::refusing::Asks;
 use base_types::{NoMemory, ReadFault, Text, Word};
 use design_maker::{Files, make_design};
 use desk_io::{Inputs, Names, Outputs};
@@ -127,6 +128,10 @@ impl Command for BenchRequest {
 }
 
 impl Whole for BenchRequest {
+    fn asks(&self) -> Asks<'_> {
+        Asks::none()
+    }
+
     fn judge<P: Progress>(
         &self,
         alloc: Global,

@@ -4,6 +4,7 @@ ghost use Rattle.scan_job.specs.Commands.Bound.{AreRounds};
 
 use crate::commands::{Command, Whole};
 use crate::copying::{number_of, word_of};
+use crate::refusing::Asks;
 use base_types::{NoMemory, ReadFault, Word};
 use bound_command::bound_text;
 use desk_io::{Inputs, Names, Outputs, Slot};
@@ -75,6 +76,10 @@ impl Command for BoundRequest {
 }
 
 impl Whole for BoundRequest {
+    fn asks(&self) -> Asks<'_> {
+        Asks::none()
+    }
+
     fn judge<P: Progress>(
         &self,
         alloc: Global,

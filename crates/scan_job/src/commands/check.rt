@@ -3,6 +3,7 @@ ghost use Rattle.scan_job.specs.Requests as requests;
 
 use crate::commands::{Command, Whole};
 use crate::copying::word_of;
+use crate::refusing::Asks;
 use base_types::{NoMemory, ReadFault, Word};
 use check_command::check_text;
 use desk_io::{Inputs, Names, Outputs, Slot};
@@ -52,6 +53,10 @@ impl Command for CheckRequest {
 }
 
 impl Whole for CheckRequest {
+    fn asks(&self) -> Asks<'_> {
+        Asks::none()
+    }
+
     fn judge<P: Progress>(
         &self,
         alloc: Global,

@@ -4,6 +4,7 @@ ghost use Rattle.scan_job.specs.Commands.Draw.{drawn_text};
 
 use crate::commands::{Command, Whole};
 use crate::copying::word_of;
+use crate::refusing::Asks;
 use base_types::{NoMemory, ReadFault, Text, Word};
 use desk_io::{Inputs, Names, Outputs, Slot};
 use draw_command::draw_text;
@@ -65,6 +66,10 @@ impl Command for DrawRequest {
 }
 
 impl Whole for DrawRequest {
+    fn asks(&self) -> Asks<'_> {
+        Asks::none()
+    }
+
     fn judge<P: Progress>(
         &self,
         alloc: Global,

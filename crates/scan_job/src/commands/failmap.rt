@@ -3,6 +3,7 @@ ghost use Rattle.scan_job.specs.Requests as requests;
 
 use crate::commands::{Command, Whole};
 use crate::copying::word_of;
+use crate::refusing::Asks;
 use base_types::{NoMemory, ReadFault, Word};
 use desk_io::{Inputs, Names, Outputs, Slot};
 use failmap_command::failmap_text;
@@ -60,6 +61,10 @@ impl Command for FailmapRequest {
 }
 
 impl Whole for FailmapRequest {
+    fn asks(&self) -> Asks<'_> {
+        Asks::none()
+    }
+
     fn judge<P: Progress>(
         &self,
         alloc: Global,

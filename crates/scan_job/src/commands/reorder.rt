@@ -5,6 +5,7 @@ ghost use Rattle.scan_job.specs.Commands.Reorder.{design_request, figure_line, m
 
 use crate::commands::{Command, Whole};
 use crate::copying::word_of;
+use crate::refusing::Asks;
 use base_types::{Name, NoMemory, ReadFault, Rows, Text, Word};
 use desk_io::{Inputs, Names, Outputs, Slot};
 use order_search::Effort;
@@ -207,6 +208,10 @@ pub(crate) fn note_of(alloc: Global, measured: &Measured) -> Result<Option<Strin
 }
 
 impl Whole for ReorderRequest {
+    fn asks(&self) -> Asks<'_> {
+        Asks::none()
+    }
+
     fn judge<P: Progress>(
         &self,
         alloc: Global,

@@ -4,8 +4,10 @@ ghost use Rattle.scan_job.specs.Commands.Rewire.{rewire_of, moved_text};
 
 use crate::commands::{Command, Whole};
 use crate::copying::{copies_of, copy_of, name_of, names_in, word_of};
+use crate::refusing::Asks;
 use base_types::{Name, NoMemory, ReadFault, Rows, Text, Word};
 use desk_io::{Inputs, Names, Outputs, Slot};
+use refusal_notes::Wired;
 use reorder_command::Progress;
 use rewire_command::{Rewire, rewire_text};
 use scan_words::Order;
@@ -93,6 +95,19 @@ impl Command for RewireRequest {
 }
 
 impl Whole for RewireRequest {
+    fn asks(&self) -> Asks<'_> {
+        Asks {
+            scan_in: Some(&self.scan_in),
+            scan_out: Some(&self.scan_out),
+            wired: Some(Wired {
+                cell: &self.cell,
+                in_pin: &self.in_pin,
+                out_pin: &self.out_pin,
+                units: self.units.as_slice(),
+            }),
+        }
+    }
+
     fn judge<P: Progress>(
         &self,
         alloc: Global,

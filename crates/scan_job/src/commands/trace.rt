@@ -3,6 +3,7 @@ ghost use Rattle.scan_job.specs.Requests as requests;
 
 use crate::commands::{Command, Whole};
 use crate::copying::{name_of, word_of};
+use crate::refusing::Asks;
 use base_types::{Name, NoMemory, ReadFault, Word};
 use desk_io::{Inputs, Names, Outputs, Slot};
 use reorder_command::Progress;
@@ -44,6 +45,14 @@ impl Command for TraceRequest {
 }
 
 impl Whole for TraceRequest {
+    fn asks(&self) -> Asks<'_> {
+        Asks {
+            scan_in: None,
+            scan_out: Some(&self.scan_out),
+            wired: None,
+        }
+    }
+
     fn judge<P: Progress>(
         &self,
         alloc: Global,

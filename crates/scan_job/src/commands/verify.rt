@@ -4,6 +4,7 @@ ghost use Rattle.scan_job.specs.Requests as requests;
 
 use crate::commands::{Command, Whole};
 use crate::copying::word_of;
+use crate::refusing::Asks;
 use base_types::{NoMemory, ReadFault, Word};
 use desk_io::{Inputs, Names, Outputs, Slot};
 use reorder_command::Progress;
@@ -81,6 +82,10 @@ impl VerifyRequest {
 }
 
 impl Whole for VerifyRequest {
+    fn asks(&self) -> Asks<'_> {
+        Asks::none()
+    }
+
     fn judge<P: Progress>(
         &self,
         alloc: Global,
