@@ -15,6 +15,7 @@ pub mod Benched
 pub mod Asked
 pub mod Sizes
 pub mod Phases
+pub mod Noted
 pub mod Played
 pub mod PlayPhases
 pub mod Streamed

@@ -21,9 +21,7 @@ use crate::commands::patterns::{PatternsRequest, all_figure_lines, first_names, 
 use crate::commands::reorder::note_of;
 use crate::play::close_stil;
 use crate::putting::{PutStop, put_patterns};
-use crate::refusing::{
-    no_texts, refuse_noting, refuse_telling, reorder_noting, statement_notes_of,
-};
+use crate::refusing::{refuse, reorder_noting, size_notes_of, statement_notes_of};
 use crate::say::size_fault;
 use crate::searching::Searching;
 use crate::stop::Stop;
@@ -271,7 +269,7 @@ fn write_ready<D: Desk>(
         }
         Err(PutStop::Input(StilStop::Fault(fault))) => {
             close_both(desk)?;
-            refuse_noting(alloc, names, &fault, notes.as_slice(), desk)
+            refuse(alloc, names, &fault, notes.as_slice(), desk)
         }
         Err(PutStop::Input(StilStop::Read)) => Err(Stop::InputFailed),
         Err(PutStop::Input(StilStop::NoMemory)) => Err(Stop::NoMemory),
@@ -308,7 +306,7 @@ fn patterns_taken<D: Desk>(
         Ok(ready) => write_ready(alloc, request, names, last, ready, desk),
         Err(StilStop::Fault(fault)) => {
             close_stil(desk)?;
-            refuse_noting(alloc, names, &fault, notes.as_slice(), desk)
+            refuse(alloc, names, &fault, notes.as_slice(), desk)
         }
         Err(StilStop::Read) => Err(Stop::InputFailed),
         Err(StilStop::NoMemory) => Err(Stop::NoMemory),
@@ -334,7 +332,8 @@ fn patterns_named<D: Desk>(
     match take_inputs(alloc, first, desk) {
         Ok(inputs) => patterns_taken(alloc, request, names, last, &inputs, desk),
         Err(InputsFault::TooLarge(slot)) => {
-            refuse_telling(alloc, names, &size_fault(slot), &no_texts(false), desk)
+            let notes = size_notes_of(alloc, slot);
+            refuse(alloc, names, &size_fault(slot), notes.as_slice(), desk)
         }
         Err(InputsFault::Read) => Err(Stop::InputFailed),
         Err(InputsFault::NoMemory) => Err(Stop::NoMemory),

@@ -15,7 +15,7 @@ ghost use Rattle.scan_job.specs.Ended.{HasEnded, HasRunOrder};
 use crate::commands::Command;
 use crate::commands::play::{PlayRequest, first_names};
 use crate::playing::play_stil;
-use crate::refusing::{no_texts, refuse_noting, refuse_telling};
+use crate::refusing::{refuse, size_notes_of};
 use crate::say::{size_fault, tell};
 use crate::stop::Stop;
 use desk_io::{Desk, Inputs, InputsFault, Names, Slot, take_inputs};
@@ -62,7 +62,7 @@ fn play_taken<D: Desk>(
         }
         Err(StilStop::Fault(fault)) => {
             close_stil(desk)?;
-            refuse_noting(alloc, names, &fault, notes.as_slice(), desk)
+            refuse(alloc, names, &fault, notes.as_slice(), desk)
         }
         Err(StilStop::Read) => Err(Stop::InputFailed),
         Err(StilStop::NoMemory) => Err(Stop::NoMemory),
@@ -86,7 +86,8 @@ fn play_named<D: Desk>(
     match take_inputs(alloc, first, desk) {
         Ok(inputs) => play_taken(alloc, play, names, &inputs, desk),
         Err(InputsFault::TooLarge(slot)) => {
-            refuse_telling(alloc, names, &size_fault(slot), &no_texts(false), desk)
+            let notes = size_notes_of(alloc, slot);
+            refuse(alloc, names, &size_fault(slot), notes.as_slice(), desk)
         }
         Err(InputsFault::Read) => Err(Stop::InputFailed),
         Err(InputsFault::NoMemory) => Err(Stop::NoMemory),

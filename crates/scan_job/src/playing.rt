@@ -8,7 +8,7 @@ ghost use Rattle.stil_input.specs.Inputs.{Draws};
 ghost use Rattle.play_command.specs.Progress.{after_saying, after_sayings};
 ghost use Rattle.scan_job.specs.Playing.{HasPlayed, HasPlayedOn};
 
-use crate::refusing::play_noting;
+use crate::refusing::{next_noting, play_noting};
 use base_types::{Name, NoMemory, Text};
 use desk_io::Desk;
 use play_command::{DeviceKind, Playing, progress_law};
@@ -40,6 +40,7 @@ fn play_patterns<D: Desk>(
     alloc: Global,
     mut playing: Playing,
     input: &mut StilInput,
+    notes: &mut Vec<String>,
     desk: &mut D,
 ) -> Result<Text, StilStop>
     requires draws { Draws input.old (D.state desk.old Stil) }
@@ -49,7 +50,7 @@ fn play_patterns<D: Desk>(
     ensures names { SameNames (D.allows desk.old) (D.allows desk.new) }
 {
     'patterns: loop {
-        match input.next(alloc, playing.head(), desk)? {
+        match next_noting(alloc, playing.head(), input, notes, desk)? {
             Said::Gap {
                 text: _text,
                 pattern,
@@ -80,5 +81,5 @@ pub(crate) fn play_stil<D: Desk>(
     let mut input = StilInput::new(alloc)?;
     let head = input.next_head(alloc, desk)?;
     let playing = play_noting(alloc, table, verilog, head.bytes(), device, notes)?;
-    play_patterns(alloc, playing, &mut input, desk)
+    play_patterns(alloc, playing, &mut input, notes, desk)
 }

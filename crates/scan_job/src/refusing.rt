@@ -1,18 +1,19 @@
 //! What a refusal is about, told to the user behind the line on the console. No clause speaks of it.
-ghost use Rattle.std.specs.Prelude.{◌≡◌, ◌<◌, ◌^◌, length, ⊥, IfOk, OnOk, IfSome, option_map};
+ghost use Rattle.std.specs.Prelude.{◌≡◌, ◌<◌, ◌^◌, false, length, ⊥, IfOk, OnOk, IfSome, option_map};
 ghost use Rattle.base_types.specs.declared.fault.Fault.{Fault as ghost_fault};
 ghost use Rattle.base_types.specs.FirstFault.{IsFirstFault, IfFault};
-ghost use Rattle.desk_io.specs.declared.slot.Slot.TheVariants.{Console};
-ghost use Rattle.desk_io.specs.Desk.{IsUnopened, SameNames, SameSlots};
+ghost use Rattle.desk_io.specs.declared.slot.Slot.TheVariants.{Console, Stil};
+ghost use Rattle.desk_io.specs.Desk.{IsUnopened, SameElsewhere, SameNames, SameSlots};
 ghost use Rattle.desk_io.specs.Names.{AllowsNames};
 ghost use Rattle.design_files.specs.Files.{texts_with};
 ghost use Rattle.design_files.specs.Faults.{HoldsInFiles, IsFilesFault};
 ghost use Rattle.play_command.specs.Faults.{HoldsBeforePatterns};
 ghost use Rattle.play_command.specs.Progress.{IsSetUp};
 ghost use Rattle.reorder_command.specs.PatternPlans.{IsReorderedWith};
+ghost use Rattle.stil_input.specs.Inputs.{Draws, Gives};
 ghost use Rattle.scan_job.specs.Phases.{HasSaid};
 
-use crate::say::refuse;
+use crate::say::{say_fault, size_fault};
 use crate::stop::Stop;
 use base_types::{Fault, Name, ReadFault};
 use desk_io::{Desk, Inputs, Names, Slot};
@@ -20,6 +21,7 @@ use play_command::{DeviceKind, Playing};
 use refusal_notes::{Files, Texts, Wired, refusal_notes, statement_notes};
 use reorder_command::{Goal, Progress, Reordered, reorder_texts};
 use std::alloc::Global;
+use stil_input::{Said, StilInput, StilStop};
 use stil_types::StilHead;
 
 /// What the words of a command ask for beside its files.
@@ -101,19 +103,19 @@ pub(crate) fn texts_of<'a>(inputs: &'a Inputs, asks: Asks<'a>) -> Texts<'a> {
     }
 }
 
-/// No texts.
-pub(crate) fn no_texts<'a>(is_head_alone: bool) -> Texts<'a> {
-    let mut texts = one_set(design_texts(b"", b"", b"", b"", None));
-    texts.is_head_alone = is_head_alone;
-    texts
-}
-
 /// What a fault is about; nothing where memory is short for it.
 pub(crate) fn notes_of(alloc: Global, fault: &Fault, texts: &Texts<'_>) -> Vec<String> {
     match refusal_notes(alloc, fault, texts) {
         Ok(notes) => notes,
         Err(_refused) => Vec::new(alloc),
     }
+}
+
+/// How large the file of a slot may be; nothing where memory is short for it.
+pub(crate) fn size_notes_of(alloc: Global, slot: Slot) -> Vec<String> {
+    let mut texts = one_set(design_texts(b"", b"", b"", b"", None));
+    texts.is_head_alone = false;
+    notes_of(alloc, &size_fault(slot), &texts)
 }
 
 /// What a fault of a statement is about, of which nothing but the head is at hand; nothing where memory is short for it.
@@ -138,7 +140,7 @@ fn tell_notes<D: Desk>(notes: &[String], has_failed: bool, desk: &mut D)
 }
 
 /// Says a fault on the console, and behind it these notes to the user.
-pub(crate) fn refuse_noting<D: Desk>(
+pub(crate) fn refuse<D: Desk>(
     alloc: Global,
     names: &Names,
     fault: &Fault,
@@ -149,26 +151,10 @@ pub(crate) fn refuse_noting<D: Desk>(
     requires allowed { AllowsNames names.now (D.allows desk.old) }
     ensures ended { HasSaid names.now fault.now (D.state desk.old) (D.state desk.new) result }
 {
-    let said = refuse(alloc, names, fault, desk);
+    let said = say_fault(alloc, names, fault, desk);
     let has_failed = !matches!(said, Err(Stop::Refused));
     tell_notes(notes, has_failed, desk);
     said
-}
-
-/// Says a fault on the console, and behind it to the user what it is about.
-pub(crate) fn refuse_telling<D: Desk>(
-    alloc: Global,
-    names: &Names,
-    fault: &Fault,
-    texts: &Texts<'_>,
-    desk: &mut D,
-) -> Result<(), Stop>
-    requires unopened { IsUnopened (D.state desk.old Console) }
-    requires allowed { AllowsNames names.now (D.allows desk.old) }
-    ensures ended { HasSaid names.now fault.now (D.state desk.old) (D.state desk.new) result }
-{
-    let notes = notes_of(alloc, fault, texts);
-    refuse_noting(alloc, names, fault, notes.as_slice(), desk)
 }
 
 /// Reorders a design with the head of its patterns, as `reorder_texts` does, and notes what a fault is about.
@@ -197,6 +183,27 @@ pub(crate) fn reorder_noting<P: Progress>(
         *notes = notes_of(alloc, fault, &texts);
     }
     made
+}
+
+/// What comes next of patterns, as `StilInput::next` gives it, and notes what a fault is about.
+pub(crate) fn next_noting<D: Desk>(
+    alloc: Global,
+    head: &StilHead,
+    input: &mut StilInput,
+    notes: &mut Vec<String>,
+    desk: &mut D,
+) -> Result<Said, StilStop>
+    requires draws { Draws input.old (D.state desk.old Stil) }
+    requires behind_head { input.old.in_head ≡ false }
+    ensures gives { Gives head.now input.old input.new (D.state desk.old Stil) (D.state desk.new Stil) result }
+    ensures elsewhere { SameElsewhere Stil (D.state desk.old) (D.state desk.new) }
+    ensures names { SameNames (D.allows desk.old) (D.allows desk.new) }
+{
+    let said = input.next(alloc, head, desk);
+    if let Err(StilStop::Fault(fault)) = &said {
+        *notes = statement_notes_of(alloc, fault, head);
+    }
+    said
 }
 
 /// Sets up what plays patterns, as `Playing::new` does, and notes what a fault is about.

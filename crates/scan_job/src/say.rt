@@ -19,7 +19,7 @@ pub(crate) fn size_fault(slot: Slot) -> Fault
 }
 
 /// Says a fault on the console.
-pub(crate) fn refuse<D: Desk>(
+pub(crate) fn say_fault<D: Desk>(
     alloc: Global,
     names: &Names,
     fault: &Fault,

@@ -7,7 +7,7 @@ ghost use Rattle.scan_job.specs.Phases.{AreInLimits, HasFinished};
 ghost use Rattle.scan_job.specs.Ended.{HasEnded, HasRunOrder};
 
 use crate::commands::Whole;
-use crate::refusing::{no_texts, refuse_telling, texts_of};
+use crate::refusing::{notes_of, refuse, size_notes_of, texts_of};
 use crate::say::size_fault;
 use crate::searching::Searching;
 use crate::stop::Stop;
@@ -38,8 +38,8 @@ fn finish<C: Whole, D: Desk>(
             Err(_) => Err(Stop::OutputFailed),
         },
         Err(ReadFault::Fault(fault)) => {
-            let texts = texts_of(inputs, command.asks());
-            refuse_telling(alloc, names, &fault, &texts, desk)
+            let notes = notes_of(alloc, &fault, &texts_of(inputs, command.asks()));
+            refuse(alloc, names, &fault, notes.as_slice(), desk)
         }
         Err(ReadFault::NoMemory) => Err(Stop::NoMemory),
     }
@@ -61,7 +61,8 @@ fn run_named<C: Whole, D: Desk>(
     match take_inputs(alloc, names, desk) {
         Ok(inputs) => finish(alloc, command, names, &inputs, desk),
         Err(InputsFault::TooLarge(slot)) => {
-            refuse_telling(alloc, names, &size_fault(slot), &no_texts(false), desk)
+            let notes = size_notes_of(alloc, slot);
+            refuse(alloc, names, &size_fault(slot), notes.as_slice(), desk)
         }
         Err(InputsFault::Read) => Err(Stop::InputFailed),
         Err(InputsFault::NoMemory) => Err(Stop::NoMemory),
