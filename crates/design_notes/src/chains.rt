@@ -183,6 +183,16 @@ fn end_shown(alloc: Global, end: &EndText) -> Result<String, NoMemory> {
     }
 }
 
+/// The pin by which a path leaves a part that stands on it, where that is another one than is named.
+fn left_by<'a>(paths: &Paths<'a>, part: &Part<'_>, path: usize) -> Option<&'a [u8]> {
+    let place = paths.place(part)?;
+    if place.path == path {
+        paths.other_out(part, place)
+    } else {
+        None
+    }
+}
+
 /// Why a chain's START isn't on the path of its first element.
 fn start_told(
     alloc: Global,
@@ -195,11 +205,9 @@ fn start_told(
     let input = shown(alloc, paths.input(path))?;
     let output = shown(alloc, paths.output(path))?;
     if let Some(part) = start_of(chain) {
-        if let Some(place) = paths.place(&part) {
-            if let (Some(pin), true) = (paths.other_out(&part, place), place.path == path) {
-                let pin = shown(alloc, pin)?;
-                return Ok(format!(in alloc; "the path leaves START {start} by its pin {pin}")?);
-            }
+        if let Some(pin) = left_by(paths, &part, path) {
+            let pin = shown(alloc, pin)?;
+            return Ok(format!(in alloc; "the path leaves START {start} by its pin {pin}")?);
         }
         return Ok(format!(in alloc;
             "START {start} isn't on the path from {input} to {output}, on which {first} is"

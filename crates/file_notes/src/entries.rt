@@ -81,7 +81,10 @@ fn outs_told(alloc: Global, value: Option<&Value>) -> Result<Option<String>, NoM
 }
 
 fn is_bit(value: &Value) -> bool {
-    matches!(value.as_integer(), Some(0) | Some(1))
+    match value.as_integer() {
+        Some(bit) => bit == 0 || bit == 1,
+        None => false,
+    }
 }
 
 /// What is wrong with the bits of a path.

@@ -250,7 +250,11 @@ fn connected_twice(
                 Vec::from_slice(alloc, component.bytes())?,
                 Vec::from_slice(alloc, pin.bytes())?,
             );
-            if let (Some(before), true) = (seen.insert(key, row.line)?, row.line == line) {
+            let before = seen.insert(key, row.line)?;
+            if row.line != line {
+                continue;
+            }
+            if let Some(before) = before {
                 let component = shown(alloc, component.bytes())?;
                 let pin = shown(alloc, pin.bytes())?;
                 let net = shown(alloc, net.name.text())?;
