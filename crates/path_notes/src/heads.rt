@@ -107,14 +107,21 @@ fn counted(alloc: Global, name: &[u8]) -> Result<Vec<u8>, NoMemory> {
     Ok(bytes)
 }
 
+/// Whether bytes are none, or a slash and no further slash.
+fn is_last_part(bytes: &[u8]) -> bool {
+    match bytes {
+        [] => true,
+        [first, rest @ ..] => *first == b'/' && !rest.contains(&b'/'),
+    }
+}
+
 /// Whether a name begins with another, and at most one more part follows.
 fn is_named(instance: &[u8], name: &[u8]) -> bool {
     if !name.starts_with(instance) {
         return false;
     }
     match name.get(instance.len()..) {
-        Some([]) => true,
-        Some([first, rest @ ..]) => *first == b'/' && !rest.contains(&b'/'),
+        Some(rest) => is_last_part(rest),
         None => false,
     }
 }
