@@ -23,13 +23,13 @@ use Rattle.chain_rules.specs.declared.plan.Plan.{Plan}
 use Rattle.chain_rules.specs.Legality.{unit_at, rule_at, chain_at, IsLegal}
 use Rattle.chain_rules.specs.Stretches.{path_at, step_at, spec_at, bits_between, no_step as no_step_spec}
 use Rattle.chain_rules.specs.Rules.{IsUnit, AreRulesOf}
-use Rattle.path_links.proofs.PathLists.{Has, has, contains, flat_has}
+use Rattle.list_laws.proofs.Has.{Has, has, contains, flat_has}
 use Rattle.net_edit.specs.Rearranged.{steps_of}
 use Rattle.net_edit.proofs.Links.{has_get}
-use Rattle.net_edit.proofs.NewAssigns.{has_index}
+use Rattle.list_laws.proofs.Apart.{has_index}
 use Rattle.plan_paths.specs.NewPaths.{Site, chain_on, filling, places_at, new_places, absent_step, absent_path, path_in, step_in, new_path, new_paths}
 use Rattle.plan_paths.specs.Numbered.{PathNumbers, numbered_paths}
-use Rattle.path_links.proofs.NoTwice.{range_in, range_has, map_has}
+use Rattle.list_laws.proofs.NoTwice.{range_in, range_has, map_has}
 use Rattle.plan_paths.proofs.Places.{InRun, InRange, IsOn, Fixed, Moved, on, run_there, IsPlaceOf}
 use Rattle.plan_paths.proofs.UnitRuns.{read, read_in, all_mapped}
 use Rattle.plan_paths.proofs.Arranged.{count, runs, spec_count, count_is, new_is, spec_step, place_step}

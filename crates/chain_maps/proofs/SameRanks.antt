@@ -10,7 +10,7 @@ use Rattle.chain_trace.specs.declared.path.Path.{Path}
 use Rattle.chain_trace.specs.Paths.{IsScanPath, StandOnce}
 use Rattle.chain_trace.specs.Parities.{NamesEntry}
 use Rattle.chain_trace.proofs.Entries.{path_entries}
-use Rattle.path_links.proofs.PathLists.{Has, has, contains, flat_from}
+use Rattle.list_laws.proofs.Has.{Has, has, contains, flat_from}
 use Rattle.path_links.proofs.PathLinks.{once}
 use Rattle.net_edit.specs.Rearranged.{steps_of, AreAligned, AreRearranged}
 use Rattle.chain_rules.specs.declared.spec.ChainSpec.{ChainSpec}
@@ -20,7 +20,7 @@ use Rattle.chain_rules.specs.Legality.{IsLegal}
 use Rattle.chain_rules.specs.Rules.{AreRulesOf}
 use Rattle.plan_paths.specs.NewPaths.{new_paths}
 use Rattle.plan_paths.specs.Numbered.{PathNumbers, numbered_paths}
-use Rattle.path_links.proofs.NoTwice.{NoTwice}
+use Rattle.list_laws.proofs.NoTwice.{NoTwice}
 use Rattle.stil_tester.specs.declared.chains.Chains.{Chains}
 use Rattle.retarget.specs.Retargeting.{HaveSameCells}
 use Rattle.path_chains.specs.Numbered.{bits_of_paths, chains_of, HaveBits}

@@ -16,7 +16,6 @@ pub mod MovedNets
 pub mod MovedPins
 pub mod MovedWords
 pub mod MovedChains
-pub mod MovedMembers
 pub mod MovedOnce
 pub mod MovedRead
 pub mod MovedNames

@@ -14,7 +14,8 @@ use Rattle.def_edit.specs.Alike.Fields.{net_fields}
 use Rattle.def_edit.proofs.alike.Lists.{map_of_map}
 use Rattle.def_edit.specs.declared.pin_moves.PinMove.{PinMove}
 use Rattle.def_edit.specs.Moved.{leaves, staying, moving_pin, pin_list, coming, moved_pins, moved_from, moved_nets, AreMovesIn}
-use Rattle.def_edit.proofs.MovedMembers.{Has, has, contains, has_left, has_right, has_split, flat_from, flat_has, has_index, index_has, Apart, apart_place, apart_from, apart_append}
+use Rattle.list_laws.proofs.Has.{Has, has, contains, has_left, has_right, has_split, flat_from, flat_has}
+use Rattle.list_laws.proofs.Apart.{has_index, index_has, Apart, apart_place, apart_from, apart_append}
 
 -- no pin stands twice in the nets
 abbrev pub ArePinsOnceIn : List Net → Type 0

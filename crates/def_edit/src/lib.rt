@@ -1,7 +1,7 @@
 //! A DEF text in which pins moved from net to net, and the scan chains have other elements (LEF/DEF 5.8, in this profile).
 //!
-//! Floor: writers, on base_types, token_forms, splice, cell_table, def_tokens, def_syntax, def_layout, def_reader and
-//! netlist_core.
+//! Floor: writers, on base_types, token_forms, splice, cell_table, def_tokens, def_syntax, def_layout, def_reader,
+//! netlist_core and list_laws.
 //! Contract: `moved_text` writes the text of `specs/MovedText.antt`, which denotes the design behind the moves and is the read one once what
 //! `specs/ErasedDef.antt` says is erased. Begin with `text.rt`.
 #![tactic(auto)]

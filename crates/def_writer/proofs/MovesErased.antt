@@ -22,14 +22,14 @@ use Rattle.chain_rules.specs.Legality.{IsLegal}
 use Rattle.chain_rules.specs.Rules.{AreRulesOf}
 use Rattle.path_links.specs.Edits.{links, moved}
 use Rattle.path_links.specs.Direct.{last_source}
-use Rattle.path_links.proofs.PathLists.{Has, has, contains, flat_from, flat_has, filter_from}
+use Rattle.list_laws.proofs.Has.{Has, has, contains, flat_from, flat_has, filter_from}
 use Rattle.path_links.proofs.PathLinks.{last_link, port_link}
 use Rattle.net_edit.specs.Agreement.{Pin, OfInstance, OfPort, pin_of_sink}
 use Rattle.net_edit.specs.Rearranged.{AreRearranged}
 use Rattle.net_edit.proofs.Links.{in_steps, has_get}
 use Rattle.net_edit.proofs.NewEdits.{is_moved, moved_not}
 use Rattle.plan_paths.specs.NewPaths.{absent_path, path_in, new_path, new_paths}
-use Rattle.path_links.proofs.NoTwice.{range_in}
+use Rattle.list_laws.proofs.NoTwice.{range_in}
 use Rattle.plan_paths.proofs.Arranged.{last_steps, spec_free}
 use Rattle.path_numbers.specs.Numbers.{path_specs, is_free_output}
 use Rattle.traced_paths.specs.Traced.{steps_of}

@@ -33,7 +33,7 @@ use Rattle.def_layout.proofs.NetThere.{net_there}
 use Rattle.def_layout.proofs.Standing.{standing_law}
 use Rattle.def_edit.proofs.alike.Contents.{each_stand, body_is}
 use Rattle.def_edit.proofs.alike.Frames.{within_each}
-use Rattle.path_links.proofs.PathLists.{Has, has}
+use Rattle.list_laws.proofs.Has.{Has, has}
 use Rattle.def_reader.specs.declared.design.NetPin.{NetPin}
 use Rattle.def_reader.specs.declared.design.NetPin.TheVariants.{Cell, Port}
 use Rattle.def_reader.specs.declared.design.Net.{Net}

@@ -19,11 +19,11 @@ use Rattle.chain_rules.specs.declared.plan.Plan.{Plan}
 use Rattle.chain_rules.specs.Legality.{unit_at, chain_at, IsLegal}
 use Rattle.chain_rules.specs.Rules.{IsUnit, AreRulesOf}
 use Rattle.chain_rules.specs.Stretches.{path_at, step_at, spec_at, no_chain, elements_in, elements_of, IsOf, IsListed, BeginsAt, EndsAt}
-use Rattle.path_links.proofs.PathLists.{Has, has, flat_from, flat_has, filter_from, filter_has}
+use Rattle.list_laws.proofs.Has.{Has, has, flat_from, flat_has, filter_from, filter_has}
 use Rattle.net_edit.proofs.Links.{has_get}
 use Rattle.plan_paths.specs.NewPaths.{Site, run_places, step_in}
 use Rattle.plan_paths.specs.Numbered.{PathNumbers}
-use Rattle.path_links.proofs.NoTwice.{map_has}
+use Rattle.list_laws.proofs.NoTwice.{map_has}
 use Rattle.plan_paths.proofs.Places.{InRun, run_in, run_has, IsPlaceOf}
 use Rattle.plan_paths.proofs.UnitRuns.{read, read_units, read_in, spec_in, all_mapped}
 use Rattle.plan_paths.proofs.Arranged.{runs, specs, count, place_step, spec_step}

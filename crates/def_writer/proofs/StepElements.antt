@@ -19,8 +19,8 @@ use Rattle.chain_trace.specs.declared.path.Step.{Step}
 use Rattle.chain_trace.specs.declared.path.Path.{Path}
 use Rattle.chain_trace.specs.Paths.{scan_path_at, out_pin_at}
 use Rattle.chain_trace.specs.Parities.{NamesEntry}
-use Rattle.path_links.proofs.PathLists.{Has, contains, From, flat_from}
-use Rattle.net_edit.proofs.NewAssigns.{index_has}
+use Rattle.list_laws.proofs.Has.{Has, contains, From, flat_from}
+use Rattle.list_laws.proofs.Apart.{index_has}
 use Rattle.traced_paths.specs.Bits.{step_bits, path_bits, all_bits}
 use Rattle.traced_paths.specs.Traced.{steps_of, NameEntries}
 use Rattle.def_reader.specs.declared.design.Component.{Component}

@@ -1,7 +1,6 @@
 pub mod Members
 pub mod PinSites
 pub mod MovedNets
-pub mod Once
 pub mod LinkPins
 pub mod Made
 pub mod Standing

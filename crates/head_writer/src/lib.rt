@@ -3,7 +3,7 @@
 //!
 //! Floor: writers, on base_types, token_forms, splice, chain_trace, stil_types, stil_tokens, stil_syntax, stil_blocks,
 //! head_text, netlist_core, cell_table, path_links, net_edit, def_reader, stil_parts, stil_head, traced_paths,
-//! head_checks, path_chains, path_laws, head_alike, chain_maps and head_chains.
+//! head_checks, path_chains, path_laws, head_alike, chain_maps, head_chains and list_laws.
 //! Contract: `stil_head` gives the text that `written_head` of head_text says, for the chains that `specs/NewChains.antt` says. Begin
 //! with `head.rt`.
 #![tactic(auto)]

@@ -27,7 +27,7 @@ use Rattle.path_links.specs.declared.edits.PinEdit.{PinEdit}
 use Rattle.path_links.specs.Edits.{links, same_source, moved}
 use Rattle.path_links.specs.Edited.{input_of, is_edit_of_pin}
 use Rattle.path_links.specs.Direct.{last_of, is_direct_from}
-use Rattle.path_links.proofs.PathLists.{Has, has, contains, filter_from, filter_has}
+use Rattle.list_laws.proofs.Has.{Has, has, contains, filter_from, filter_has}
 use Rattle.path_links.proofs.PathPorts.{no_pin}
 use Rattle.path_links.proofs.PathSame.{net_is, source_true, source_self}
 use Rattle.path_links.proofs.PathLinks.{out_step}
@@ -43,7 +43,8 @@ use Rattle.net_edit.proofs.Ports.{Assigned, Direct, is_open, is_freed}
 use Rattle.net_edit.proofs.NewPins.{pin_kept, pin_given}
 use Rattle.net_edit.proofs.NewEdits.{position_some, position_not, is_moved, edit_from, edit_to, moved_not, moved_or, pins, at, at_out, out_case, is_here}
 use Rattle.net_edit.proofs.Stood.{count, changed, tails, stood, IsNoPort, stood_same, stood_tail, stood_port, Plain, Tail, is_new_net, plain_off, IsAt, link_at, is_port_at}
-use Rattle.net_edit.proofs.NewAssigns.{joined_old, g, g_same, joined_new, g_tail, own_joined, finds, lacks, has_index, index_has, change_fresh}
+use Rattle.net_edit.proofs.NewAssigns.{joined_old, g, g_same, joined_new, g_tail, own_joined, finds, lacks, change_fresh}
+use Rattle.list_laws.proofs.Apart.{has_index, index_has}
 
 -- the ports of changes, each once
 

@@ -19,7 +19,7 @@ use Rattle.chain_trace.specs.declared.path.Sink.TheVariants as sinks
 use Rattle.chain_trace.specs.Paths.{scan_path_at, out_pin_at, pin_net, source_net, sink_net, IsScanPath}
 use Rattle.chain_trace.proofs.Ranges.{sink_within}
 use Rattle.path_links.specs.Edits.{same_source}
-use Rattle.path_links.proofs.PathLists.{Has}
+use Rattle.list_laws.proofs.Has.{Has}
 use Rattle.path_links.proofs.PathLinks.{out_step}
 use Rattle.path_links.proofs.PathSame.{source_true}
 use Rattle.net_edit.specs.Changes.{Change, tail_or, tail_of, new_net}

@@ -14,7 +14,7 @@ use Rattle.chain_trace.specs.declared.path.Sink.TheVariants as sinks
 use Rattle.chain_trace.specs.Paths.{AreOfOnePath, StandOnce}
 use Rattle.path_links.specs.Edits.{links, same_source}
 use Rattle.path_links.specs.Direct.{last_of}
-use Rattle.path_links.proofs.PathLists.{Has, contains, has_left, has_right, has_split, flat_from, flat_has}
+use Rattle.list_laws.proofs.Has.{Has, contains, has_left, has_right, has_split, flat_from, flat_has}
 use Rattle.path_links.proofs.PathLinks.{HasStep, sink_step, First, Later, link_source, port_link, last_link, Once, port_fresh, out_step, out_not_port, one_sink, one_source}
 use Rattle.path_links.proofs.PathSame.{source_true, source_self}
 use Rattle.net_edit.specs.Changes.{Change, changes_of, changes}

@@ -23,7 +23,8 @@ use Rattle.path_links.specs.declared.edits.PortEdit.{PortEdit}
 use Rattle.path_links.specs.Free.{is_bit_of, count_in, count_in_assign, is_one_net}
 use Rattle.path_links.specs.Edits.{links, moved, port_edit_of, assign_at}
 use Rattle.path_links.specs.Edited.{edited_expr, map_from, assign_source, edited_assign}
-use Rattle.path_links.proofs.PathLists.{Has, has, contains, has_left, has_right, has_split, flat_from, flat_has, filter_from, filter_has, find_none, find_one}
+use Rattle.list_laws.proofs.Apart.{has_index}
+use Rattle.list_laws.proofs.Has.{Has, has, contains, has_left, has_right, has_split, flat_from, flat_has, filter_from, filter_has, find_none, find_one}
 use Rattle.path_links.proofs.PathNets.{map_from_at}
 use Rattle.path_links.proofs.PathSame.{net_is}
 use Rattle.path_links.proofs.PathAssigns.{count_parts}
@@ -55,20 +56,6 @@ alone S a b none p = alone_chain S a b none p.over p.chain where
   alone_chain S a b none (x ∷ xs) p = absurd (none x p.0)
 
 -- members with their places
-
-pub record HasIndex {X : Type 0} (xs : List X) (x : X) : Type 0 where
-  pub index : ℕ
-  pub get : slice_get xs index ≡ Some x
-
-pub has_index : {X : Type 0} (xs : List X) (x : X) → Has xs x → HasIndex xs x
-has_index [] x h = absurd h
-has_index (y ∷ ys) x (inl e) = record { index = 0; get = ap (λ (z : _). Some z) e }
-has_index (y ∷ ys) x (inr h) = let r = has_index ys x h in record { index = suc r.index; get = r.get }
-
-pub index_has : {X : Type 0} (xs : List X) (i : ℕ) (x : X) → slice_get xs i ≡ Some x → Has xs x
-index_has [] i x e = absurd (none-some x e)
-index_has (y ∷ ys) zero x e = inl (same_Some y x e)
-index_has (y ∷ ys) (suc i) x e = inr (index_has ys i x e)
 
 pub record IsMapped {X Y : Type 0} (f : ℕ → X → Y) (xs : List X) (y : Y) : Type 0 where
   pub index : ℕ

@@ -21,7 +21,7 @@ use Rattle.chain_trace.specs.Paths.{scan_path_at, out_pin_at}
 use Rattle.path_links.specs.declared.edits.PinEdit.{PinEdit}
 use Rattle.path_links.specs.Edits.{Link, links, same_source, same_link, moved, pin_edit_of}
 use Rattle.path_links.specs.Edited.{input_of, is_edit_of_pin, pin_source}
-use Rattle.path_links.proofs.PathLists.{Has, flat_from, flat_has, filter_from, filter_has, find_none, find_one}
+use Rattle.list_laws.proofs.Has.{Has, flat_from, flat_has, filter_from, filter_has, find_none, find_one}
 use Rattle.path_links.proofs.PathSame.{any_has, has_any, source_true, source_self}
 use Rattle.net_edit.specs.Changes.{Change, tail_or, tail_of, new_net}
 use Rattle.net_edit.specs.Rearranged.{AreRearranged}

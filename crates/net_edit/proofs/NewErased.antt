@@ -34,7 +34,7 @@ use Rattle.path_links.specs.Free.{count_in}
 use Rattle.path_links.specs.Edited.{input_of, edited_expr, is_edit_of_pin, map_from, assign_source, edited_assign}
 use Rattle.path_links.specs.Erasure.{sink_pin_of, sink_pin, is_sink_pin, erased_pin, erased_instance, has_name, erased_assign, erased_netlist}
 use Rattle.path_links.proofs.EditNetlist.{map-map_from, map_twice}
-use Rattle.path_links.proofs.PathLists.{Has, contains, has_left, has_right, has_split, flat_from, flat_has, find_none, find_one}
+use Rattle.list_laws.proofs.Has.{Has, contains, has_left, has_right, has_split, flat_from, flat_has, find_none, find_one}
 use Rattle.path_links.proofs.PathLinks.{out_step}
 use Rattle.path_links.proofs.PathSame.{net_is}
 use Rattle.path_links.proofs.PathAssigns.{single_is, count_parts}
@@ -47,7 +47,8 @@ use Rattle.net_edit.proofs.OldLinks.{step_old, in_pin}
 use Rattle.net_edit.proofs.Ports.{IsDirectPort, is_freed}
 use Rattle.net_edit.proofs.NewEdits.{position_some, edit_from, pins, out_case, is_here}
 use Rattle.net_edit.proofs.Stood.{count, changed, tails, port_in}
-use Rattle.net_edit.proofs.NewAssigns.{has_index, index_has, finds, IsEdited, Same, New, is_edited, edited_assigns, freed_assigns, ports, mapped_from}
+use Rattle.list_laws.proofs.Apart.{has_index, index_has}
+use Rattle.net_edit.proofs.NewAssigns.{finds, IsEdited, Same, New, is_edited, edited_assigns, freed_assigns, ports, mapped_from}
 
 any_of : {X : Type 0} (test : X → Bool) (xs : List X) (x : X) → Has xs x → test x ≡ true → list_any test xs ≡ true
 any_of test [] x h e = absurd h

@@ -21,7 +21,7 @@ use Rattle.chain_trace.proofs.Ranges.{all_at, source_within}
 use Rattle.path_links.specs.declared.edits.PinEdit.{PinEdit}
 use Rattle.path_links.specs.Edited.{edited_expr, is_edit_of_pin, edited_assign}
 use Rattle.path_links.proofs.EditNetlist.{length-map_from, all_map_from, map-map_from, map_twice}
-use Rattle.path_links.proofs.PathLists.{Has, flat_from}
+use Rattle.list_laws.proofs.Has.{Has, flat_from}
 use Rattle.net_edit.specs.Changes.{Change, tail_or, new_net}
 use Rattle.net_edit.specs.Rearranged.{AreRearranged}
 use Rattle.net_edit.specs.Tails.{is_out_pin, tail_at, changed_connection, changed_instance, assign_of, freed_assign, net_named, rewired, AreTailNames}

@@ -15,7 +15,7 @@ use Rattle.chain_trace.specs.Paths.{IsOnlySource, AreApart, is_driven, has_port,
 use Rattle.chain_trace.proofs.Ranges.{then_some}
 use Rattle.path_links.specs.Edits.{Link, links_from, links}
 use Rattle.path_links.specs.Direct.{last_source, last_of}
-use Rattle.path_links.proofs.PathLists.{Has, has, contains, flat_from, flat_has}
+use Rattle.list_laws.proofs.Has.{Has, has, contains, flat_from, flat_has}
 use Rattle.path_links.proofs.PathLinks.{links_of_leads, First, Later, link_source, source_sink, step_sink, Once, once}
 use Rattle.path_links.proofs.PathSame.{cases_source}
 use Rattle.net_edit.specs.Changes.{Change, changes}

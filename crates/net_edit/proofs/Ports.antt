@@ -21,7 +21,7 @@ use Rattle.chain_trace.specs.Paths.{drives, has_port, scan_path_at, out_pin_at, 
 use Rattle.chain_trace.proofs.Ranges.{then_some}
 use Rattle.path_links.specs.Direct.{is_output, is_net, is_left_at, is_direct_from}
 use Rattle.path_links.specs.Free.{count_in_assign, count_in_instance, count_of, is_free}
-use Rattle.path_links.proofs.PathLists.{Has, filter_from, filter_has}
+use Rattle.list_laws.proofs.Has.{Has, filter_from, filter_has}
 use Rattle.path_links.proofs.PathSame.{net_is}
 use Rattle.path_links.proofs.PathPorts.{no_in, port_net, only_port}
 use Rattle.net_edit.specs.Changes.{Change, changes, freed}

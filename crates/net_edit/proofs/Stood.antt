@@ -18,7 +18,7 @@ use Rattle.chain_trace.specs.declared.path.Sink.TheVariants as sinks
 use Rattle.chain_trace.specs.Paths.{drives, is_driven, has_port, pin_net, source_net}
 use Rattle.chain_trace.proofs.Ranges.{port_within, source_within}
 use Rattle.path_links.specs.Edits.{same_source}
-use Rattle.path_links.proofs.PathLists.{Has, find_none, find_one}
+use Rattle.list_laws.proofs.Has.{Has, find_none, find_one}
 use Rattle.path_links.proofs.PathLinks.{out_not_port}
 use Rattle.path_links.proofs.PathSame.{source_true, source_self, cases_source}
 use Rattle.net_edit.specs.Changes.{Change, tail_or, tail_of, new_net}

@@ -1,9 +1,8 @@
 -- Where in each cell of a table each pin stands once, so it does at each instance.
 use Rattle.std.proofs.Common.{◌≡◌, ◌≢◌, ℕ, zero, suc, cond, List, [], ◌∷◌, ◌++◌, map, Some, option_and_then, inl, inr, refl, sym, ap, ◌∙◌, subst}
-use Rattle.std.specs.List.{slice_get}
+use Rattle.std.specs.List.{slice_get, AllByRecursion as Each}
 use Rattle.std.specs.Str.{bytes_eq}
 use Rattle.std.specs.Prelude.{Bool, true, false}
-use Rattle.std.specs.List.{AllByRecursion as Each}
 use Rattle.std.proofs.lemmas.Option.{same_Some, none-some}
 use Rattle.netlist_core.specs.declared.netlist.Instance.{Instance}
 use Rattle.netlist_core.specs.declared.netlist.Netlist.{Netlist}
@@ -15,7 +14,7 @@ use Rattle.cell_table.specs.Table.{paths_at}
 use Rattle.chain_trace.specs.declared.path.Step.{Step}
 use Rattle.chain_trace.specs.Paths.{scan_path_at, out_pin_at}
 use Rattle.chain_trace.proofs.Ranges.{then_some}
-use Rattle.path_links.proofs.PathLists.{Has, has_left, has_right}
+use Rattle.list_laws.proofs.Has.{Has, has_left, has_right}
 use Rattle.net_edit.specs.Rearranged.{ArePinsOnce}
 
 -- names, none twice

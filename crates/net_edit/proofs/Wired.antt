@@ -14,7 +14,7 @@ use Rattle.chain_trace.specs.declared.path.Source.TheVariants as sources
 use Rattle.chain_trace.specs.declared.path.Sink.{Sink}
 use Rattle.chain_trace.specs.declared.path.Sink.TheVariants as sinks
 use Rattle.chain_trace.specs.Paths.{source_net, sink_net, AreApart, IsOnlySource, IsScanPath}
-use Rattle.path_links.proofs.PathLists.{Has}
+use Rattle.list_laws.proofs.Has.{Has}
 use Rattle.path_links.proofs.PathLinks.{leads_of_links, in_not_port}
 use Rattle.path_links.proofs.PathSame.{cases_source}
 use Rattle.net_edit.specs.Changes.{Change, changes}

@@ -14,7 +14,7 @@ use Rattle.chain_trace.specs.declared.path.Sink.TheVariants as sinks
 use Rattle.chain_trace.specs.Paths.{source_net}
 use Rattle.chain_trace.proofs.Ranges.{source_within}
 use Rattle.path_links.specs.Edits.{Link, same_source, moved, pin_edit_of, port_edit_of, assign_at}
-use Rattle.path_links.proofs.PathLists.{Has}
+use Rattle.list_laws.proofs.Has.{Has}
 use Rattle.path_links.proofs.EditEach.{each_append}
 use Rattle.net_edit.specs.declared.edits.Wire.{Wire}
 use Rattle.net_edit.specs.declared.edits.Wire.TheVariants.{Net, Tail}

@@ -1,7 +1,7 @@
 //! Several paths put into another order at once, where outputs that an out pin drives directly are freed by tails: the edits of a
 //! netlist, the netlist with them, and the laws of what they make of it.
 //!
-//! Floor: paths, on cell_table, netlist_core, chain_trace, path_links and base_types.
+//! Floor: paths, on cell_table, netlist_core, chain_trace, path_links, base_types and list_laws.
 //! Contract: `edits_for` gives the edits of `specs/Wires.antt`, whose tails have the names of `specs/TailNames.antt`, and says that
 //! with them the netlist has the new paths, is a netlist, is the read one but for the scan wiring, and agrees with a design whose
 //! sinks were moved; `apply` gives that netlist, `rewired` of `specs/Tails.antt`; `moved_links` gives the sinks with another source.

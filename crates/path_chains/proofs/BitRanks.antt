@@ -23,10 +23,10 @@ use Rattle.chain_trace.specs.declared.path.Step.{Step}
 use Rattle.chain_trace.specs.declared.path.Path.{Path}
 use Rattle.chain_trace.specs.Paths.{scan_path_at, out_pin_at, StandOnce}
 use Rattle.chain_trace.specs.Parities.{bits_in, entry_marks}
-use Rattle.path_links.proofs.PathLists.{Has, has, contains, flat_from}
+use Rattle.list_laws.proofs.Has.{Has, has, contains, flat_from}
 use Rattle.path_links.proofs.PathLinks.{once}
 use Rattle.net_edit.specs.Rearranged.{steps_of}
-use Rattle.path_links.proofs.NoTwice.{NoTwice}
+use Rattle.list_laws.proofs.NoTwice.{NoTwice}
 use Rattle.path_chains.specs.Numbered.{bits_of_paths, IsNumbering}
 use Rattle.path_chains.specs.Ranked.{name_of, key_of, key_cmp, comes_before, rank_of}
 use Rattle.path_chains.proofs.Cells.{step_bits, all_of_steps, bits_once, bit_of}

@@ -15,12 +15,12 @@ use Rattle.chain_trace.specs.declared.path.Step.{Step}
 use Rattle.chain_trace.specs.declared.path.Path.{Path}
 use Rattle.chain_trace.specs.Paths.{scan_path_at, out_pin_at, StandOnce, AreOfOnePath}
 use Rattle.chain_trace.specs.Parities.{Mark, Turn, Bit, bit_marks, entry_marks, step_marks, path_marks, bits_in, plus, parities}
-use Rattle.path_links.proofs.PathLists.{Has, has, contains, flat_from, flat_has}
+use Rattle.list_laws.proofs.Has.{Has, has, contains, flat_from, flat_has}
 use Rattle.path_links.proofs.PathLinks.{Once, once}
 use Rattle.net_edit.specs.Rearranged.{steps_of}
 use Rattle.stil_tester.specs.Shifting.{numbers_of, IsChain, AreChains}
 use Rattle.retarget.specs.Retargeting.{HaveSameCells}
-use Rattle.path_links.proofs.NoTwice.{NoTwice, no_twice_flat, map_has}
+use Rattle.list_laws.proofs.NoTwice.{NoTwice, no_twice_flat, map_has}
 use Rattle.path_chains.specs.Numbered.{bits_along, bits_of_paths, IsNumbering, chain_of, chains_of, HaveBits}
 
 -- bits of marks

@@ -6,8 +6,8 @@ use Rattle.std.specs.Ordering.{nat_cmp}
 use Rattle.std.proofs.lemmas.Bool.{false≢true}
 use Rattle.std.proofs.lemmas.Cmp.{ranked}
 use Rattle.std.proofs.lemmas.List.Sums.{sum_by-cons, count_by-le-length}
-use Rattle.path_links.proofs.PathLists.{Has}
-use Rattle.path_links.proofs.NoTwice.{NoTwice}
+use Rattle.list_laws.proofs.Has.{Has}
+use Rattle.list_laws.proofs.NoTwice.{NoTwice}
 
 -- of two members one comes before the other, or they are the same
 abbrev pub Meet : {X : Type 0} → (X → X → Bool) → List X → Type 0

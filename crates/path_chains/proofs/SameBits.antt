@@ -1,8 +1,8 @@
 -- Lists with the same members, each once, sum up alike.
 use Rattle.std.proofs.Common.{◌≡◌, ℕ, cond, Bool, List, [], ◌∷◌, ◌++◌, length, sum_by, count_by, inl, inr, refl, sym, ap, ◌∙◌, subst, arith}
 use Rattle.std.proofs.lemmas.List.Sums.{sum_by-cons, sum_by-append}
-use Rattle.path_links.proofs.PathLists.{Has, has_left, has_right, has_split}
-use Rattle.path_links.proofs.NoTwice.{NoTwice}
+use Rattle.list_laws.proofs.Has.{Has, has_left, has_right, has_split}
+use Rattle.list_laws.proofs.NoTwice.{NoTwice}
 
 -- a member stands between others
 record Split {X : Type 0} (ys : List X) (x : X) : Type 0 where

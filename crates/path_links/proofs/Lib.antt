@@ -6,8 +6,6 @@ pub mod EditKeys
 pub mod EditPlaces
 pub mod EditEach
 pub mod EditNetlist
-pub mod NoTwice
-pub mod PathLists
 pub mod PathLinks
 pub mod PathSame
 pub mod PathNets

@@ -11,7 +11,7 @@ use Rattle.chain_trace.specs.declared.path.Sink.TheVariants as sinks
 use Rattle.chain_trace.specs.Paths.{IsOnlySource, Leads, AreOfOnePath, StandOnce}
 use Rattle.path_links.specs.Edits.{Link, links_from}
 use Rattle.path_links.specs.Direct.{last_source}
-use Rattle.path_links.proofs.PathLists.{Has, contains}
+use Rattle.list_laws.proofs.Has.{Has, contains}
 
 source_is : (a b : Source) (s t : Sink) → ◌≡◌ {A = Link} (a, s) (b, t) → a ≡ b
 source_is a b s t e = ap (λ (l : Link). l.0) e

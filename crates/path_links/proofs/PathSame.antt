@@ -10,7 +10,7 @@ use Rattle.chain_trace.specs.declared.path.Source.TheVariants as sources
 use Rattle.chain_trace.specs.declared.path.Sink.{Sink}
 use Rattle.chain_trace.specs.declared.path.Sink.TheVariants as sinks
 use Rattle.path_links.specs.Edits.{Link, same_step, same_source, same_sink, same_link}
-use Rattle.path_links.proofs.PathLists.{Has}
+use Rattle.list_laws.proofs.Has.{Has}
 
 pub net_is : (a b : NetId) → a.0 ≡ b.0 → a ≡ b
 net_is a b e = ap (λ (x : ℕ). record { 0 = x }) e

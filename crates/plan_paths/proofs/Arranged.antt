@@ -28,14 +28,14 @@ use Rattle.chain_rules.specs.Stretches.{path_at, step_at, spec_at, no_path as no
 use Rattle.chain_rules.specs.Rules.{IsPort, PinsLast, AreRulesOf}
 use Rattle.path_links.specs.Free.{is_free}
 use Rattle.path_links.specs.Direct.{last_source, last_of, is_direct_from}
-use Rattle.path_links.proofs.PathLists.{Has, has, contains, flat_from, flat_has}
+use Rattle.list_laws.proofs.Has.{Has, has, contains, flat_from, flat_has}
 use Rattle.path_links.proofs.PathLinks.{Once}
 use Rattle.net_edit.specs.Rearranged.{ArePinsOnce, steps_of, IsAligned, AreAligned, AreOutputsApart, AreRearranged}
 use Rattle.net_edit.proofs.Links.{has_get, stand_once}
-use Rattle.net_edit.proofs.NewAssigns.{has_index}
+use Rattle.list_laws.proofs.Apart.{has_index}
 use Rattle.plan_paths.specs.NewPaths.{Site, run_places, runs_places, chain_on, filling, places_at, new_places, absent_path, absent_step, path_in, step_in, new_path, new_paths}
 use Rattle.plan_paths.specs.Numbered.{PathNumbers, numbered_path, numbered_paths}
-use Rattle.path_links.proofs.NoTwice.{NoTwice, range_in, map_has}
+use Rattle.list_laws.proofs.NoTwice.{NoTwice, range_in, map_has}
 use Rattle.plan_paths.proofs.Places.{InRange, IsOn, Fixed, Moved, on, AreRuns, IsPlaceOf, all_places, all_once, all_in, all_there, run_there}
 use Rattle.plan_paths.proofs.UnitRuns.{steps_at, read, stretch_in, read_units, are_runs, all_mapped, cover_at, cover_in}
 

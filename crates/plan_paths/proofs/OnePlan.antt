@@ -9,9 +9,9 @@ use Rattle.chain_rules.specs.declared.unit.Unit.{Unit as MovedUnit}
 use Rattle.chain_rules.specs.declared.unit.Rules.{Rules}
 use Rattle.chain_rules.specs.declared.plan.Plan.{Plan}
 use Rattle.chain_rules.specs.Legality.{unit_at, rule_at, chain_at}
-use Rattle.path_links.proofs.PathLists.{Has, flat_from}
+use Rattle.list_laws.proofs.Has.{Has, flat_from}
 use Rattle.plan_paths.specs.NewPaths.{Site, run_places, runs_places, chain_on, filling, places_at, new_places}
-use Rattle.path_links.proofs.NoTwice.{range_in}
+use Rattle.list_laws.proofs.NoTwice.{range_in}
 use Rattle.plan_paths.proofs.Places.{InRun, run_in, InRange, AreRuns, IsOn, Fixed, Moved, on}
 
 -- lists

@@ -10,8 +10,8 @@ use Rattle.chain_rules.specs.declared.unit.ChainRule.{ChainRule}
 use Rattle.chain_rules.specs.declared.unit.Rules.{Rules}
 use Rattle.chain_rules.specs.declared.plan.Plan.{Plan}
 use Rattle.chain_rules.specs.Legality.{unit_at, rule_at, chain_at}
-use Rattle.path_links.proofs.NoTwice.{NoTwice, no_twice_append, no_twice_flat, range_in, range_has, range_once, map_in, map_has, no_twice_map}
-use Rattle.path_links.proofs.PathLists.{Has, flat_from, flat_has}
+use Rattle.list_laws.proofs.NoTwice.{NoTwice, no_twice_append, no_twice_flat, range_in, range_has, range_once, map_in, map_has, no_twice_map}
+use Rattle.list_laws.proofs.Has.{Has, flat_from, flat_has}
 use Rattle.net_edit.proofs.Links.{has_get}
 use Rattle.net_edit.proofs.NewEdits.{position_some, position_not}
 use Rattle.plan_paths.specs.NewPaths.{Site, run_places, runs_places, lies_in, chain_on, filling, places_at, new_places}

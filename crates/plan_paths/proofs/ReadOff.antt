@@ -10,7 +10,7 @@ use Rattle.chain_rules.specs.declared.unit.Rules.{Rules}
 use Rattle.chain_rules.specs.declared.plan.Plan.{Plan}
 use Rattle.chain_rules.specs.Legality.{IsLegal}
 use Rattle.chain_rules.specs.Rules.{AreRulesOf}
-use Rattle.path_links.proofs.PathLists.{Has}
+use Rattle.list_laws.proofs.Has.{Has}
 use Rattle.plan_paths.specs.NewPaths.{Site, new_places, absent_path, step_in, new_path, new_paths}
 use Rattle.plan_paths.specs.Numbered.{PathNumbers, numbered_paths}
 use Rattle.plan_paths.proofs.Places.{IsPlaceOf, path_there}

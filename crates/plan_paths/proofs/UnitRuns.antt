@@ -16,10 +16,10 @@ use Rattle.chain_rules.specs.Legality.{unit_at, rule_at, chain_at, IsLegal}
 use Rattle.chain_rules.specs.Stretches.{path_at, step_at, spec_at, IsInside, EndsAt, IsEndStep}
 use Rattle.chain_rules.specs.Rules.{Cover, IsReadChain, AreRulesOf}
 use Rattle.chain_rules.proofs.Distinct.{distinct_from_permutation, Contains-concat, only_chain}
-use Rattle.path_links.proofs.PathLists.{Has, has, contains, has_left, has_split}
+use Rattle.list_laws.proofs.Has.{Has, has, contains, has_left, has_split}
 use Rattle.net_edit.proofs.Links.{has_get}
 use Rattle.plan_paths.specs.NewPaths.{Site}
-use Rattle.path_links.proofs.NoTwice.{NoTwice, range_in, range_has}
+use Rattle.list_laws.proofs.NoTwice.{NoTwice, range_in, range_has}
 use Rattle.plan_paths.proofs.Places.{InRun, InRange, AreRuns}
 
 -- numbers of lists of lists

@@ -6,7 +6,7 @@ use Rattle.netlist_core.specs.declared.netlist.Netlist.{Netlist}
 use Rattle.def_reader.specs.declared.design.Component.{Component}
 use Rattle.def_reader.specs.declared.design.Design.{Design}
 use Rattle.def_reader.specs.Designs.{cell_of}
-use Rattle.path_links.proofs.PathLists.{Has, has, contains}
+use Rattle.list_laws.proofs.Has.{Has, has, contains}
 use Rattle.reorder_command.proofs.Heads.{Head, head, heads}
 
 abbrev first_or : {X : Type 0} → X → List X → X

@@ -15,7 +15,7 @@ use Rattle.chain_rules.specs.declared.plan.Plan.{Plan}
 use Rattle.chain_rules.specs.Legality.{IsLegal}
 use Rattle.chain_rules.specs.Rules.{AreRulesOf}
 use Rattle.path_links.specs.Direct.{last_of}
-use Rattle.path_links.proofs.PathLists.{Has, has}
+use Rattle.list_laws.proofs.Has.{Has, has}
 use Rattle.net_edit.specs.declared.changes.Change.{Change}
 use Rattle.net_edit.specs.Changes.{changes}
 use Rattle.net_edit.proofs.Links.{HasPair, change_from, has_get}

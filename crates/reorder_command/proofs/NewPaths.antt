@@ -19,7 +19,7 @@ use Rattle.chain_rules.specs.declared.plan.Plan.{Plan}
 use Rattle.chain_rules.specs.Legality.{IsLegal}
 use Rattle.net_edit.specs.Laws.{PinsOnceLaw}
 use Rattle.net_edit.specs.Rearranged.{AreRearranged, steps_of}
-use Rattle.path_links.proofs.PathLists.{Has, has, contains, flat_from, flat_has}
+use Rattle.list_laws.proofs.Has.{Has, has, contains, flat_from, flat_has}
 use Rattle.plan_paths.specs.Laws.{PlanLaw}
 use Rattle.plan_paths.specs.NewPaths.{new_path, new_paths}
 use Rattle.path_chains.specs.Numbered.{bit_count, HaveBits}

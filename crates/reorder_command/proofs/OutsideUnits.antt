@@ -21,8 +21,8 @@ use Rattle.chain_rules.specs.Legality.{no_unit, unit_at, rule_at, chain_at, bits
 use Rattle.chain_rules.specs.Stretches.{no_step, no_path, path_at, step_at, spec_at, bits_between}
 use Rattle.chain_rules.specs.Rules.{IsUnit, AreRulesOf}
 use Rattle.list_laws.proofs.Totals.{sum_by-map}
-use Rattle.path_links.proofs.PathLists.{Has, contains, flat_from}
-use Rattle.path_links.proofs.NoTwice.{NoTwice, no_twice_flat, range_in, range_has, range_once}
+use Rattle.list_laws.proofs.Has.{Has, contains, flat_from}
+use Rattle.list_laws.proofs.NoTwice.{NoTwice, no_twice_flat, range_in, range_has, range_once}
 use Rattle.plan_paths.proofs.Places.{InRun, AreRuns}
 use Rattle.plan_paths.proofs.UnitRuns.{read, read_in, all_mapped, are_runs}
 use Rattle.traced_paths.specs.Bits.{path_bits, all_bits}

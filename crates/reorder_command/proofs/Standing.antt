@@ -22,7 +22,7 @@ use Rattle.chain_trace.specs.Named.{IsSamePath}
 use Rattle.def_reader.specs.declared.design.NetPin.TheVariants.{Cell, Port}
 use Rattle.def_reader.specs.declared.design.Design.{Design}
 use Rattle.design_places.specs.NetPins.{net_with, pin_named, is_alone, in_pin_alone, out_pin_alone, lacks_in_net, lacks_out_net, names_other, lacks_port, HoldsInNets, InPin, OutPin, AtPort}
-use Rattle.path_links.proofs.PathLists.{Has, has, contains}
+use Rattle.list_laws.proofs.Has.{Has, has, contains}
 use Rattle.reorder_command.specs.Reordered.{AreSamePaths}
 use Rattle.reorder_command.proofs.Heads.{Head, head, heads, head_at, scan_path_kept, out_pin_kept}
 

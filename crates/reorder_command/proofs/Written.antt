@@ -16,7 +16,7 @@ use Rattle.chain_trace.specs.Named.{HasSamePath, NamesLaw}
 use Rattle.chain_trace.proofs.NamedNets.{turned_wiring}
 use Rattle.chain_trace.proofs.Ranges.{port_within}
 use Rattle.path_links.specs.Erasure.{erased_netlist}
-use Rattle.path_links.proofs.PathLists.{contains}
+use Rattle.list_laws.proofs.Has.{contains}
 use Rattle.net_edit.specs.Rearranged.{AreRearranged}
 use Rattle.net_edit.specs.Tails.{freed_between, net_named, rewired, AreTailNames}
 use Rattle.net_edit.specs.Erased.{without_tails, tails_of, scan_sinks}

@@ -9,7 +9,7 @@ use Rattle.chain_trace.specs.declared.path.Path.{Path}
 use Rattle.path_links.specs.Free.{is_free}
 use Rattle.path_links.specs.Direct.{last_of, is_direct_from}
 use Rattle.path_links.specs.Erasure.{erased_netlist}
-use Rattle.path_links.proofs.PathLists.{has}
+use Rattle.list_laws.proofs.Has.{has}
 use Rattle.net_edit.specs.declared.changes.Change.{Change}
 use Rattle.net_edit.specs.Changes.{changes}
 use Rattle.net_edit.specs.Rearranged.{AreRearranged}

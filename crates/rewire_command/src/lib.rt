@@ -1,7 +1,7 @@
 //! Puts the scan path of a Verilog netlist into the order of given names.
 //!
 //! Floor: top, on cell_table, netlist_core, chain_trace, verilog_checks, verilog_reader, path_links, net_edit,
-//! verilog_writer and base_types.
+//! verilog_writer, base_types and list_laws.
 //! Contract: `rewire_text` writes the text that `specs/Rewiring.antt` says, or answers the first fault of `specs/Faults.antt`.
 #![tactic(auto)]
 

@@ -14,8 +14,8 @@ use Rattle.std.proofs.lemmas.List.Sorted.{Contains-permutation, IsPermutation-sy
 use Rattle.std.proofs.lemmas.List.{length-map}
 use Rattle.netlist_core.specs.declared.netlist.Netlist.{Netlist}
 use Rattle.chain_trace.specs.declared.path.BitId.{BitId}
-use Rattle.path_links.proofs.PathLists.{Has, has, contains}
-use Rattle.path_links.proofs.NoTwice.{NoTwice, map_has}
+use Rattle.list_laws.proofs.Has.{Has, has, contains}
+use Rattle.list_laws.proofs.NoTwice.{NoTwice, map_has}
 use Rattle.path_chains.specs.Ranked.{key_of, key_cmp, rank_of}
 use Rattle.path_chains.proofs.Cells.{in_map}
 use Rattle.path_chains.proofs.KeyCounts.{count_map}

@@ -9,9 +9,9 @@ use Rattle.chain_trace.specs.declared.path.PathBits.{PathBits}
 use Rattle.chain_trace.specs.declared.path.Path.{Path}
 use Rattle.chain_trace.specs.Paths.{StandOnce}
 use Rattle.net_edit.specs.Rearranged.{steps_of}
-use Rattle.path_links.proofs.PathLists.{Has, has, contains}
+use Rattle.list_laws.proofs.Has.{Has, has, contains}
 use Rattle.path_links.proofs.PathLinks.{once}
-use Rattle.path_links.proofs.NoTwice.{NoTwice}
+use Rattle.list_laws.proofs.NoTwice.{NoTwice}
 use Rattle.path_chains.specs.Numbered.{bits_along, bits_of_paths}
 use Rattle.path_chains.specs.Ranked.{key_of, key_cmp, rank_of, bits_of_all}
 use Rattle.path_chains.proofs.Cells.{all_of_steps, bits_once, in_map}

@@ -21,7 +21,7 @@ use Rattle.path_links.specs.declared.edits.PinEdit.{PinEdit as NumberedPinEdit}
 use Rattle.path_links.specs.declared.edits.PortEdit.{PortEdit as NumberedPortEdit}
 use Rattle.path_links.specs.Edits.{Link, links_from, links, moved, pin_edit_of, port_edit_of, assign_at}
 use Rattle.path_links.proofs.PathLinks.{Once, in_not_port}
-use Rattle.path_links.proofs.PathLists as path_lists
+use Rattle.list_laws.proofs.Has as path_lists
 use Rattle.net_edit.specs.declared.changes.Change.{Change}
 use Rattle.net_edit.specs.Changes.{new_net}
 use Rattle.net_edit.specs.Rearranged.{steps_of, AreAligned, AreRearranged}

@@ -12,7 +12,7 @@ use Rattle.netlist_core.specs.Netlists.{NamedBit, NamedInstance, NamedNetlist, N
 use Rattle.cell_table.specs.Cells.{Cells}
 use Rattle.cell_table.specs.declared.paths.OutPin.{OutPin}
 use Rattle.chain_trace.specs.declared.path.Source.{Source}
-use Rattle.path_links.proofs.PathLists.{Has}
+use Rattle.list_laws.proofs.Has.{Has}
 use Rattle.net_edit.specs.declared.changes.Change.{Change}
 use Rattle.net_edit.specs.Erased.{NamedTail, is_tail, is_of_freed, untailed_instance, without_tails, tail_named, source_tail, tails_of}
 use Rattle.net_edit.proofs.Ports.{IsDirectPort}

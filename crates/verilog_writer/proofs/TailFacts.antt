@@ -5,8 +5,7 @@ use Rattle.std.specs.Option.{option_or}
 use Rattle.std.specs.List.{flat_map, slice_get, list_any, list_all, AllByRecursion as Each}
 use Rattle.std.specs.Str.{bytes_eq}
 use Rattle.std.proofs.lemmas.Bool.{false≢true, or_parts, or_left, or_right}
-use Rattle.std.proofs.lemmas.Bool.Decides.{nat_tests}
-use Rattle.std.proofs.lemmas.Bool.Decides.{Decides-eqb}
+use Rattle.std.proofs.lemmas.Bool.Decides.{nat_tests, Decides-eqb}
 use Rattle.std.proofs.lemmas.Fmt.{digits_decimal}
 use Rattle.std.proofs.lemmas.List.Folds.{list_any-append}
 use Rattle.std.proofs.lemmas.Slice.Eq.{starts_is}
@@ -31,8 +30,8 @@ use Rattle.path_links.specs.declared.edits.PinEdit.{PinEdit as NumberedPinEdit}
 use Rattle.path_links.specs.declared.edits.PortEdit.{PortEdit as NumberedPortEdit}
 use Rattle.path_links.specs.Edits.{Link, moved, port_edit_of, assign_at}
 use Rattle.path_links.specs.Edited.{in_connection}
-use Rattle.path_links.proofs.PathLists.{flat_from}
-use Rattle.path_links.proofs.PathLists as path_lists
+use Rattle.list_laws.proofs.Has.{flat_from}
+use Rattle.list_laws.proofs.Has as path_lists
 use Rattle.net_edit.specs.declared.edits.PinEdit.{PinEdit}
 use Rattle.net_edit.specs.declared.edits.PortEdit.{PortEdit}
 use Rattle.net_edit.specs.declared.edits.TailEdit.{TailEdit}

@@ -26,7 +26,7 @@ use Rattle.path_links.specs.declared.edits.PortEdit.{PortEdit as NumberedPortEdi
 use Rattle.path_links.specs.Edits.{same_source}
 use Rattle.path_links.specs.Edited.{input_of, in_connection}
 use Rattle.path_links.specs.Direct.{last_of, is_direct_from}
-use Rattle.path_links.proofs.PathLists as path_lists
+use Rattle.list_laws.proofs.Has as path_lists
 use Rattle.net_edit.specs.declared.changes.Change.{Change}
 use Rattle.net_edit.specs.declared.edits.PinEdit.{PinEdit}
 use Rattle.net_edit.specs.declared.edits.PortEdit.{PortEdit}

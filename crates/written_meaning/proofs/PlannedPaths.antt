@@ -24,7 +24,7 @@ use Rattle.chain_rules.specs.declared.unit.Rules.{Rules}
 use Rattle.chain_rules.specs.Legality.{IsLegal}
 use Rattle.net_edit.specs.Rearranged.{AreRearranged, steps_of}
 use Rattle.net_edit.proofs.TablePins.{pins_once}
-use Rattle.path_links.proofs.PathLists.{Has, has, contains, flat_from, flat_has}
+use Rattle.list_laws.proofs.Has.{Has, has, contains, flat_from, flat_has}
 use Rattle.plan_paths.specs.NewPaths.{new_paths}
 use Rattle.plan_paths.proofs.Arranged.{rearranged}
 use Rattle.path_chains.specs.Numbered.{bit_count, HaveBits}

@@ -11,10 +11,10 @@ use Rattle.chain_trace.specs.declared.path.Step.{Step}
 use Rattle.chain_trace.specs.declared.path.Path.{Path}
 use Rattle.chain_trace.specs.Paths.{StandOnce}
 use Rattle.chain_trace.specs.Parities.{Mark, entry_marks, step_marks, path_marks, bits_in, parities, last_parity}
-use Rattle.path_links.proofs.PathLists.{Has, has, contains}
+use Rattle.list_laws.proofs.Has.{Has, has, contains}
 use Rattle.path_links.proofs.PathLinks.{once}
 use Rattle.net_edit.specs.Rearranged.{steps_of, AreRearranged}
-use Rattle.path_links.proofs.NoTwice.{NoTwice, map_has}
+use Rattle.list_laws.proofs.NoTwice.{NoTwice, map_has}
 use Rattle.path_chains.specs.Numbered.{bits_along, bits_of_paths}
 use Rattle.path_chains.specs.Ranked.{name_of, key_of, key_cmp, comes_before, rank_of}
 use Rattle.chain_maps.specs.Along.{HaveSameInstances}

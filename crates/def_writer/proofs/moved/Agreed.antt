@@ -11,14 +11,15 @@ use Rattle.netlist_core.specs.declared.netlist.Instance.{Instance}
 use Rattle.netlist_core.specs.declared.netlist.Netlist.{Netlist}
 use Rattle.netlist_core.specs.Netlists.{plain_of, net_at, IsNetlist}
 use Rattle.chain_trace.proofs.Ranges.{then_some, all_at}
-use Rattle.path_links.proofs.PathLists.{Has, has}
+use Rattle.list_laws.proofs.Has.{Has, has}
 use Rattle.def_reader.specs.declared.design.NetPin.{NetPin}
 use Rattle.def_reader.specs.declared.design.NetPin.TheVariants.{Cell, Port}
 use Rattle.def_reader.specs.declared.design.Net.{Net}
 use Rattle.def_reader.specs.declared.design.Design.{Design}
 use Rattle.def_reader.specs.Agreement.{instance_named, port_named, net_of_pin, Connects}
 use Rattle.net_edit.specs.Agreement.{Pin, OfInstance, OfPort, is_any, net_at_pin}
-use Rattle.net_edit.proofs.NewAssigns.{has_index, finds}
+use Rattle.list_laws.proofs.Apart.{has_index}
+use Rattle.net_edit.proofs.NewAssigns.{finds}
 use Rattle.def_writer.specs.Placing.{instance_name, net_pin, is_there, placing}
 use Rattle.def_writer.specs.Moved.Moves.{net_of}
 use Rattle.def_writer.specs.Moved.Laws.{ArePinsOnceIn, AgreementLaw}

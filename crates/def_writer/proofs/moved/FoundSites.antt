@@ -20,7 +20,7 @@ use Rattle.def_reader.specs.declared.design.NetPin.TheVariants.{Cell, Port}
 use Rattle.def_reader.specs.declared.design.Net.{Net}
 use Rattle.def_reader.specs.declared.design.Design.{Design}
 use Rattle.def_reader.specs.Steps.{PinKey, same_key, pin_by, pin_of_key}
-use Rattle.path_links.proofs.PathLists.{Has}
+use Rattle.list_laws.proofs.Has.{Has}
 use Rattle.net_edit.proofs.Places.{position_append, position_more}
 use Rattle.def_writer.specs.Placing.{same_pin}
 use Rattle.def_edit.specs.declared.pin_moves.PinMove.{PinMove}

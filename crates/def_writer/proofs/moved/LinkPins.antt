@@ -23,7 +23,7 @@ use Rattle.chain_trace.specs.Paths.{scan_path_at, out_pin_at, has_port, drives, 
 use Rattle.chain_trace.proofs.Ranges.{then_some, port_within, sink_within}
 use Rattle.chain_trace.proofs.NamedNets.{net_tells}
 use Rattle.path_links.specs.Edits.{Link, links_from, links, moved}
-use Rattle.path_links.proofs.PathLists.{Has, contains, has_left, has_right, flat_from, flat_has, filter_from}
+use Rattle.list_laws.proofs.Has.{Has, contains, has_left, has_right, flat_from, flat_has, filter_from}
 use Rattle.path_links.proofs.PathLinks.{First, Later, link_source, first_sink, sink_step, port_link, Once}
 use Rattle.def_reader.specs.declared.design.NetPin.{NetPin}
 use Rattle.def_reader.specs.declared.design.NetPin.TheVariants.{Cell, Port}
@@ -35,14 +35,15 @@ use Rattle.net_edit.specs.Rearranged.{steps_of, AreAligned, AreRearranged}
 use Rattle.net_edit.proofs.Links.{HasLink, in_steps, leads_to, has_last, link_at, OutputsOnce, has_old}
 use Rattle.net_edit.proofs.OldLinks.{once_new, apart_old, aligned, beside, old_only, step_old, output_net}
 use Rattle.net_edit.proofs.NewEdits.{is_moved}
-use Rattle.net_edit.proofs.NewAssigns.{has_index, index_has, finds, lacks}
+use Rattle.list_laws.proofs.Apart.{has_index, index_has, Apart, apart_append}
+use Rattle.net_edit.proofs.NewAssigns.{finds, lacks}
 use Rattle.def_writer.specs.Placing.{same_pin, instance_name, net_pin, is_there}
 use Rattle.design_places.specs.NetPins as places
 use Rattle.design_places.specs.NetPins.{net_with, pin_named, in_pin_alone, out_pin_alone, lacks_in_net, lacks_out_net, lacks_port, names_other, is_alone, InPin, OutPin as NoOutPin, AtPort}
 use Rattle.def_writer.specs.Moved.Moves.{move_between, move_of, moves_of}
 use Rattle.def_writer.specs.Moved.Laws.{ArePinsOnceIn, AreMovable}
 use Rattle.def_writer.specs.Moved.Sites.{pins_of}
-use Rattle.def_writer.proofs.moved.Members.{Apart, apart_append, apart_given, apart_filter, given_by}
+use Rattle.def_writer.proofs.moved.Members.{apart_given, apart_filter, given_by}
 use Rattle.def_writer.proofs.moved.PinSites.{StandsAt, Stands, has_pin, pin_at, one_site}
 
 -- the moves by pairs of pins

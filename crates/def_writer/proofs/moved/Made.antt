@@ -6,7 +6,7 @@ use Rattle.chain_trace.specs.declared.path.Path.{Path}
 use Rattle.chain_trace.specs.declared.path.Source.{Source}
 use Rattle.chain_trace.specs.declared.path.Sink.{Sink}
 use Rattle.path_links.specs.Edits.{Link, moved}
-use Rattle.path_links.proofs.PathLists.{Has, has, contains}
+use Rattle.list_laws.proofs.Has.{Has, has, contains}
 use Rattle.net_edit.specs.Agreement.{Pin, pin_of_source, pin_of_sink}
 use Rattle.def_reader.specs.declared.design.NetPin.{NetPin}
 use Rattle.def_reader.specs.declared.design.Design.{Design}

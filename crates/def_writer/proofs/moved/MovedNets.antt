@@ -9,9 +9,8 @@ use Rattle.def_edit.specs.declared.pin_moves.PinMove.{PinMove}
 use Rattle.def_edit.specs.Moved.{leaves, staying, moving_pin, pin_list, coming, moved_pins, moved_from, moved_nets, IsMoveIn, AreMovesIn}
 use Rattle.def_writer.specs.Moved.Moves.{net_of}
 use Rattle.def_writer.specs.Moved.Laws.{ArePinsOnceIn, net_fields}
-use Rattle.path_links.proofs.PathLists.{Has, has_left, has_right, has_split, flat_from, flat_has}
-use Rattle.net_edit.proofs.NewAssigns.{has_index, index_has}
-use Rattle.def_writer.proofs.moved.Members.{Apart, apart_place, apart_from, apart_append, each_has}
+use Rattle.list_laws.proofs.Has.{Has, has_left, has_right, has_split, flat_from, flat_has}
+use Rattle.list_laws.proofs.Apart.{has_index, index_has, Apart, apart_place, apart_from, apart_append, each_has}
 use Rattle.def_writer.proofs.moved.PinSites.{StandsAt, Stands, stands_in, stands_nowhere, moving_at, at_moving, place_of, one_site, net_is}
 
 -- which pins leave

@@ -13,8 +13,9 @@ use Rattle.def_edit.specs.Moved.{moving_pin, IsMoveIn, AreMovesIn}
 use Rattle.def_writer.specs.Placing.{same_pin}
 use Rattle.def_writer.specs.Moved.Moves.{net_of, site_in, move_between}
 use Rattle.def_writer.specs.Moved.Laws.{ArePinsOnceIn}
-use Rattle.path_links.proofs.PathLists.{Has}
-use Rattle.def_writer.proofs.moved.Members.{first_place, is_place, no_place, Apart, apart_place, apart_given, given_by, gives_has, each_from}
+use Rattle.list_laws.proofs.Has.{Has}
+use Rattle.def_writer.proofs.moved.Members.{first_place, is_place, no_place, apart_given, given_by, gives_has, each_from}
+use Rattle.list_laws.proofs.Apart.{Apart, apart_place}
 
 -- the same pin is the pin
 pub pin_is : (p q : NetPin) → same_pin p q ≡ true → p ≡ q

@@ -17,7 +17,7 @@ use Rattle.cell_table.specs.Cells.{Cells}
 use Rattle.chain_trace.specs.declared.path.Step.{Step}
 use Rattle.chain_trace.specs.declared.path.Path.{Path}
 use Rattle.chain_trace.specs.Paths.{scan_path_at, out_pin_at}
-use Rattle.path_links.proofs.PathLists.{Has, has, flat_has}
+use Rattle.list_laws.proofs.Has.{Has, has, flat_has}
 use Rattle.net_edit.specs.Rearranged.{steps_of}
 use Rattle.net_edit.proofs.Links.{has_old}
 use Rattle.net_edit.proofs.OldLinks.{aligned, beside, step_old}

@@ -3,16 +3,16 @@ use Rattle.std.proofs.Common.{◌≡◌, ◌↔◌, ℕ, ◌<◌, ◌==◌, ◌&
 use Rattle.std.specs.List.{slice_get, list_any, position}
 use Rattle.std.specs.Str.{bytes_eq}
 use Rattle.std.proofs.lemmas.Bool.{eqb-true, false≢true, and_from}
-use Rattle.std.proofs.lemmas.Option.{same_Some, none-some, cond_some, slice_get-get_or}
+use Rattle.std.proofs.lemmas.Option.{same_Some, none-some, cond_some, slice_get-get_or, slice_get-map, slice_get_within, get_or_from_slice_get, slice_get_read}
 use Rattle.std.proofs.lemmas.Slice.Eq.{bytes_eq-Decides}
 use Rattle.std.proofs.lemmas.List.Quantifiers.{position-Some}
 use Rattle.netlist_core.specs.declared.netlist.NetId.{NetId}
 use Rattle.netlist_core.specs.declared.netlist.Port.{Port as PortRow}
 use Rattle.netlist_core.specs.declared.netlist.Instance.{Instance}
 use Rattle.netlist_core.specs.declared.netlist.Netlist.{Netlist}
-use Rattle.netlist_core.specs.Netlists.{plain_of, net_at, IsNetlist}
+use Rattle.netlist_core.specs.Netlists.{plain_of, net_at, IsNetlist, AreDistinct}
 use Rattle.chain_trace.specs.Paths.{has_port, pin_net}
-use Rattle.path_links.proofs.PathLists.{Has, has, contains, find_one}
+use Rattle.list_laws.proofs.Has.{Has, has, contains, find_one}
 use Rattle.def_reader.specs.declared.design.NetPin.{NetPin}
 use Rattle.def_reader.specs.declared.design.NetPin.TheVariants.{Cell, Port}
 use Rattle.def_reader.specs.declared.design.Net.{Net}
@@ -21,15 +21,12 @@ use Rattle.def_reader.specs.Agreement.{instance_named, port_named, net_of_pin, C
 use Rattle.net_edit.specs.Agreement.{Pin, OfInstance, OfPort, is_any, net_at_pin, AgreeOnPins}
 use Rattle.def_writer.specs.Placing.{same_pin, instance_name, net_pin, is_there, placing}
 use Rattle.std.proofs.lemmas.List.{length-map}
-use Rattle.std.proofs.lemmas.Option.{slice_get-map, slice_get_within, get_or_from_slice_get}
 use Rattle.std.proofs.lemmas.Map.Views.{Contains-from_any}
-use Rattle.netlist_core.specs.Netlists.{AreDistinct}
 use Rattle.chain_trace.proofs.Ranges.{then_some, port_within, all_at}
 use Rattle.chain_trace.proofs.NamedNets.{net_tells}
 use Rattle.path_links.proofs.PathSame.{net_is}
-use Rattle.net_edit.proofs.NewAssigns.{has_index, index_has}
+use Rattle.list_laws.proofs.Apart.{has_index, index_has}
 use Rattle.std.proofs.lemmas.List.Folds.{Any-from_list_any}
-use Rattle.std.proofs.lemmas.Option.{slice_get_read}
 use Rattle.std.specs.Prelude.{slice_index_or}
 use Rattle.base_types.proofs.TruthValues.{and_second, and_first}
 

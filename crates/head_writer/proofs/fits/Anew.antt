@@ -15,7 +15,7 @@ use Rattle.chain_trace.specs.declared.path.Path.{Path}
 use Rattle.chain_trace.specs.Parities.{plus, path_marks, path_parity, NamesEntry}
 use Rattle.chain_trace.specs.Named.{IsSamePath}
 use Rattle.chain_trace.proofs.Sums.{sum_path}
-use Rattle.path_links.proofs.PathLists.{Has, has, contains}
+use Rattle.list_laws.proofs.Has.{Has, has, contains}
 use Rattle.net_edit.specs.Rearranged.{IsAligned, AreAligned}
 use Rattle.def_reader.specs.declared.design.Design.{Design}
 use Rattle.stil_types.specs.declared.head.ScanChainDecl.{ScanChainDecl}

@@ -11,10 +11,10 @@ use Rattle.chain_trace.specs.declared.path.BitId.{BitId}
 use Rattle.chain_trace.specs.declared.path.Path.{Path}
 use Rattle.chain_trace.specs.Paths.{StandOnce}
 use Rattle.chain_trace.specs.Parities.{path_marks, NamesEntry}
-use Rattle.path_links.proofs.PathLists.{Has, has, contains, flat_has}
+use Rattle.list_laws.proofs.Has.{Has, has, contains, flat_has}
 use Rattle.path_links.proofs.PathLinks.{once}
 use Rattle.net_edit.specs.Rearranged.{steps_of, AreAligned}
-use Rattle.path_links.proofs.NoTwice.{NoTwice}
+use Rattle.list_laws.proofs.NoTwice.{NoTwice}
 use Rattle.def_reader.specs.declared.design.Design.{Design}
 use Rattle.stil_types.specs.declared.head.ScanChainDecl.{ScanChainDecl}
 use Rattle.stil_types.specs.declared.head.StilHead.{StilHead}

@@ -8,7 +8,7 @@ use Rattle.netlist_core.specs.declared.netlist.Netlist.{Netlist}
 use Rattle.cell_table.specs.Cells.{Cells}
 use Rattle.chain_trace.specs.declared.path.BitId.{BitId}
 use Rattle.chain_trace.specs.declared.path.Path.{Path}
-use Rattle.path_links.proofs.PathLists.{Has, has_left, has_right, has_split}
+use Rattle.list_laws.proofs.Has.{Has, has_left, has_right, has_split}
 use Rattle.stil_types.specs.declared.head.ScanChainDecl.{ScanChainDecl}
 use Rattle.head_checks.specs.CellNames.{names_cell, name_each}
 use Rattle.head_checks.specs.Heads.{Declared, bit_names, differ, lists_others}

@@ -7,7 +7,7 @@ use Rattle.chain_rules.specs.Rules.{AreRulesOf}
 use Rattle.path_numbers.specs.Numbers.{path_specs}
 use Rattle.std.specs.Prelude.{Some}
 use Rattle.std.proofs.lemmas.Result.{IfOk-weaker}
-use Rattle.def_writer.proofs.moved.Once.{once_law}
+use Rattle.def_edit.proofs.MovedOnce.{once_law}
 use Rattle.def_writer.proofs.moved.Made.{made_law, moved_law}
 use Rattle.def_writer.proofs.moved.Standing.{standing_law}
 use Rattle.def_edit.specs.NewChains.{AreNewChains}

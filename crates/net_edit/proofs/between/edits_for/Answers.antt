@@ -3,7 +3,7 @@ use Rattle.std.proofs.lemmas.Result.{IfOk-weaker}
 use Rattle.netlist_core.specs.Netlists.{IsNetlist}
 use Rattle.chain_trace.specs.declared.path.Path.{Path}
 use Rattle.chain_trace.proofs.Unique.{path_unique}
-use Rattle.path_links.proofs.PathLists.{has, contains}
+use Rattle.list_laws.proofs.Has.{has, contains}
 use Rattle.net_edit.specs.declared.edits.Edits.{Edits}
 use Rattle.net_edit.specs.Changes.{changes}
 use Rattle.net_edit.specs.Tails.{freed_between, rewired, AreTailNames}

@@ -1,5 +1,5 @@
 use Rattle.chain_trace.proofs.Unique.{path_unique}
-use Rattle.path_links.proofs.PathLists.{has, contains}
+use Rattle.list_laws.proofs.Has.{has, contains}
 use Rattle.net_edit.specs.Changes.{changes}
 use Rattle.net_edit.proofs.Law.{new_path}
 use Rattle.net_edit.proofs.NewNetlist.{is_netlist}

@@ -2,7 +2,7 @@
 use Rattle.std.proofs.Common.{◌≡◌, ◌≢◌, ℕ, zero, suc, ◌+◌, ◌<◌, ◌≤◌, ◌==◌, List, [], ◌∷◌, ◌++◌, map, flat_map, inl, inr, refl, sym, ap, ◌∙◌, subst, arith}
 use Rattle.std.specs.List.{range_with_len}
 use Rattle.std.proofs.lemmas.Bool.{eqb-true, eq-eqb, cases_Bool, false≢true}
-use Rattle.path_links.proofs.PathLists.{Has, has_split, flat_from}
+use Rattle.list_laws.proofs.Has.{Has, has_split, flat_from}
 
 abbrev pub NoTwice : {X : Type 0} → List X → Type 0
 NoTwice [] = Unit {0}

@@ -1,58 +1,8 @@
 -- Members of lists by their places, and lists whose members are apart.
-use Rattle.std.proofs.Common.{◌≡◌, ℕ, zero, suc, ◌<◌, List, [], ◌∷◌, ◌++◌, length, get_or, ◌⊎◌, inl, inr, Some, Contains, flat_map, refl, sym, ap, ◌∙◌, subst, arith}
+use Rattle.std.proofs.Common.{◌≡◌, ℕ, zero, suc, List, [], ◌∷◌, ◌++◌, inl, inr, Some, refl, sym, ap, ◌∙◌, subst, arith}
 use Rattle.std.specs.List.{slice_get, AllByRecursion as Each}
 use Rattle.std.proofs.lemmas.Option.{same_Some, none-some}
-
--- x is a member, by recursion
-abbrev pub Has : {X : Type 0} → List X → X → Type 0
-Has [] x = ⊥
-Has (y ∷ ys) x = (y ≡ x) ⊎ Has ys x
-
-has_at : {X : Type 0} (xs : List X) (k : ℕ) (x : X) → k < length xs → get_or xs k x ≡ x → Has xs x
-has_at [] k x lt e = absurd (omega arith)
-has_at (y ∷ ys) zero x lt e = inl e
-has_at (y ∷ ys) (suc k) x lt e = inr (has_at ys k x (omega arith) e)
-
-pub has : {X : Type 0} (xs : List X) (x : X) → Contains xs x → Has xs x
-has xs x c = has_at xs c.0 x c.1 c.2
-
-pub contains : {X : Type 0} (xs : List X) (x : X) → Has xs x → Contains xs x
-contains [] x h = absurd h
-contains (y ∷ ys) x (inl e) = (0, omega arith, e)
-contains (y ∷ ys) x (inr h) = let c = contains ys x h in let lt = c.1 in (suc c.0, omega arith, c.2)
-
-pub has_left : {X : Type 0} (xs ys : List X) (x : X) → Has xs x → Has (xs ++ ys) x
-has_left [] ys x h = absurd h
-has_left (y ∷ xs) ys x (inl e) = inl e
-has_left (y ∷ xs) ys x (inr h) = inr (has_left xs ys x h)
-
-pub has_right : {X : Type 0} (xs ys : List X) (x : X) → Has ys x → Has (xs ++ ys) x
-has_right [] ys x h = h
-has_right (y ∷ xs) ys x h = inr (has_right xs ys x h)
-
-pub has_split : {X : Type 0} (xs ys : List X) (x : X) → Has (xs ++ ys) x → Has xs x ⊎ Has ys x
-has_split [] ys x h = inr h
-has_split (y ∷ xs) ys x (inl e) = inl (inl e)
-has_split (y ∷ xs) ys x (inr h) = elim (has_split xs ys x h) [ inl a ↦ inl (inr a) | inr b ↦ inr b ]
-
--- a member of what members give comes from one of them
-pub record From {X Y : Type 0} (f : X → List Y) (xs : List X) (y : Y) : Type 0 where
-  pub member : X
-  pub there : Has xs member
-  pub gives : Has (f member) y
-
-pub flat_from : {X Y : Type 0} (f : X → List Y) (xs : List X) (y : Y) → Has (flat_map f xs) y → From f xs y
-flat_from f [] y h = absurd h
-flat_from f (x ∷ xs) y h =
-    elim (has_split (f x) (flat_map f xs) y h) [
-      | inl a ↦ record { member = x; there = inl refl; gives = a }
-      | inr b ↦ let r = flat_from f xs y b in record { member = r.member; there = inr r.there; gives = r.gives }
-    ]
-
-pub flat_has : {X Y : Type 0} (f : X → List Y) (xs : List X) (x : X) (y : Y) → Has xs x → Has (f x) y → Has (flat_map f xs) y
-flat_has f [] x y h g = absurd h
-flat_has f (z ∷ xs) x y (inl e) g = has_left (f z) (flat_map f xs) y (subst (λ (u : _). Has (f u) y) (sym e) g)
-flat_has f (z ∷ xs) x y (inr h) g = has_right (f z) (flat_map f xs) y (flat_has f xs x y h g)
+use Rattle.list_laws.proofs.Has.{Has, has_split}
 
 -- members with their places
 
