@@ -5,7 +5,6 @@ use std::alloc::Global;
 use std::marker::Model;
 
 /// A value in memory of its own, which contracts see as the value: it keeps small what seldom holds one.
-#[derive(Debug)]
 pub struct Boxed<T> {
     value: Box<T>,
 }

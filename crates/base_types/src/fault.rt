@@ -75,7 +75,7 @@ impl Fault {
 }
 
 /// What a reader or a check answers in place of a value.
-#[derive(Debug, Drop)]
+#[derive(Drop)]
 pub enum ReadFault {
     /// The input is refused.
     Fault(Fault),

@@ -25,7 +25,7 @@ fn line_feeds(bytes: &[u8]) -> usize
 
 /// Counts lines from place to place of a text, which contracts see as its bytes. Where the places rise, each line feed
 /// is counted once.
-#[derive(Debug, Drop)]
+#[derive(Drop)]
 pub struct Lines<'a> {
     text: &'a [u8],
     at: usize,

@@ -5,7 +5,6 @@ use std::alloc::Global;
 use std::marker::Model;
 
 /// A list field of a public struct, which contracts see as the list of its members.
-#[derive(Debug)]
 pub struct Rows<T> {
     rows: Vec<T>,
 }

@@ -5,7 +5,7 @@ use crate::memory::NoMemory;
 use std::alloc::{AllocError, AllocFailed};
 
 /// Why a statement is not read on.
-#[derive(Clone, Copy, Debug, PartialEq, Eq)]
+#[derive(Clone, Copy, PartialEq, Eq)]
 pub enum Stop {
     /// Its tokens match no form.
     NoForm,

@@ -6,7 +6,6 @@ use std::convert::AsStr;
 use std::marker::Model;
 
 /// A word of the command line, which contracts see as its bytes.
-#[derive(Debug)]
 pub struct Word {
     text: String,
 }

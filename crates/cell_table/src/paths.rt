@@ -12,7 +12,7 @@ use toml::value::Array;
 use toml::{Table, Value};
 
 /// An out pin of a scan path.
-#[derive(Debug, Drop)]
+#[derive(Drop)]
 pub struct OutPin {
     pub pin: Name,
     /// Whether the pin shows the inverse of the last bit, or of the in pin where there is no bit.
@@ -20,7 +20,6 @@ pub struct OutPin {
 }
 
 /// A scan path of a cell: the way from an in pin over the cell's bits to its out pins.
-#[derive(Debug)]
 pub struct ScanPath {
     pub input: Name,
     /// For each bit whether it is inverted to the bit before it, or to the in pin. A buffer or a lock-up latch has none.

@@ -8,7 +8,6 @@ use std::marker::Model;
 use std::mem;
 
 /// Which units stand in which chain, in their order; contracts see it as a record of a list of lists of unit numbers.
-#[derive(Debug)]
 pub struct Plan {
     chains: Vec<Vec<u32>>,
 }

@@ -1,7 +1,7 @@
 use base_types::Rows;
 
 /// One step of a read path: a scan path of an instance, left by an out pin.
-#[derive(Clone, Copy, Debug, PartialEq, Eq)]
+#[derive(Clone, Copy, PartialEq, Eq)]
 pub struct StepSpec {
     pub instance: u32,
     /// The number of the scan path among those of the instance's cell.
@@ -12,7 +12,7 @@ pub struct StepSpec {
 }
 
 /// A read path: its two ports by their net numbers, and its steps from the scan-in port on.
-#[derive(Debug, Drop)]
+#[derive(Drop)]
 pub struct PathSpec {
     pub input: u32,
     pub output: u32,
@@ -22,7 +22,7 @@ pub struct PathSpec {
 }
 
 /// What a chain names as its START or its STOP.
-#[derive(Clone, Copy, Debug, PartialEq, Eq)]
+#[derive(Clone, Copy, PartialEq, Eq)]
 pub enum EndSpec {
     /// A port, by its net number.
     Port(u32),
@@ -35,7 +35,7 @@ pub enum EndSpec {
 }
 
 /// An element of a chain: a scan path of an instance, with the out pin where one is named.
-#[derive(Clone, Copy, Debug, PartialEq, Eq)]
+#[derive(Clone, Copy, PartialEq, Eq)]
 pub struct ElementSpec {
     pub instance: u32,
     pub path: u32,
@@ -43,7 +43,7 @@ pub struct ElementSpec {
 }
 
 /// A list of a chain statement.
-#[derive(Debug, Drop)]
+#[derive(Drop)]
 pub enum ListSpec {
     /// Elements that may stand in any order.
     Floating(Rows<ElementSpec>),
@@ -52,7 +52,7 @@ pub enum ListSpec {
 }
 
 /// A chain of the SCANCHAINS section (LEF/DEF 5.8), as numbers.
-#[derive(Debug, Drop)]
+#[derive(Drop)]
 pub struct ChainSpec {
     pub start: EndSpec,
     pub stop: EndSpec,

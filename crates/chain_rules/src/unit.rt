@@ -2,7 +2,7 @@ use crate::plan::Plan;
 use base_types::Rows;
 
 /// What is moved as one: a run of steps of a read path.
-#[derive(Clone, Copy, Debug, PartialEq, Eq)]
+#[derive(Clone, Copy, PartialEq, Eq)]
 pub struct Unit {
     /// The number of the read path.
     pub path: u32,
@@ -16,7 +16,7 @@ pub struct Unit {
 }
 
 /// What a chain may hold.
-#[derive(Clone, Copy, Debug, PartialEq, Eq)]
+#[derive(Clone, Copy, PartialEq, Eq)]
 pub struct ChainRule {
     /// The number of the read path.
     pub path: u32,
@@ -32,7 +32,6 @@ pub struct ChainRule {
 }
 
 /// The units, what each chain may hold, and the plan as read.
-#[derive(Debug)]
 pub struct Rules {
     pub units: Rows<Unit>,
     pub chains: Rows<ChainRule>,
@@ -51,7 +50,7 @@ impl Drop for Rules {
 }
 
 /// A place in a plan; both numbers count from 0.
-#[derive(Clone, Copy, Debug, PartialEq, Eq)]
+#[derive(Clone, Copy, PartialEq, Eq)]
 pub struct Position {
     pub chain: u32,
     pub place: u32,

@@ -2,7 +2,7 @@ use base_types::Rows;
 use netlist_core::NetId;
 
 /// A bit of an instance: the bit `index` of the scan path `path` of its cell.
-#[derive(Clone, Copy, Debug, PartialEq, Eq)]
+#[derive(Clone, Copy, PartialEq, Eq)]
 pub struct BitId {
     pub instance: u32,
     pub path: u32,
@@ -10,7 +10,7 @@ pub struct BitId {
 }
 
 /// A step of a path: the scan path `path` of an instance's cell, left by its out pin `out`.
-#[derive(Clone, Copy, Debug, PartialEq, Eq)]
+#[derive(Clone, Copy, PartialEq, Eq)]
 pub struct Step {
     pub instance: u32,
     pub path: u32,
@@ -18,7 +18,6 @@ pub struct Step {
 }
 
 /// A path from an input or inout port over steps to an output or inout port, in the order in which it shifts.
-#[derive(Debug)]
 pub struct Path {
     pub input: NetId,
     pub output: NetId,
@@ -37,7 +36,7 @@ impl Drop for Path {
 }
 
 /// The bits of a path in the order in which it shifts, with their parities.
-#[derive(Debug, Drop)]
+#[derive(Drop)]
 pub struct PathBits {
     pub bits: Rows<BitId>,
     /// For each bit whether it holds the inverse of what the bit before it, or the input, gave.
@@ -47,7 +46,7 @@ pub struct PathBits {
 }
 
 /// What can drive a sink.
-#[derive(Clone, Copy, Debug, PartialEq, Eq)]
+#[derive(Clone, Copy, PartialEq, Eq)]
 pub enum Source {
     /// A bit of an input or inout port.
     Port(NetId),
@@ -56,7 +55,7 @@ pub enum Source {
 }
 
 /// What a source can drive.
-#[derive(Clone, Copy, Debug, PartialEq, Eq)]
+#[derive(Clone, Copy, PartialEq, Eq)]
 pub enum Sink {
     /// A bit of an output or inout port.
     Port(NetId),

@@ -6,7 +6,7 @@ use crate::path::Source;
 use netlist_core::NetId;
 
 /// What is known of the sources that can feed a sink.
-#[derive(Clone, Copy, Debug, PartialEq, Eq)]
+#[derive(Clone, Copy, PartialEq, Eq)]
 pub(crate) enum Found {
     Absent,
     Only(Source),
@@ -14,7 +14,7 @@ pub(crate) enum Found {
 }
 
 /// What is kept of the sources of a class.
-#[derive(Clone, Copy, Debug, PartialEq, Eq)]
+#[derive(Clone, Copy, PartialEq, Eq)]
 pub(crate) enum Tally {
     Empty,
     One(Source),

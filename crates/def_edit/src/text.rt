@@ -26,7 +26,7 @@ use splice::{Edit, spliced};
 use std::alloc::Global;
 
 /// A DEF text that is written, and how many of its edited nets lost a wiring option.
-#[derive(Debug, Drop)]
+#[derive(Drop)]
 pub struct DefOut {
     pub text: Text,
     pub nets_cut: u64,

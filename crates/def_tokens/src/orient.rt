@@ -1,7 +1,7 @@
 //! Orientations.
 
 /// How a component is turned: by quarters of a circle, and behind `F` also mirrored (DEF 5.8, COMPONENTS).
-#[derive(Clone, Copy, Debug, PartialEq, Eq)]
+#[derive(Clone, Copy, PartialEq, Eq)]
 pub enum Orient {
     N,
     W,

@@ -10,7 +10,7 @@ use std::alloc::Global;
 use token_forms::Tokens;
 
 /// A statement: the spans of its tokens, and whether it has its end. Only a file's last statement may lack it.
-#[derive(Debug, Drop)]
+#[derive(Drop)]
 pub struct Statement {
     pub tokens: Rows<Span>,
     pub closed: bool,

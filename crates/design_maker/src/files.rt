@@ -9,7 +9,7 @@ use base_types::{NoMemory, Text};
 use std::alloc::Global;
 
 /// The files of a design.
-#[derive(Debug, Drop)]
+#[derive(Drop)]
 pub struct Files {
     /// The cell table, in TOML.
     pub table: Text,

@@ -8,7 +8,7 @@ ghost use Rattle.desk_io.specs.Prefixes.{HasRead, HasWritten};
 use crate::slot::Slot;
 
 /// A call of a desk failed: the count of faults of its slot rose, and nothing else changed.
-#[derive(Clone, Copy, Debug, PartialEq, Eq)]
+#[derive(Clone, Copy, PartialEq, Eq)]
 pub struct Failed;
 
 /// The outside of a run: slots that are opened once, read or written, and closed.

@@ -31,7 +31,7 @@ pub enum InputsFault {
 }
 
 /// The texts of the inputs, which contracts see as a list by the numbers of their slots.
-#[derive(Debug, Drop)]
+#[derive(Drop)]
 pub struct Inputs {
     texts: [Option<Text>; INPUTS],
 }

@@ -8,7 +8,7 @@ use std::marker::Model;
 
 /// The slots that a command uses, each with the name under which it is opened: the value of its option. The console is
 /// used without being listed. Contracts see the list.
-#[derive(Debug, Drop)]
+#[derive(Drop)]
 pub struct Names {
     uses: Rows<(Slot, Word)>,
 }

@@ -16,7 +16,7 @@ use std::alloc::Global;
 const OUTPUTS: usize = 5;
 
 /// The texts of a command's outputs; that of a file that isn't named is not put.
-#[derive(Debug, Drop)]
+#[derive(Drop)]
 pub struct Outputs {
     pub verilog: Text,
     pub def: Text,

@@ -49,7 +49,7 @@ pub enum Slot {
 }
 
 /// What is done with a slot.
-#[derive(Clone, Copy, Debug, PartialEq, Eq)]
+#[derive(Clone, Copy, PartialEq, Eq)]
 pub enum Way {
     /// It is read, and its file has at most so many bytes.
     In(u64),
@@ -123,7 +123,7 @@ pub fn slot_of(file: FileKind) -> Option<Slot>
 }
 
 /// How far a slot has come.
-#[derive(Clone, Copy, Debug, PartialEq, Eq)]
+#[derive(Clone, Copy, PartialEq, Eq)]
 pub enum Stage {
     Unopened,
     Open,

@@ -38,7 +38,7 @@ pub(crate) struct Flops {
 }
 
 /// How a desk behaves.
-#[derive(Clone, Copy, Debug)]
+#[derive(Clone, Copy)]
 pub(crate) struct Manner {
     /// How many bytes a call moves.
     pub(crate) portion: usize,

@@ -1,5 +1,5 @@
 /// A line of a log of fails: the comparison of a scan call that a device didn't meet.
-#[derive(Clone, Copy, Debug, PartialEq, Eq, PartialOrd, Ord)]
+#[derive(Clone, Copy, PartialEq, Eq, PartialOrd, Ord)]
 pub struct LogLine {
     /// The Pattern, from 1 in the order of the file.
     pub pattern: u64,

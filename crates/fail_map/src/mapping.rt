@@ -28,7 +28,7 @@ use std::marker::Model;
 use stil_types::{PatternStatement, ScanCall};
 
 /// The lines whose scan calls a statement runs.
-#[derive(Clone, Copy, Debug)]
+#[derive(Clone, Copy)]
 struct Stretch {
     /// How many scan calls of its Pattern run before the statement.
     before: u64,
@@ -181,7 +181,6 @@ fn fault_at(kind: Kind, number: usize) -> ReadFault
 /// A log of fails of new patterns on its way back to old ones that do the same, whose statements
 /// come two by two: begin with `new`, `pass` each two statements in order, and `finish`. Contracts
 /// say by `AreMappedSoFar` how far it is.
-#[derive(Debug)]
 pub struct LogMapping {
     /// The lines in the order of their places, each with its number.
     lines: Vec<(LogLine, usize)>,

@@ -9,7 +9,7 @@ use std::marker::Model;
 
 /// A macro of a LEF: its SIZE, its ORIGIN, which is 0 0 where it has none, and its pins. Lengths are in millionths of a
 /// micron (LEF 5.8, MACRO).
-#[derive(Debug, Drop)]
+#[derive(Drop)]
 pub struct Macro {
     pub w: i64,
     pub h: i64,
@@ -20,7 +20,7 @@ pub struct Macro {
 
 /// A pin of a macro, and two corners of its first RECT as `x1 y1 x2 y2`, in millionths of a micron; None where it has no
 /// RECT (LEF 5.8, Macro Pin Statement).
-#[derive(Debug, Drop)]
+#[derive(Drop)]
 pub struct MacroPin {
     pub name: Name,
     pub rect: Option<[i64; 4]>,

@@ -8,7 +8,7 @@ use base_types::Rows;
 use wire_cost::Ends;
 
 /// Numbers for the places of a chain.
-#[derive(Debug, Drop)]
+#[derive(Drop)]
 pub struct Potentials {
     /// For the start, and then for each unit.
     pub leave: Rows<i64>,

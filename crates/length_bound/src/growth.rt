@@ -12,7 +12,7 @@ use wire_cost::wire;
 const FAR: u64 = 8796093022208;
 
 /// A place of a chain: the start has number 0, the units those from 1 on, and the stop the last one.
-#[derive(Clone, Copy, Debug)]
+#[derive(Clone, Copy)]
 pub(crate) struct Place {
     pub(crate) number: usize,
     /// Where it is left; the stop nowhere.

@@ -13,7 +13,7 @@ const HEAVY: i64 = 4398046511104;
 const WHOLE: i64 = 64;
 
 /// How long the next step is, by what the last trees were worth.
-#[derive(Clone, Copy, Debug)]
+#[derive(Clone, Copy)]
 pub(crate) struct Steps {
     /// The length of a known order.
     length: i64,

@@ -12,7 +12,7 @@ use path_links::{FreeOutputs, last_of};
 use std::alloc::Global;
 
 /// An output, its source as read, and its new one.
-#[derive(Clone, Copy, Debug, PartialEq, Eq)]
+#[derive(Clone, Copy, PartialEq, Eq)]
 pub struct Change {
     pub port: NetId,
     pub was: Source,

@@ -11,7 +11,7 @@ pub enum Wire {
 }
 
 /// The in pin of a scan path of an instance, and the wire that is to stand there.
-#[derive(Clone, Copy, Debug, PartialEq, Eq)]
+#[derive(Clone, Copy, PartialEq, Eq)]
 pub struct PinEdit {
     pub instance: u32,
     pub path: u32,
@@ -19,7 +19,7 @@ pub struct PinEdit {
 }
 
 /// An assigned scan output, the place of its assign among the netlist's, and the wire that is to stand at its right side.
-#[derive(Clone, Copy, Debug, PartialEq, Eq)]
+#[derive(Clone, Copy, PartialEq, Eq)]
 pub struct PortEdit {
     pub port: NetId,
     pub assign: u32,
@@ -27,7 +27,7 @@ pub struct PortEdit {
 }
 
 /// A scan output that an out pin drove directly. The out pin gets a new net, its tail, and the port an assign from a wire.
-#[derive(Debug, Drop)]
+#[derive(Drop)]
 pub struct TailEdit {
     pub port: NetId,
     /// The instance with the out pin.
@@ -41,7 +41,7 @@ pub struct TailEdit {
 
 /// The edits that make other paths of a netlist's paths: those of pins and of assigned ports in the order of the new paths,
 /// those of directly driven ports in the order of the paths.
-#[derive(Debug, Drop)]
+#[derive(Drop)]
 pub struct Edits {
     pub pins: Rows<PinEdit>,
     pub ports: Rows<PortEdit>,

@@ -7,7 +7,7 @@ use std::marker::Model;
 use std::slice;
 
 /// Where a list keeps its bits.
-#[derive(Debug, Drop)]
+#[derive(Drop)]
 enum Kept {
     /// One bit, in the list itself: most expressions have one.
     One(Bit),
@@ -16,7 +16,6 @@ enum Kept {
 }
 
 /// The bits of an expression from the left, which contracts see as their list. A single one lies in the value itself.
-#[derive(Debug)]
 pub struct Bits {
     kept: Kept,
 }

@@ -11,7 +11,6 @@ use std::alloc::Global;
 use std::marker::Model;
 
 /// Which nets are joined by assigns, which contracts see as the list of the nets' class numbers.
-#[derive(Debug)]
 pub struct Classes {
     pub(crate) classes: Vec<u32>,
 }

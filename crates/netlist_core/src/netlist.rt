@@ -6,7 +6,7 @@ use base_types::{Name, Rows, Span};
 pub struct NetId(pub u32);
 
 /// One bit of an expression.
-#[derive(Clone, Copy, Debug, Default, PartialEq, Eq)]
+#[derive(Clone, Copy, Default, PartialEq, Eq)]
 pub enum Bit {
     /// A net bit.
     Net(NetId),
@@ -20,7 +20,6 @@ pub enum Bit {
 }
 
 /// An expression: its bits from the left, and where it stands.
-#[derive(Debug)]
 pub struct Expr {
     pub bits: Bits,
     /// From the first token to the last; in `.pin()` empty, at the closing parenthesis.
@@ -38,7 +37,7 @@ impl Drop for Expr {
 }
 
 /// The direction of a port (IEEE 1364-2005, 12.3.3).
-#[derive(Clone, Copy, Debug, PartialEq, Eq)]
+#[derive(Clone, Copy, PartialEq, Eq)]
 pub enum Direction {
     Input,
     Output,
@@ -46,7 +45,7 @@ pub enum Direction {
 }
 
 /// One bit of a port.
-#[derive(Clone, Copy, Debug, PartialEq, Eq)]
+#[derive(Clone, Copy, PartialEq, Eq)]
 pub struct Port {
     pub net: NetId,
     pub direction: Direction,
@@ -55,7 +54,7 @@ pub struct Port {
 }
 
 /// A continuous assignment (IEEE 1364-2005, 6.1): both sides have equally many bits.
-#[derive(Debug, Drop)]
+#[derive(Drop)]
 pub struct Assign {
     pub left: Expr,
     pub right: Expr,
@@ -64,14 +63,13 @@ pub struct Assign {
 }
 
 /// A pin of an instance and what it is connected to; no bits in `.pin()`.
-#[derive(Debug, Drop)]
+#[derive(Drop)]
 pub struct Connection {
     pub pin: Name,
     pub expr: Expr,
 }
 
 /// An instance of a cell (IEEE 1364-2005, 12.1.2).
-#[derive(Debug)]
 pub struct Instance {
     /// The plain name.
     pub name: Name,
@@ -94,7 +92,7 @@ impl Drop for Instance {
 }
 
 /// How a net bit is named.
-#[derive(Debug, Drop)]
+#[derive(Drop)]
 pub struct NetName {
     /// The name without an escape, followed by `[i]` for a bit of a vector.
     pub plain: Name,
@@ -103,7 +101,6 @@ pub struct NetName {
 }
 
 /// A module.
-#[derive(Debug)]
 pub struct Netlist {
     pub module: Name,
     /// The line of `module`, from 1.

@@ -1,5 +1,5 @@
 /// Which steps a search takes, and so which ones leave a settled plan no shorter.
-#[derive(Clone, Copy, Debug, PartialEq, Eq)]
+#[derive(Clone, Copy, PartialEq, Eq)]
 pub enum Effort {
     /// Reversed runs of one chain.
     Order,

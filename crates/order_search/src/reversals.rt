@@ -23,7 +23,7 @@ pub(crate) fn reverse_run(units: &mut [u32], i: usize, m: usize)
 }
 
 /// What a search took: whole passes over the places, and runs reversed. Both stop at the greatest `u64`.
-#[derive(Clone, Copy, Debug, PartialEq, Eq)]
+#[derive(Clone, Copy, PartialEq, Eq)]
 pub struct SearchCount {
     pub passes: u64,
     pub steps: u64,

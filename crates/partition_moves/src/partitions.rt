@@ -9,7 +9,7 @@ use std::alloc::Global;
 
 /// The first chain of each partition, and behind each chain the next of its own one. A partition whose number is none of a
 /// chain has no entry; all chains are gone over for it.
-#[derive(Debug, Drop)]
+#[derive(Drop)]
 pub struct Partitions {
     pub(crate) first: Vec<usize>,
     pub(crate) next: Vec<usize>,

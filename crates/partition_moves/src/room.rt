@@ -12,7 +12,7 @@ use wire_cost::Sums;
 
 /// A copy of a plan in which each chain has room for the most units that it may hold, with room for the bounds of a chain's
 /// places and for the sums of its links, and the chains of each partition.
-#[derive(Debug, Drop)]
+#[derive(Drop)]
 pub struct Room {
     pub(crate) work: Work,
     pub(crate) blocks: Vec<Block>,

@@ -20,7 +20,7 @@ use wire_cost::{Ends, Sums};
 
 /// A plan whose chains have room, with the bits that each of them holds, so that no test of a step sums them. Contracts see
 /// the plan, how many units each chain has room for, the kept bits, and the least bits of a unit.
-#[derive(Debug, Drop)]
+#[derive(Drop)]
 pub struct Work {
     chains: Vec<Vec<u32>>,
     bits: Vec<u32>,

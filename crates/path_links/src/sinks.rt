@@ -4,14 +4,13 @@ ghost use Rattle.path_links.specs.Erasure.{has_name, is_sink_pin};
 use base_types::{Name, Rows};
 
 /// An in pin of an instance, by its plain names.
-#[derive(Debug, Drop)]
+#[derive(Drop)]
 pub struct SinkPin {
     pub instance: Name,
     pub pin: Name,
 }
 
 /// The scan sinks: the in pins of the steps of scan paths, and the scan outputs that assigns drive, by their plain names.
-#[derive(Debug)]
 pub struct Sinks {
     pub pins: Rows<SinkPin>,
     pub ports: Rows<Name>,

@@ -20,7 +20,6 @@ use std::alloc::Global;
 use wire_cost::Ends;
 
 /// A plan with its length, beside those of the plan as read and of the nearest plan, in half database units.
-#[derive(Debug)]
 pub struct MeasuredPlan {
     pub plan: Plan,
     /// The length of the plan as read.

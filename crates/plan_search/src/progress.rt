@@ -7,7 +7,7 @@ pub trait Progress {
 }
 
 /// Nobody, who is told nothing.
-#[derive(Clone, Copy, Debug)]
+#[derive(Clone, Copy)]
 pub struct Quiet;
 
 impl Progress for Quiet {

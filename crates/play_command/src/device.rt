@@ -5,7 +5,7 @@ ghost use Rattle.play_command.specs.Plays.{behaviour, length-changed};
 use stil_tester::{Device, Hold, Mix, Symbol, Told};
 
 /// What patterns are played on: a device of the tester, which always answers true.
-#[derive(Clone, Copy, Debug, PartialEq, Eq)]
+#[derive(Clone, Copy, PartialEq, Eq)]
 pub enum DeviceKind {
     /// It changes nothing.
     Hold,

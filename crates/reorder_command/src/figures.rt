@@ -8,7 +8,7 @@ use design_files::DesignFiles;
 use net_edit::Edits;
 
 /// The lengths of plans, in half database units.
-#[derive(Clone, Copy, Debug, PartialEq, Eq)]
+#[derive(Clone, Copy, PartialEq, Eq)]
 pub struct Lengths {
     /// That of the plan as read.
     pub read: u64,
@@ -19,7 +19,7 @@ pub struct Lengths {
 }
 
 /// The bits of the longest path, and which paths show that no plan has a shorter one.
-#[derive(Debug, Drop)]
+#[derive(Drop)]
 pub struct Longest {
     /// The bits of the longest path as read.
     pub read: u64,
@@ -33,7 +33,7 @@ pub struct Longest {
 }
 
 /// What is measured of a plan, by what it is searched for.
-#[derive(Debug, Drop)]
+#[derive(Drop)]
 pub enum Measured {
     /// Of a plan whose chains are short.
     Lengths(Lengths),
@@ -42,7 +42,7 @@ pub enum Measured {
 }
 
 /// What is counted and measured of a reordering.
-#[derive(Debug, Drop)]
+#[derive(Drop)]
 pub struct Figures {
     /// The chains of the DEF.
     pub chains: u64,

@@ -1,7 +1,7 @@
 use order_search::Effort;
 
 /// What a plan is searched for.
-#[derive(Clone, Copy, Debug, PartialEq, Eq)]
+#[derive(Clone, Copy, PartialEq, Eq)]
 pub enum Goal {
     /// Short chains, by the steps of an effort.
     Shorter(Effort),

@@ -18,7 +18,7 @@ use std::alloc::Global;
 use stil_types::StilHead;
 
 /// What is planned for patterns whose chains get another order (IEEE 1450-1999, ScanStructures and Pattern).
-#[derive(Debug, Drop)]
+#[derive(Drop)]
 pub struct PatternPlan {
     /// The head as it is read, beside which the patterns are.
     pub head: StilHead,

@@ -30,7 +30,7 @@ use std::alloc::Global;
 use verilog_writer::verilog_text;
 
 /// What is made of the files.
-#[derive(Debug, Drop)]
+#[derive(Drop)]
 pub struct Reordered {
     pub verilog: Text,
     pub def: Text,

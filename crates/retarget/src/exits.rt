@@ -11,7 +11,7 @@ use std::alloc::Global;
 use stil_tester::ChainBits;
 
 /// For each bit its cell, and the parities between it and the ports of its chain.
-#[derive(Debug, Drop)]
+#[derive(Drop)]
 pub struct Exits {
     pub cells: Rows<u32>,
     /// From the scan input.

@@ -1,5 +1,5 @@
 /// Where a cell stands in scan chains, and the parities before and behind it (IEEE 1450-1999, ScanStructures).
-#[derive(Clone, Copy, Debug, PartialEq, Eq)]
+#[derive(Clone, Copy, PartialEq, Eq)]
 pub struct Home {
     /// The number of its chain.
     pub chain: u32,

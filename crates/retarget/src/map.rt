@@ -15,7 +15,6 @@ use stil_tester::{ChainBits, Chains};
 
 /// What a call's way from old chains to new ones needs: both, and the way of each character; and where each cell stands.
 /// Contracts see it as the pair of the old and the new chains.
-#[derive(Debug)]
 pub struct Map {
     pub(crate) old: Chains,
     pub(crate) new: Chains,

@@ -11,7 +11,7 @@ use stil_tester::Chains;
 
 /// For each bit of the new chains, in the order in which they come out, where the character for its cell stands among those of
 /// the old chains in this order, and whether it is flipped on the way.
-#[derive(Debug, Drop)]
+#[derive(Drop)]
 pub struct Route {
     pub sources: Rows<usize>,
     /// 1 where the parities from the scan inputs differ, else 0.

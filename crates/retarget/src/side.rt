@@ -5,7 +5,7 @@ ghost use Rattle.retarget.specs.Sides.{filler_of};
 use base_types::Text;
 
 /// The strings that are shifted in, or those that are compared.
-#[derive(Clone, Copy, Debug, PartialEq, Eq)]
+#[derive(Clone, Copy, PartialEq, Eq)]
 pub enum Side {
     Load,
     Compare,

@@ -4,7 +4,7 @@ ghost use Rattle.retargeted_patterns.specs.Figures.{nothing, plus, times};
 use base_types::NoMemory;
 
 /// What is counted of patterns that are written anew, a Loop as often as it runs.
-#[derive(Clone, Copy, Debug, PartialEq, Eq)]
+#[derive(Clone, Copy, PartialEq, Eq)]
 pub struct PatternFigures {
     /// The scan calls that are run.
     pub calls: u128,

@@ -12,7 +12,7 @@ use std::collections::HashSet;
 use std::marker::Model;
 
 /// Names that stand elsewhere, which contracts see as their list.
-#[derive(Debug, Drop)]
+#[derive(Drop)]
 pub(crate) struct Names<'a> {
     names: Vec<&'a [u8]>,
 }

@@ -16,7 +16,7 @@ use verilog_reader::read_netlist;
 use verilog_writer::verilog_text;
 
 /// What the words of `rewire` ask for.
-#[derive(Debug, Drop)]
+#[derive(Drop)]
 pub struct Rewire {
     /// The one cell kind whose instances make up the path.
     pub cell: Name,
@@ -33,7 +33,7 @@ pub struct Rewire {
 }
 
 /// What `rewire` makes.
-#[derive(Debug, Drop)]
+#[derive(Drop)]
 pub struct Rewired {
     /// The written Verilog.
     pub verilog: Text,

@@ -14,7 +14,7 @@ use stil_input::{Said, StilInput, StilStop};
 use stil_reader::PatternStatement;
 
 /// Why the patterns weren't written to their end.
-#[derive(Debug, Drop)]
+#[derive(Drop)]
 pub enum PutStop {
     /// As their text was taken.
     Input(StilStop),

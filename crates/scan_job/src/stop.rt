@@ -1,5 +1,5 @@
 /// Why a run isn't done.
-#[derive(Clone, Copy, Debug, PartialEq, Eq)]
+#[derive(Clone, Copy, PartialEq, Eq)]
 pub enum Stop {
     /// The words are of no written form.
     NoForm,

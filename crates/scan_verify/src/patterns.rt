@@ -14,7 +14,7 @@ use stil_reader::Stil;
 use stil_types::PatternStatement;
 
 /// How two sets of patterns compare.
-#[derive(Clone, Copy, Debug, PartialEq, Eq)]
+#[derive(Clone, Copy, PartialEq, Eq)]
 pub enum Sameness {
     /// They are the same.
     Same,

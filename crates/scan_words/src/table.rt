@@ -5,7 +5,7 @@ ghost use Rattle.scan_words.specs.Table.{option_text, value_form, has_form, is_l
 use itoa::Buffer;
 
 /// An option, known by its name.
-#[derive(Clone, Copy, Debug, PartialEq, Eq)]
+#[derive(Clone, Copy, PartialEq, Eq)]
 pub enum OptionName {
     Table,
     Lef,
@@ -31,7 +31,7 @@ pub enum OptionName {
 }
 
 /// What the value of an option is.
-#[derive(Clone, Copy, Debug, PartialEq, Eq)]
+#[derive(Clone, Copy, PartialEq, Eq)]
 pub enum ValueForm {
     /// The name of a file. No two files of a command have one name.
     File,
@@ -50,7 +50,7 @@ pub enum ValueForm {
 }
 
 /// Whether an option stands among the words.
-#[derive(Clone, Copy, Debug, PartialEq, Eq)]
+#[derive(Clone, Copy, PartialEq, Eq)]
 pub enum Need {
     /// It stands.
     Needed,
@@ -61,7 +61,7 @@ pub enum Need {
 }
 
 /// A row of a command's table: an option, and whether it stands.
-#[derive(Clone, Copy, Debug, PartialEq, Eq)]
+#[derive(Clone, Copy, PartialEq, Eq)]
 pub struct OptionForm {
     pub name: OptionName,
     pub need: Need,

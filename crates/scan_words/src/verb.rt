@@ -5,7 +5,7 @@ ghost use Rattle.scan_words.specs.Verbs.{verbs, verb_name, options_of, takes_fur
 use crate::table::{Need, OptionForm, OptionName};
 
 /// A command.
-#[derive(Clone, Copy, Debug, PartialEq, Eq)]
+#[derive(Clone, Copy, PartialEq, Eq)]
 pub enum Verb {
     /// Puts the units of one chain of one cell kind into the order of the further words.
     Rewire,

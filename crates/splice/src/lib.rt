@@ -10,7 +10,7 @@ use base_types::{Name, NoMemory, Span, Text};
 use std::alloc::Global;
 
 /// A part of a text, and what stands there in its place.
-#[derive(Debug, Drop)]
+#[derive(Drop)]
 pub struct Edit {
     pub span: Span,
     pub text: Name,

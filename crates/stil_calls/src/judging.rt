@@ -3,7 +3,7 @@ ghost use Rattle.std.specs.Prelude.{◌≡◌};
 ghost use Rattle.stil_calls.specs.Faults.{by_lengths};
 
 /// By what the statements of a Pattern are judged.
-#[derive(Clone, Copy, Debug)]
+#[derive(Clone, Copy)]
 pub enum Judging {
     /// By their form and their data: ShortLoad and LongCompare don't count.
     Form,

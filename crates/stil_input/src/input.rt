@@ -17,7 +17,7 @@ use thiserror::Error;
 const ROOM: usize = 65536;
 
 /// What comes next of a STIL text behind its head.
-#[derive(Debug, Drop)]
+#[derive(Drop)]
 pub enum Said {
     /// Bytes that belong to no statement; where they end with the brace of a Pattern, its plain name.
     Gap { text: Text, pattern: Option<Name> },

@@ -15,7 +15,7 @@ use base_types::Kind;
 pub const LARGEST: usize = 67108864;
 
 /// What comes next of a text, and the point behind it.
-#[derive(Clone, Copy, Debug)]
+#[derive(Clone, Copy)]
 pub enum Decision {
     /// The bytes show nothing yet; the scan of all of them.
     Want(Scan),

@@ -10,7 +10,7 @@ use stil_tokens::is_blank;
 pub const MOST: u64 = 4294967296;
 
 /// Whether a place of the text is in a comment.
-#[derive(Clone, Copy, Debug)]
+#[derive(Clone, Copy)]
 pub enum Comment {
     Outside,
     /// In one to the line's end.
@@ -20,7 +20,7 @@ pub enum Comment {
 }
 
 /// Where a place of the text stands.
-#[derive(Clone, Copy, Debug)]
+#[derive(Clone, Copy)]
 pub enum Place {
     Top,
     /// In a Pattern, whose first token stands on this line.
@@ -28,7 +28,7 @@ pub enum Place {
 }
 
 /// Bytes at the front of a text that belong to no statement, and where what follows them stands.
-#[derive(Clone, Copy, Debug)]
+#[derive(Clone, Copy)]
 pub struct Gap {
     pub len: usize,
     pub place: Place,
@@ -36,7 +36,7 @@ pub struct Gap {
 }
 
 /// A place of the text: the bytes before it, its line, and what it stands in.
-#[derive(Clone, Copy, Debug)]
+#[derive(Clone, Copy)]
 pub struct Point {
     pub given: u64,
     pub line: u64,

@@ -10,7 +10,7 @@ use crate::word::Word;
 use base_types::Kind;
 
 /// A part that is whole, and how many bytes it has.
-#[derive(Clone, Copy, Debug)]
+#[derive(Clone, Copy)]
 pub enum Part {
     /// A statement at the top that opens no Pattern.
     Passes(usize),
@@ -21,14 +21,14 @@ pub enum Part {
 }
 
 /// A part, or what a scan has come to in one that isn't whole.
-#[derive(Clone, Copy, Debug)]
+#[derive(Clone, Copy)]
 pub enum Search {
     Part(Part),
     Open(Scan),
 }
 
 /// Why a text is refused, and on which line.
-#[derive(Clone, Copy, Debug)]
+#[derive(Clone, Copy)]
 pub struct PartFault {
     pub kind: Kind,
     pub line: u64,

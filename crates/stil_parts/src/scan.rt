@@ -9,7 +9,7 @@ use memchr::memchr3;
 use stil_tokens::{is_blank, is_quote};
 
 /// What the last byte belongs to.
-#[derive(Clone, Copy, Debug)]
+#[derive(Clone, Copy)]
 pub enum Mode {
     /// A token may begin.
     Free,
@@ -30,7 +30,7 @@ pub enum Mode {
 }
 
 /// What was read of a part of the text.
-#[derive(Clone, Copy, Debug)]
+#[derive(Clone, Copy)]
 pub struct Scan {
     pub mode: Mode,
     /// How many blocks are open.
@@ -40,7 +40,7 @@ pub struct Scan {
 }
 
 /// What one byte makes of a part.
-#[derive(Clone, Copy, Debug)]
+#[derive(Clone, Copy)]
 pub enum After {
     /// It goes on.
     Goes(Scan),
@@ -51,14 +51,14 @@ pub enum After {
 }
 
 /// The first bytes of a text, up to an end or up to and with the brace that opens a Pattern.
-#[derive(Clone, Copy, Debug)]
+#[derive(Clone, Copy)]
 pub struct Found {
     pub len: usize,
     pub opens: bool,
 }
 
 /// What a scan found, or what it has come to.
-#[derive(Clone, Copy, Debug)]
+#[derive(Clone, Copy)]
 pub enum Scanned {
     Found(Found),
     Reached(Scan),

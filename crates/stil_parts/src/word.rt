@@ -3,7 +3,7 @@ ghost use Rattle.std.specs.Prelude.{◌≡◌};
 ghost use Rattle.stil_parts.specs.Words.{word_byte, word_ends, word_settled, word_text, word_colon, quote_word, mark_word, names_pattern, is_known};
 
 /// What is known of the first word of a part.
-#[derive(Clone, Copy, Debug)]
+#[derive(Clone, Copy)]
 pub enum Word {
     /// No token has begun, or a label has ended.
     Start,

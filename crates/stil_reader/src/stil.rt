@@ -4,7 +4,7 @@ use base_types::{Name, Rows, Text};
 use stil_types::{PatternStatement, StilHead};
 
 /// What a STIL text denotes: its head, and its patterns beside this (IEEE 1450-1999, Pattern).
-#[derive(Debug, Drop)]
+#[derive(Drop)]
 pub struct Stil {
     pub head: StilHead,
     /// The plain names of the Patterns in order.
@@ -14,7 +14,7 @@ pub struct Stil {
 }
 
 /// What a STIL text denotes, and its bytes between the statements.
-#[derive(Debug, Drop)]
+#[derive(Drop)]
 pub struct Judged {
     pub stil: Stil,
     /// The bytes before the first statement, between two, and behind the last, in order.

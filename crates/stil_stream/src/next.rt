@@ -4,7 +4,7 @@ use base_types::{Name, Text};
 use stil_types::PatternStatement;
 
 /// What comes next of a text whose head is still to come.
-#[derive(Debug, Drop)]
+#[derive(Drop)]
 pub enum HeadNext {
     /// More bytes, or the end of the input: the bytes kept don't show the head's end.
     Want,
@@ -13,7 +13,7 @@ pub enum HeadNext {
 }
 
 /// What comes next of a text behind its head.
-#[derive(Debug, Drop)]
+#[derive(Drop)]
 pub enum Next {
     /// More bytes, or the end of the input: the bytes kept show nothing.
     Want,

@@ -25,7 +25,7 @@ use stil_types::StilHead;
 /// A STIL text that comes in pieces. Contracts see the bytes fed and not handed out, whether the input is ended, whether a
 /// piece may be fed, whether the head is still to come, the point at which the first kept byte stands, and the fault that was
 /// answered, if any.
-#[derive(Debug, Drop)]
+#[derive(Drop)]
 pub struct StilStream {
     buffer: Vec<u8>,
     at: usize,

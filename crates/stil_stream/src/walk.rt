@@ -10,7 +10,7 @@ ghost use Rattle.stil_stream.specs.Walks.{holds, IsWalked, IsFront, WalkedOn};
 use stil_parts::{Comment, Place, Scan, Scanned, Word, begin_at, gap_at, scan_on};
 
 /// How far a walk over a head has come, which goes from statement to statement.
-#[derive(Clone, Copy, Debug)]
+#[derive(Clone, Copy)]
 pub struct Walk {
     /// How many bytes stand before the statement or gap that it has come to.
     pub passed: usize,
@@ -23,7 +23,7 @@ pub struct Walk {
 }
 
 /// What stands at the front of a head.
-#[derive(Clone, Copy, Debug)]
+#[derive(Clone, Copy)]
 pub enum Front {
     /// So many bytes are passed, and the place behind them is in this comment.
     Passed(usize, Comment),
@@ -34,7 +34,7 @@ pub enum Front {
 }
 
 /// Where a head ends, or how far a walk has come that doesn't know it.
-#[derive(Clone, Copy, Debug)]
+#[derive(Clone, Copy)]
 pub enum Walked {
     End(usize),
     Open(Walk),

@@ -12,7 +12,7 @@ use token_forms::Tokens;
 
 /// A statement: the spans of its tokens, its labels included, and whether it has its end. Only a file's last statement may
 /// lack it. A lone `;` is a statement too, which is empty.
-#[derive(Debug, Drop)]
+#[derive(Drop)]
 pub struct Statement {
     pub tokens: Rows<Span>,
     pub closed: bool,

@@ -2,7 +2,7 @@ use crate::tables::{Callees, Keywords};
 use base_types::{Name, Rows, Span};
 
 /// A ScanChain block (IEEE 1450-1999, ScanStructures).
-#[derive(Debug, Drop)]
+#[derive(Drop)]
 pub struct ScanChainDecl {
     /// Its plain name.
     pub name: Name,
@@ -27,7 +27,7 @@ pub struct ScanChainDecl {
 }
 
 /// A procedure or macro that a Pattern can call (IEEE 1450-1999, Procedures and MacroDefs).
-#[derive(Debug, Drop)]
+#[derive(Drop)]
 pub struct Callee {
     /// Its plain name.
     pub name: Name,
@@ -36,7 +36,6 @@ pub struct Callee {
 }
 
 /// What stands before the first Pattern.
-#[derive(Debug)]
 pub struct StilHead {
     pub chains: Rows<ScanChainDecl>,
     pub procedures: Callees,

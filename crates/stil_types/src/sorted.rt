@@ -11,7 +11,7 @@ use std::marker::Model;
 
 /// Names in the order of their bytes, among which one is found in a number of steps that grows with the logarithm of theirs,
 /// whatever the names are. Contracts see them as their list.
-#[derive(Debug, Drop)]
+#[derive(Drop)]
 pub(crate) struct SortedNames {
     names: Vec<Name>,
 }

@@ -2,7 +2,6 @@ use base_types::{Rows, Text};
 
 /// The data of one scan call: one place for each scan chain, in the order of the ScanChain blocks
 /// (IEEE 1450-1999, ScanStructures and Shift).
-#[derive(Debug)]
 pub struct ScanCall {
     /// How often the call shifts: the length of its longest string.
     pub shifts: usize,
@@ -24,7 +23,6 @@ impl Drop for ScanCall {
 }
 
 /// A statement in the block of a Loop. The places are byte places in the Loop's text.
-#[derive(Debug)]
 pub struct BodyStatement {
     /// The place of its first byte.
     pub start: u32,
@@ -49,7 +47,7 @@ impl Drop for BodyStatement {
 }
 
 /// A statement of a Pattern (IEEE 1450-1999, Pattern statements).
-#[derive(Debug, Drop)]
+#[derive(Drop)]
 pub enum PatternStatement {
     /// A Call or Macro of a scan procedure, with its data.
     Scan {

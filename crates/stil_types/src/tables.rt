@@ -9,7 +9,7 @@ use std::alloc::Global;
 use std::marker::Model;
 
 /// The names in UserKeywords statements, in the order of the text, which contracts see as their list.
-#[derive(Debug, Drop)]
+#[derive(Drop)]
 pub struct Keywords {
     names: Rows<Name>,
     sorted: SortedNames,
@@ -62,7 +62,7 @@ impl Keywords {
 }
 
 /// The procedures or the macros of a head, in the order of the text, which contracts see as their list.
-#[derive(Debug, Drop)]
+#[derive(Drop)]
 pub struct Callees {
     rows: Rows<Callee>,
     names: SortedNames,

@@ -52,7 +52,7 @@ fn token_from<F: TokenForm>(text: &[u8], from: usize) -> Option<Span>
 
 /// Takes the tokens of a text of less than 4 GiB one by one, which contracts see as the text and the spans of the tokens
 /// that are still to come. No memory is taken.
-#[derive(Debug, Drop)]
+#[derive(Drop)]
 pub struct Lexer<'a, F: TokenForm> {
     text: &'a [u8],
     at: usize,

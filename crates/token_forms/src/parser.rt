@@ -11,7 +11,7 @@ use base_types::{Rows, Stop};
 use std::alloc::Global;
 
 /// Reads values from the front of the tokens of a text.
-#[derive(Debug, Drop)]
+#[derive(Drop)]
 pub struct Parser<'a, 's> {
     pub alloc: Global,
     pub tokens: Tokens<'a, 's>,

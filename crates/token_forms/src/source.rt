@@ -11,7 +11,7 @@ use base_types::{Lines, NoMemory, Span};
 use std::marker::Model;
 
 /// What a token does to the statement that it is met in.
-#[derive(Clone, Copy, Debug)]
+#[derive(Clone, Copy)]
 pub enum Step {
     /// It is one of the statement's tokens, and more follow.
     GoesOn,
@@ -22,7 +22,7 @@ pub enum Step {
 }
 
 /// What ended the tokens of a statement.
-#[derive(Clone, Copy, Debug)]
+#[derive(Clone, Copy)]
 pub enum Ended {
     /// Its last token.
     Closed,

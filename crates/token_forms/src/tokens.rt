@@ -5,7 +5,7 @@ use base_types::Span;
 use std::marker::Model;
 
 /// A token of a text: its bytes, and where they stand.
-#[derive(Clone, Copy, Debug)]
+#[derive(Clone, Copy)]
 pub struct Lexeme<'a> {
     pub text: &'a [u8],
     pub span: Span,
@@ -13,7 +13,7 @@ pub struct Lexeme<'a> {
 
 /// The tokens of a text that are still to be read, which contracts see as their list. What is read may outlive the spans,
 /// since it borrows the text alone.
-#[derive(Debug, Drop)]
+#[derive(Drop)]
 pub struct Tokens<'a, 's> {
     text: &'a [u8],
     spans: &'s [Span],

@@ -21,14 +21,14 @@ use std::marker::Model;
 use verilog_syntax::Declared;
 
 /// What the first declaration of a name makes of it.
-#[derive(Clone, Copy, Debug)]
+#[derive(Clone, Copy)]
 pub struct First {
     pub kind: Declared,
     pub bounds: Option<Bounds>,
 }
 
 /// What a table has of a name: its nets, and how it is declared first.
-#[derive(Clone, Copy, Debug)]
+#[derive(Clone, Copy)]
 pub struct Slot {
     pub entry: Entry,
     pub kind: Declared,

@@ -74,7 +74,7 @@ impl Hasher for NameHasher {
 }
 
 /// Makes the hashers of tables of names, by a key: names that are made to collide under one key don't under another.
-#[derive(Clone, Copy, Debug)]
+#[derive(Clone, Copy)]
 pub struct NameState {
     key: u64,
 }

@@ -4,7 +4,7 @@ ghost use Rattle.std.specs.Prelude.{◌≡◌, [], ◌∷◌};
 use crate::statement::Item;
 use std::marker::Model;
 
-#[derive(Debug, Drop)]
+#[derive(Drop)]
 enum Held<'a> {
     Empty,
     One(Item<'a>),
@@ -13,7 +13,7 @@ enum Held<'a> {
 
 /// The items of an expression, which contracts see as their list. One lies in the value itself, since most expressions
 /// are a name.
-#[derive(Debug, Drop)]
+#[derive(Drop)]
 pub struct Items<'a> {
     held: Held<'a>,
 }

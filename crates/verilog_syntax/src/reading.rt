@@ -18,7 +18,7 @@ use std::alloc::Global;
 use token_forms::{Ended, Source, Tokens};
 
 /// A statement, and the line of its first token, from 1.
-#[derive(Debug, Drop)]
+#[derive(Drop)]
 pub struct Placed<'a> {
     pub statement: Statement<'a>,
     pub line: u64,

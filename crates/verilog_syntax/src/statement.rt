@@ -3,7 +3,7 @@ use base_types::{Boxed, Rows, Span};
 use token_forms::TokenText;
 
 /// What a declaration makes of its names (IEEE 1364-2005, 4.2 and 12.3.3).
-#[derive(Clone, Copy, Debug, PartialEq, Eq)]
+#[derive(Clone, Copy, PartialEq, Eq)]
 pub enum Declared {
     Input,
     Output,
@@ -15,14 +15,14 @@ pub enum Declared {
 }
 
 /// The range `[left:right]` of a declaration: two decimals.
-#[derive(Debug, Drop)]
+#[derive(Drop)]
 pub struct Range<'a> {
     pub left: TokenText<'a>,
     pub right: TokenText<'a>,
 }
 
 /// A piece of an expression (IEEE 1364-2005, 5.1.14 and 5.2): an operand, or a mark of a concatenation.
-#[derive(Debug, Drop)]
+#[derive(Drop)]
 pub enum Item<'a> {
     /// `{`
     Open,
@@ -47,7 +47,7 @@ pub enum Item<'a> {
 }
 
 /// An expression: its pieces in the order of the text, none in `.pin()`, and where it stands.
-#[derive(Debug, Drop)]
+#[derive(Drop)]
 pub struct Expression<'a> {
     pub items: Items<'a>,
     /// From the first token to the last; in `.pin()` empty, at the closing parenthesis.
@@ -55,14 +55,14 @@ pub struct Expression<'a> {
 }
 
 /// `.pin(expression)` or `.pin()`.
-#[derive(Debug, Drop)]
+#[derive(Drop)]
 pub struct Connection<'a> {
     pub pin: TokenText<'a>,
     pub expression: Expression<'a>,
 }
 
 /// A statement of a module.
-#[derive(Debug, Drop)]
+#[derive(Drop)]
 pub enum Statement<'a> {
     /// `module name ( port, .. ) ;`
     Module {

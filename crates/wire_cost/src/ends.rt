@@ -1,7 +1,7 @@
 use base_types::{Point, Rows};
 
 /// Where chains and units begin and end, in half database units. A start or stop that stands nowhere is `None`.
-#[derive(Debug, Drop)]
+#[derive(Drop)]
 pub struct Ends {
     /// For each unit, where it is entered.
     pub entry: Rows<Point>,

@@ -7,7 +7,7 @@ use base_types::Point;
 
 /// The rows of the chain last filled in, in half database units. For a chain of n units its places are those before each
 /// unit and, as the last one, that before the stop; a start or stop that stands nowhere has 0 in its two places.
-#[derive(Clone, Copy, Debug)]
+#[derive(Clone, Copy)]
 pub struct Rows<'a> {
     /// Where one goes to at each of the n + 1 places, across: the entry of the unit, or the stop.
     pub entry_x: &'a [i64],

@@ -13,7 +13,7 @@ use std::marker::Model;
 
 /// The sums of the first links of the chain last filled in, and its rows, with room for further chains. Contracts see the
 /// room, as a number of units, both lists of sums and the rows.
-#[derive(Debug, Drop)]
+#[derive(Drop)]
 pub struct Sums {
     forward: Vec<i64>,
     backward: Vec<i64>,

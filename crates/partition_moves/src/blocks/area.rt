@@ -10,7 +10,7 @@ use base_types::Point;
 const FAR: i64 = 2199023255552;
 
 /// A rectangle that holds some points, in half database units. It is open where one of the points stands nowhere.
-#[derive(Clone, Copy, Debug)]
+#[derive(Clone, Copy)]
 pub struct Area {
     pub low: Point,
     pub high: Point,

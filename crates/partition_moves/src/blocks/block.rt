@@ -14,7 +14,7 @@ use wire_cost::{Ends, point_after, point_before, wire};
 pub const PLACES: usize = 32;
 
 /// Bounds of some neighbouring places of a chain, in half database units.
-#[derive(Clone, Copy, Debug)]
+#[derive(Clone, Copy)]
 pub struct Block {
     /// Round the points where one comes from.
     pub from: Area,

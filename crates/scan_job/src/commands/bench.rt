@@ -30,7 +30,7 @@ use stil_reader::read_judged;
 use written_meaning::meaning_law;
 
 /// What the words of `bench` ask for, by the name of its option.
-#[derive(Debug, Drop)]
+#[derive(Drop)]
 pub struct BenchRequest {
     /// How many units the made design has, a number from 8 to 16384 as it is written.
     pub units: Word,

@@ -11,7 +11,7 @@ use scan_words::Order;
 use std::alloc::Global;
 
 /// What the words of `check` ask for, by the names of its options.
-#[derive(Debug, Drop)]
+#[derive(Drop)]
 pub struct CheckRequest {
     /// The name of the cell table that is read.
     pub table: Word,

@@ -12,7 +12,7 @@ use scan_words::Order;
 use std::alloc::Global;
 
 /// What the words of `draw` ask for, by the names of its options.
-#[derive(Debug, Drop)]
+#[derive(Drop)]
 pub struct DrawRequest {
     /// The name of the cell table that is read.
     pub table: Word,

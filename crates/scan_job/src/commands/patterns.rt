@@ -15,7 +15,7 @@ use scan_words::Order;
 use std::alloc::Global;
 
 /// What the words of `reorder` or of `balance` ask for where they name patterns, by the names of its options.
-#[derive(Debug, Drop)]
+#[derive(Drop)]
 pub struct PatternsRequest {
     /// What is asked for of the design.
     pub design: ReorderRequest,

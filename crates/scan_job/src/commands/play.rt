@@ -12,7 +12,7 @@ use scan_words::Order;
 use std::alloc::Global;
 
 /// What the words of `play` ask for, by the names of its options.
-#[derive(Debug, Drop)]
+#[derive(Drop)]
 pub struct PlayRequest {
     /// The name of the cell table that is read.
     pub table: Word,

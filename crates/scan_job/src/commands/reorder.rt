@@ -13,7 +13,7 @@ use scan_words::Order;
 use std::alloc::Global;
 
 /// What the words of `reorder` or of `balance` ask for, by the names of its options.
-#[derive(Debug, Drop)]
+#[derive(Drop)]
 pub struct ReorderRequest {
     /// The name of the cell table that is read.
     pub table: Word,

@@ -12,7 +12,7 @@ use scan_words::Order;
 use std::alloc::Global;
 
 /// What the words of `rewire` ask for, by the names of its options.
-#[derive(Debug, Drop)]
+#[derive(Drop)]
 pub struct RewireRequest {
     /// The name of the Verilog file that is read.
     pub verilog: Word,

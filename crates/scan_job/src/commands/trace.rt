@@ -11,7 +11,7 @@ use std::alloc::Global;
 use trace_command::path_text;
 
 /// What the words of `trace` ask for, by the names of its options.
-#[derive(Debug, Drop)]
+#[derive(Drop)]
 pub struct TraceRequest {
     /// The name of the cell table that is read.
     pub table: Word,

@@ -15,7 +15,7 @@ use verify_command::{SetNames, difference_note, verify_text};
 const SAME: &[u8] = b"same\n";
 
 /// What the words of `verify` ask for, by the names of its options.
-#[derive(Debug, Drop)]
+#[derive(Drop)]
 pub struct VerifyRequest {
     /// The name of the cell table that is read.
     pub table: Word,

@@ -12,7 +12,7 @@ use stil_tokens::{depth_behind, token_ends};
 use token_forms::Lexeme;
 
 /// Where the next token of a head stands.
-#[derive(Clone, Copy, Debug)]
+#[derive(Clone, Copy)]
 pub(crate) enum Standing {
     /// At the front of a statement, or behind its labels.
     Front,
@@ -38,7 +38,7 @@ pub(crate) enum Standing {
 }
 
 /// Whether a token stays, and where the one behind it stands.
-#[derive(Clone, Copy, Debug)]
+#[derive(Clone, Copy)]
 pub(crate) struct Passed {
     pub(crate) stays: bool,
     pub(crate) behind: Standing,
