@@ -26,6 +26,35 @@ def meant(folder):
     return told
 
 
+def unfit(edit, crate_folder):
+    """Why a wrong body can't be made of a crate's files, or None: each line `old:` stands once in the file that a line `file:` before it names."""
+    path, old, texts = None, None, {}
+    for line in text_of(edit).split("\n"):
+        word, _, rest = line.partition(":")
+        if word == "file":
+            path = os.path.join(crate_folder, rest.strip())
+            if not os.path.isfile(path):
+                return "there is no file %s" % rest.strip()
+            texts.setdefault(path, text_of(path))
+        elif word == "old":
+            old = rest[1:]
+        elif word == "new":
+            if not path or not old or texts[path].count(old) != 1:
+                return "its old text isn't once in the file: %s" % old
+            texts[path] = texts[path].replace(old, rest[1:])
+            old = None
+    return None if texts else "it changes nothing"
+
+
+def all_unfit():
+    """Each complaint of the wrong bodies of wrong/ and of the crates' folders must-fail."""
+    for edit in sorted(glob.glob(os.path.join(TOP, "wrong", "*", "*.edit")) + glob.glob(os.path.join(CRATES, "*", "must-fail", "*.edit"))):
+        names = os.path.relpath(edit, TOP).split(os.sep)
+        why = unfit(edit, os.path.join(CRATES, names[1]))
+        if why:
+            yield "%s:1: %s" % ("/".join(names), why)
+
+
 def noted(folder, edit, clauses, others):
     """Writes a line for an edit, of the first function that its refusal leaves open."""
     loops = [(name, LOOP) for name, goal in others if goal.startswith("loop-")]
